@@ -39,7 +39,7 @@ SHARED = 'crates/r10_shared/src/'
 
 TEXTS: dict[str, list[tuple[str, str]]] = {
     SHARED + 'waiting.rt': [
-        ('feed: looks for who waits', 'pub(crate) fn come(&self) { self.coming.notify_one(); }'),
+        ('feed: looks for who waits', 'pub(crate) fn wake_writer(&self) { self.coming.notify_one(); }'),
         ('feed: over, looks for who waits', 'self.over.fetch_add(1, Ordering::SeqCst); self.coming.notify_one();'),
         ('writer: loads over', 'self.over.load(Ordering::SeqCst) >= self.all'),
         ('writer: announces', 'self.coming.prepare_wait()'),
@@ -55,7 +55,7 @@ TEXTS: dict[str, list[tuple[str, str]]] = {
         ('feed: has no more', 'if stop.is_asked() { return Tally { accepted, refused }; }'),
         ('feed: has more, pushes, is refused', 'let pumped = pump_source(&mut source, port, 1);'),
         ('feed: has no more', 'if pumped.ended { return Tally { accepted, refused }; }'),
-        ('feed: looks for who waits', 'if pumped.accepted > 0 { progress.come(); }'),
+        ('feed: looks for who waits', 'if pumped.accepted > 0 { progress.wake_writer(); }'),
     ],
     SHARED + 'running.rt': [
         ('feed: pushes', 'feed.tally = feed .line .feed(rt, gate, worker, stop, source, &mut feed.gauge, progress);'),
@@ -70,7 +70,7 @@ TEXTS: dict[str, list[tuple[str, str]]] = {
         ('writer: adds to shown', 'if round.committed { at.tell(); }'),
         ('writer: loads over, turns',
          'let last = at.is_over(); let round = at.round(last); tell_of(at, round); after(last, round.turn)'),
-        ('writer: announces, loads the epoch, goes on', 'let wait = at.announce(); match turn(at) { Turn::Moved => true,'),
+        ('writer: announces, loads the epoch, goes on', 'let wait = at.announce(); match writer_turn(at) { Turn::Moved => true,'),
         ('writer: is told, is not told, sleeps, does not sleep', 'Turn::Idle => { at.sleep(wait); true }'),
         ('writer: turns', 'Turn::Idle => wait_for_more(at),'),
     ],
@@ -80,7 +80,7 @@ TEXTS: dict[str, list[tuple[str, str]]] = {
     ],
     SHARED + 'watching.rt': [
         ('reader: announces, loads the epoch, loads written, loads shown',
-         'let wait = at.announce(); let last = at.is_ended(); let shown = at.shown();'),
+         'let wait = at.announce(); let last = at.is_ended(); let shown = at.commit_count();'),
         ('reader: is told, is not told, sleeps, does not sleep',
          'if !is_due(last, shown, seen) { at.sleep(wait); return Looked { shown, on: true }; }'),
         ('reader: goes on, reads, read ends it', 'drop(wait); let answer = at.read(reading);'),
@@ -91,17 +91,19 @@ TEXTS: dict[str, list[tuple[str, str]]] = {
         ('writer: adds to shown, looks for who waits', 'self.progress.show();'),
         ('writer: announces', 'self.progress.await_more()'),
         ('control: locks, orders, unlocks', 'held.look(); order.perform(self.rt, held)'),
-        ('control: looks for who waits', 'self.progress.come();'),
+        ('control: looks for who waits', 'self.progress.wake_writer();'),
         ('reader: announces', 'self.progress.await_shown()'),
         ('reader: loads written', 'self.progress.is_written()'),
-        ('reader: loads shown', 'self.progress.shown()'),
+        ('reader: loads shown', 'self.progress.commit_count()'),
         ('reader: reads', 'reading.read_next(self.rt, self.alloc, self.cabinet)'),
     ],
     SHARED + 'working.rt': [
         ('writer: passes the gate, is stopped, stores written',
-         'if gate.pass(worker) { let mut desk = Desk { rt, cabinet, progress, }; write(rt, &mut desk); } progress.end_writing();'),
+         'if gate.pass(worker) { let mut desk = SharedRecorder { rt, cabinet, progress, }; write(rt, &mut desk); } '
+         'progress.end_writing();'),
         ('control: passes the gate, is stopped, over',
-         'if gate.pass(worker) { let mut desk = Desk { rt, cabinet, progress, }; give(&mut desk, orders); } progress.end_one();'),
+         'if gate.pass(worker) { let mut desk = SharedRecorder { rt, cabinet, progress, }; give(&mut desk, orders); } '
+         'progress.end_one();'),
     ],
     SHARED + 'readers.rt': [
         ('reader: passes the gate, is stopped',

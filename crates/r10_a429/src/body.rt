@@ -76,7 +76,8 @@ impl ArincBody {
         body: &[u8],
     ) -> Result<Reading<ArincBody>, AllocError>
         ensures found { IfOk result (ReadsBody (λ read. IsArinc counter read.entries body.now) (IsForeignArinc body.now)) }
-        ensures only { (entries : List ArincEntryValue) → IsArinc counter entries body.now → IfOk result (λ reading. reading ≡ Strict (record { entries = entries })) }
+        ensures only { (entries : List ArincEntryValue) → IsArinc counter entries body.now
+            → IfOk result (λ reading. reading ≡ Strict (record { entries = entries })) }
     {
         match read_body(alloc, 0, counter.get(), body)? {
             Reading::Strict(entries) => Ok(Reading::Strict(ArincBody { entries })),

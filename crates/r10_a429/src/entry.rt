@@ -55,7 +55,7 @@ impl BodyEntry for ArincEntry {
         8
     }
 
-    fn told(front: &[u8]) -> Option<usize> {
+    fn entry_length(front: &[u8]) -> Option<usize> {
         let _ = front;
         Some(8)
     }

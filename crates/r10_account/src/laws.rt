@@ -20,21 +20,24 @@ ghost use Rattle.r10_medium.specs.Disk.{Image};
 
 use r10_machine::{a_new_recorder_is_sound, a_step_stays_sound};
 
-/// Over a run in which the medium doesn't fail, what a channel had and what was accepted since was erased, is in own files' lists, or waits: each
-/// once, in its order.
+/// Over a run in which the medium doesn't fail, what a channel had and what was accepted since was erased, is in own files' lists,
+/// or waits: each once, in its order.
 pub fn a_run_goes_over()
-    ensures { (s : Config) (channel : ℕ) (old : Machine) (events : List EventValue) (replies : List ReplyValue) (images : List Image) (new : Machine)
-        → IsConfig s → IsSound s old → IsSome (spec_of s.channels channel) → is_working old.mode ≡ true → is_working new.mode ≡ true → Run s old events replies images new
+    ensures { (s : Config) (channel : ℕ) (old : Machine) (events : List EventValue) (replies : List ReplyValue)
+        (images : List Image) (new : Machine) → IsConfig s → IsSound s old → IsSome (spec_of s.channels channel)
+        → is_working old.mode ≡ true → is_working new.mode ≡ true → Run s old events replies images new
         → GoesOver channel old new (accepted_entries channel (missed_of channel old.lanes) events replies) }
 {
     a_step_stays_sound();
 }
 
-/// Over any run of a new recorder, what the replies accepted on a channel was erased, is in the files that it began, or waits: each once, in its
-/// order, with the number of those that were lost before it. Where the medium failed, what it shows stands first and what waits stands last.
+/// Over any run of a new recorder, what the replies accepted on a channel was erased, is in the files that it began, or waits: each
+/// once, in its order, with the number of those that were lost before it. Where the medium failed, what it shows stands first and
+/// what waits stands last.
 pub fn a_recording_accounts()
-    ensures { (s : Config) (channel : ℕ) (files : List File) (failures : ℕ) (events : List EventValue) (replies : List ReplyValue) (images : List Image) (new : Machine)
-        → IsConfig s → AllByRecursion IsFoundFile files → length files ≤ most_files s → IsSome (spec_of s.channels channel) → Run s (fresh s.channels files failures) events replies images new
+    ensures { (s : Config) (channel : ℕ) (files : List File) (failures : ℕ) (events : List EventValue) (replies : List ReplyValue)
+        (images : List Image) (new : Machine) → IsConfig s → AllByRecursion IsFoundFile files → length files ≤ most_files s
+        → IsSome (spec_of s.channels channel) → Run s (fresh s.channels files failures) events replies images new
         → IsAccount channel new (accepted_entries channel 0 events replies) }
 {
     a_step_stays_sound();
@@ -43,8 +46,9 @@ pub fn a_recording_accounts()
 
 /// While nothing is erased, the files that a new recorder found stay the first, and show what they showed.
 pub fn found_files_stay()
-    ensures { (s : Config) (files : List File) (failures : ℕ) (events : List EventValue) (replies : List ReplyValue) (images : List Image) (new : Machine)
-        → IsConfig s → AllByRecursion IsFoundFile files → length files ≤ most_files s → Run s (fresh s.channels files failures) events replies images new → list_any may_erase (zip events replies) ≡ false
+    ensures { (s : Config) (files : List File) (failures : ℕ) (events : List EventValue) (replies : List ReplyValue)
+        (images : List Image) (new : Machine) → IsConfig s → AllByRecursion IsFoundFile files → length files ≤ most_files s
+        → Run s (fresh s.channels files failures) events replies images new → list_any may_erase (zip events replies) ≡ false
         → AreStillFirst files new.files }
 {
     a_step_stays_sound();
@@ -53,20 +57,24 @@ pub fn found_files_stay()
 
 /// Over any run each offer on a channel was accepted, or it was refused.
 pub fn offers_add_up()
-    ensures { (s : Config) (channel : ℕ) (old : Machine) (events : List EventValue) (replies : List ReplyValue) (images : List Image) (new : Machine) → Run s old events replies images new
-        → count_by (was_offered channel) (zip events replies) ≡ length (accepted_entries channel 0 events replies) + count_by (was_refused channel) (zip events replies) }
+    ensures { (s : Config) (channel : ℕ) (old : Machine) (events : List EventValue)
+        (replies : List ReplyValue) (images : List Image) (new : Machine) → Run s old events replies images new
+        → count_by (was_offered channel) (zip events replies)
+        ≡ length (accepted_entries channel 0 events replies) + count_by (was_refused channel) (zip events replies) }
 {}
 
 /// Of all that a channel lost, by overflows and outside, its accepted messages tell what was lost before the last of them, and the
 /// rest was lost since. So the numbers of the loss reports add up, as long as the sum has 64 bits.
 pub fn losses_add_up()
-    ensures { (channel : ℕ) (events : List EventValue) (replies : List ReplyValue) → all_lost channel (zip events replies) ≤ 2 ^ 64 - 1
-        → all_told (accepted_entries channel 0 events replies) + lost_since channel 0 (zip events replies) ≡ all_lost channel (zip events replies) }
+    ensures { (channel : ℕ) (events : List EventValue) (replies : List ReplyValue)
+        → all_lost channel (zip events replies) ≤ 2 ^ 64 - 1
+        → all_told (accepted_entries channel 0 events replies) + lost_since channel 0 (zip events replies)
+        ≡ all_lost channel (zip events replies) }
 {}
 
 /// Where the medium did not fail, the gaps of what was erased, of what own files have and of what waits add up to all that the
-/// channel lost before its last accepted message. So where nothing was erased and nothing waits, the loss reports of the recorder's own
-/// files do.
+/// channel lost before its last accepted message. So where nothing was erased and nothing waits, the loss reports of the recorder's
+/// own files do.
 pub fn files_tell_losses()
     ensures { (s : Config) (channel : ℕ) (files : List File) (failures : ℕ) (events : List EventValue) (replies : List ReplyValue)
         (images : List Image) (new : Machine)

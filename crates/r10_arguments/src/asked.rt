@@ -5,11 +5,14 @@ ghost use Rattle.std.specs.Fmt.{decimal};
 ghost use Rattle.std.specs.List.{Contains};
 ghost use Rattle.r10_arguments.specs.Found.{found_words};
 ghost use Rattle.r10_arguments.specs.Options.{GivesOption, GivesOr, HasOnlyOptions};
-ghost use Rattle.r10_arguments.specs.Words.{AsksSim, AsksImage, AsksImageOf, AsksFiles, AsksCheck, AsksRun, AsksRunImage, AsksSession, AsksOnly, AsksCommand, AsksOther, AsksText, AsksHelpBehind, AsksHelpWord, GivesAll, IsHelp, IsVersion, OptionsOfFormat, OptionsOfPlay, image_commands, plain_commands, word_at};
+ghost use Rattle.r10_arguments.specs.Words.{AsksSim, AsksImage, AsksImageOf, AsksFiles, AsksCheck, AsksRun, AsksRunImage};
+ghost use Rattle.r10_arguments.specs.Words.{AsksSession, AsksOnly, AsksCommand, AsksOther, AsksText, AsksHelpBehind, AsksHelpWord};
+ghost use Rattle.r10_arguments.specs.Words.{GivesAll, IsHelp, IsVersion, OptionsOfFormat, OptionsOfPlay, image_commands};
+ghost use Rattle.r10_arguments.specs.Words.{plain_commands, word_at};
 ghost use Rattle.r10_arguments.specs.declared.asked.Asked.TheVariants.{Sim, Image, Files, Check};
 
 use crate::options::{FoundOption, front_options, gives_option, is_left_out, is_one_of};
-use crate::usage::{ASK_NOTHING, Called, called_by, help_hint, parsed, usage_line};
+use crate::usage::{ASK_NOTHING, Called, called_by, help_hint, matches_of, usage_line};
 use clap::ArgMatches;
 use clap::error::ErrorKind;
 use std::alloc::{AllocError, Global};
@@ -94,7 +97,9 @@ pub fn read_words(alloc: Global, words: &[String]) -> Result<Asked, WordsFault>
     ensures image { AsksImage (map string_bytes words.now) → result ≡ Ok Image }
     ensures files { AsksFiles (map string_bytes words.now) → result ≡ Ok Files }
     ensures check { AsksCheck (map string_bytes words.now) → result ≡ Ok Check }
-    ensures other { (AsksSim (map string_bytes words.now) → ⊥) → (AsksImage (map string_bytes words.now) → ⊥) → (AsksFiles (map string_bytes words.now) → ⊥) → (AsksCheck (map string_bytes words.now) → ⊥) → IfOk result (AsksOther (map string_bytes words.now)) }
+    ensures other { (AsksSim (map string_bytes words.now) → ⊥) → (AsksImage (map string_bytes words.now) → ⊥)
+        → (AsksFiles (map string_bytes words.now) → ⊥) → (AsksCheck (map string_bytes words.now) → ⊥)
+        → IfOk result (AsksOther (map string_bytes words.now)) }
 {
     if asks_sim(words) {
         return Ok(Asked::Sim);
@@ -111,8 +116,8 @@ pub fn read_words(alloc: Global, words: &[String]) -> Result<Asked, WordsFault>
     read_other(alloc, words)
 }
 
-/// Whether the words ask for a session's lines: `run` alone behind the program's own name. It starts threads, so it is none of those
-/// that `read_words` reads.
+/// Whether the words ask for a session's lines: `run` alone behind the program's own name. It starts threads, so it is none of
+/// those that `read_words` reads.
 pub fn asks_run(words: &[String]) -> bool
     ensures { IsTrue result ↔ AsksRun (map string_bytes words.now) }
 {
@@ -177,7 +182,7 @@ fn asks_only(words: &[String], command: &str) -> bool
 fn read_other(alloc: Global, words: &[String]) -> Result<Asked, WordsFault>
     ensures { IfOk result (AsksOther (map string_bytes words.now)) }
 {
-    match parsed(alloc, words) {
+    match matches_of(alloc, words) {
         Ok(matches) => read_matches(alloc, words, &matches),
         Err(error) => read_error(alloc, words, &error),
     }
@@ -240,7 +245,8 @@ fn format_fault(
     words: &[String],
     format: &FormatWords,
 ) -> Result<Option<&'static str>, AllocError>
-    ensures { IfOk result (λ fault. IfNone fault (AsksCommand (codes "format") (map string_bytes words.now) × GivesAll (map string_bytes words.now) format.now)) }
+    ensures { IfOk result (λ fault. IfNone fault
+        (AsksCommand (codes "format") (map string_bytes words.now) × GivesAll (map string_bytes words.now) format.now)) }
 {
     let Some(given) = only_options(alloc, words, "format", &FORMAT_OPTIONS)? else {
         return Ok(Some(ASK_NOTHING));
@@ -271,8 +277,8 @@ fn format_words(alloc: Global, found: &ArgMatches<'_>) -> Result<Option<FormatWo
     }))
 }
 
-/// What the options of `play` say, each looked up among the words once more, where nothing else may stand, and for those that are left
-/// out what goes without saying: the first file, all its channels and all counts.
+/// What the options of `play` say, each looked up among the words once more, where nothing else may stand, and for those that are
+/// left out what goes without saying: the first file, all its channels and all counts.
 fn read_play(alloc: Global, words: &[String], found: &ArgMatches<'_>) -> Result<Asked, WordsFault>
     ensures { IfOk result (AsksOther (map string_bytes words.now)) }
 {
@@ -304,7 +310,8 @@ fn only_options<'a>(
     command: &str,
     known: &[&str],
 ) -> Result<Option<Vec<FoundOption<'a>>>, AllocError>
-    ensures { IfOk result (λ r. IfSome r (λ given. AsksCommand command.now (map string_bytes words.now) × HasOnlyOptions (map (λ k. k.now) known.now) (map string_bytes words.now) (map found_words given.items))) }
+    ensures { IfOk result (λ r. IfSome r (λ given. AsksCommand command.now (map string_bytes words.now)
+        × HasOnlyOptions (map (λ k. k.now) known.now) (map string_bytes words.now) (map found_words given.items))) }
 {
     let [_, word, behind @ ..] = words else {
         return Ok(None);
@@ -388,7 +395,8 @@ fn is_help_at(words: &[String], place: usize) -> bool
 
 /// Whether help is asked for behind a command without options that have values.
 fn asks_help_of_plain(words: &[String]) -> bool
-    ensures { IsTrue result → Contains plain_commands (word_at (map string_bytes words.now) 1) × IsHelp (word_at (map string_bytes words.now) 2) }
+    ensures { IsTrue result
+        → Contains plain_commands (word_at (map string_bytes words.now) 1) × IsHelp (word_at (map string_bytes words.now) 2) }
 {
     match words {
         [_, word, ..] => is_one_of(word.as_str(), &PLAIN_COMMANDS) && is_help_at(words, 2),
@@ -398,7 +406,8 @@ fn asks_help_of_plain(words: &[String]) -> bool
 
 /// Whether help is asked for behind `sim --image` or `run --image`.
 fn asks_help_of_image(words: &[String]) -> bool
-    ensures { IsTrue result → Contains image_commands (word_at (map string_bytes words.now) 1) × (word_at (map string_bytes words.now) 2 ≡ codes "--image") × IsHelp (word_at (map string_bytes words.now) 3) }
+    ensures { IsTrue result → Contains image_commands (word_at (map string_bytes words.now) 1)
+        × (word_at (map string_bytes words.now) 2 ≡ codes "--image") × IsHelp (word_at (map string_bytes words.now) 3) }
 {
     match words {
         [_, word, ..] => {

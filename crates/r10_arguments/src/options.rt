@@ -37,7 +37,8 @@ pub(crate) fn front_options<'a>(
     words: &'a [String],
     known: &[&str],
 ) -> Result<FrontOptions<'a>, AllocError>
-    ensures { IfOk result (λ front. BeginsWithOptions (map (λ k. k.now) known.now) (map string_bytes words.now) (map found_words front.given.items) (map string_bytes front.rest.now)) }
+    ensures { IfOk result (λ front. BeginsWithOptions (map (λ k. k.now) known.now) (map string_bytes words.now)
+        (map found_words front.given.items) (map string_bytes front.rest.now)) }
 {
     let mut given = Vec::new(alloc);
     let mut rest = words;
@@ -50,7 +51,8 @@ pub(crate) fn front_options<'a>(
 
 /// The option at the front of the words, if it is a known one and has a value.
 fn first_option<'a>(words: &'a [String], known: &[&str]) -> Option<FirstOption<'a>>
-    ensures stands { IfSome result (λ first. IsFrontOption (map (λ k. k.now) known.now) (map string_bytes words.now) first.found (map string_bytes first.rest.now)) }
+    ensures stands { IfSome result (λ first. IsFrontOption (map (λ k. k.now) known.now) (map string_bytes words.now) first.found
+        (map string_bytes first.rest.now)) }
     ensures shorter { IfSome result (λ first. length first.rest.now < length words.now) }
 {
     let [word, rest @ ..] = words else {
@@ -138,6 +140,8 @@ pub(crate) fn is_left_out(given: &[FoundOption<'_>], option: &str) -> bool
 
 /// The words behind a command tell in one way alone which options are given: what is read of them is what they say.
 pub fn options_are_told()
-    ensures format { (words : List (List ℕ)) (given other : List OptionWords) → HasOnlyOptions format_options words given → HasOnlyOptions format_options words other → given ≡ other }
-    ensures play { (words : List (List ℕ)) (given other : List OptionWords) → HasOnlyOptions play_options words given → HasOnlyOptions play_options words other → given ≡ other }
+    ensures format { (words : List (List ℕ)) (given other : List OptionWords) → HasOnlyOptions format_options words given
+        → HasOnlyOptions format_options words other → given ≡ other }
+    ensures play { (words : List (List ℕ)) (given other : List OptionWords) → HasOnlyOptions play_options words given
+        → HasOnlyOptions play_options words other → given ≡ other }
 {}

@@ -170,7 +170,7 @@ const MOST: usize = 60;
 
 /// What help shows of a command, and the options that the command has.
 #[derive(Clone, Copy)]
-struct Shown {
+struct CommandHelp {
     name: &'static str,
     about: &'static str,
     usage: &'static str,
@@ -255,51 +255,51 @@ const PLAY: [ShownOption; 4] = [
 ];
 
 /// What help shows of a command, or of the program itself.
-fn shown_of(called: Called) -> Shown {
+fn shown_of(called: Called) -> CommandHelp {
     match called {
-        Called::Program => Shown {
+        Called::Program => CommandHelp {
             name: "r10",
             about: ABOUT,
             usage: "r10 [COMMAND] < INPUT",
             more: MORE,
             options: &[],
         },
-        Called::Sim => Shown {
+        Called::Sim => CommandHelp {
             name: "sim",
             about: ABOUT_SIM,
             usage: "r10 sim [OPTIONS] < SCRIPT",
             more: MORE_SIM,
             options: &IMAGE,
         },
-        Called::Run => Shown {
+        Called::Run => CommandHelp {
             name: "run",
             about: ABOUT_RUN,
             usage: "r10 run [OPTIONS] < SCRIPT",
             more: MORE_RUN,
             options: &IMAGE,
         },
-        Called::Format => Shown {
+        Called::Format => CommandHelp {
             name: "format",
             about: ABOUT_FORMAT,
             usage: "r10 format --blocks <N> --directory <N> --volume <NAME> > IMAGE",
             more: MORE_FORMAT,
             options: &FORMAT,
         },
-        Called::Files => Shown {
+        Called::Files => CommandHelp {
             name: "files",
             about: ABOUT_FILES,
             usage: "r10 files < IMAGE",
             more: MORE_FILES,
             options: &[],
         },
-        Called::Play => Shown {
+        Called::Play => CommandHelp {
             name: "play",
             about: ABOUT_PLAY,
             usage: "r10 play [OPTIONS] < IMAGE",
             more: MORE_PLAY,
             options: &PLAY,
         },
-        Called::Check => Shown {
+        Called::Check => CommandHelp {
             name: "check",
             about: ABOUT_CHECK,
             usage: "r10 check < RECORDING",
@@ -310,7 +310,7 @@ fn shown_of(called: Called) -> Shown {
 }
 
 /// What `clap` finds in the words.
-pub(crate) fn parsed<'a>(
+pub(crate) fn matches_of<'a>(
     alloc: Global,
     words: &'a [String],
 ) -> Result<ArgMatches<'a>, clap::Error> {
@@ -354,13 +354,13 @@ fn push_line<'a>(
 }
 
 /// A command with its options.
-fn full_line<'a>(alloc: Global, shown: Shown) -> Result<Command<'a>, AllocError> {
+fn full_line<'a>(alloc: Global, shown: CommandHelp) -> Result<Command<'a>, AllocError> {
     let options = options(alloc, shown.options)?;
     plain_line(alloc, shown).args(options)
 }
 
 /// A command without its options.
-fn plain_line<'a>(alloc: Global, shown: Shown) -> Command<'a> {
+fn plain_line<'a>(alloc: Global, shown: CommandHelp) -> Command<'a> {
     Command::new(alloc, shown.name)
         .about(shown.about)
         .override_usage(shown.usage)
@@ -382,8 +382,8 @@ fn full_option<'a>(alloc: Global, shown: ShownOption) -> Arg<'a> {
         .help(shown.help);
     match shown.takes {
         Takes::Nothing => option.action(ArgAction::SetTrue),
-        Takes::Short => numbered(option, value_parser!(u16), shown.is_needed),
-        Takes::Long => numbered(option, value_parser!(u64), shown.is_needed),
+        Takes::Short => number_option(option, value_parser!(u16), shown.is_needed),
+        Takes::Long => number_option(option, value_parser!(u64), shown.is_needed),
         Takes::Name => option
             .value_name("NAME")
             .required(shown.is_needed)
@@ -392,7 +392,7 @@ fn full_option<'a>(alloc: Global, shown: ShownOption) -> Arg<'a> {
 }
 
 /// The option with such a number.
-fn numbered<'a>(option: Arg<'a>, number: ValueParser<'a>, is_needed: bool) -> Arg<'a> {
+fn number_option<'a>(option: Arg<'a>, number: ValueParser<'a>, is_needed: bool) -> Arg<'a> {
     option
         .value_name("N")
         .value_parser(number)
@@ -480,7 +480,7 @@ fn hinted_line(alloc: Global, words: &[String], called: Called) -> Result<String
 
 /// What `clap` says of the words.
 fn refused_line(alloc: Global, words: &[String], called: Called) -> Result<String, AllocError> {
-    match parsed(alloc, words) {
+    match matches_of(alloc, words) {
         Ok(_) => String::from_str(alloc, ASK_NOTHING),
         Err(error) => fault_line(alloc, &error, called),
     }
@@ -522,9 +522,9 @@ fn without_quotes(text: &str) -> &str {
     }
 }
 
-/// The first line of what `clap` says, without its first word. After it stand the word that may be meant, the command that an option
-/// without one goes after, the options that are missing, for a word that looks like a file where such a file goes, and for another word
-/// that is no command the commands.
+/// The first line of what `clap` says, without its first word. After it stand the word that may be meant, the command that an
+/// option without one goes after, the options that are missing, for a word that looks like a file where such a file goes, and for
+/// another word that is no command the commands.
 fn fault_line(alloc: Global, error: &clap::Error, called: Called) -> Result<String, AllocError> {
     let kind = error.kind();
     if is_memory(kind) {

@@ -54,7 +54,8 @@ impl BusBody {
     /// written them.
     pub fn decode(alloc: Global, body: &[u8]) -> Result<Reading<BusBody>, AllocError>
         ensures found { IfOk result (ReadsBody (λ read. IsBus read.entries body.now) (IsForeignBus body.now)) }
-        ensures only { (entries : List BusEntryValue) → IsBus entries body.now → IfOk result (λ reading. reading ≡ Strict (record { entries = entries })) }
+        ensures only { (entries : List BusEntryValue) → IsBus entries body.now
+            → IfOk result (λ reading. reading ≡ Strict (record { entries = entries })) }
     {
         match read_body(alloc, 0, 0, body)? {
             Reading::Strict(entries) => Ok(Reading::Strict(BusBody { entries })),

@@ -94,7 +94,7 @@ impl BodyEntry for BusEntry {
         14
     }
 
-    fn told(front: &[u8]) -> Option<usize> {
+    fn entry_length(front: &[u8]) -> Option<usize> {
         let size = u16::from_le_bytes([front[12], front[13]]);
         if size % 2 == 0 {
             Some(14 + usize::from(size))

@@ -5,8 +5,8 @@ ghost use Rattle.r10_lane.specs.Lanes.{reached};
 ghost use Rattle.r10_bench.specs.Behind.{IsBehind};
 
 use crate::copy::copy_all;
-use crate::fault::Fault;
-use crate::figures::{Figures, Packets};
+use crate::fault::BenchFault;
+use crate::figures::{BenchFigures, Packets};
 use crate::messages::make;
 use crate::path::{offer_all, pack_all};
 use r10_body::{ChannelSpec, Kind};
@@ -57,8 +57,8 @@ impl Bench {
         rt: &R,
         alloc: Global,
         numbers: Range<u32>,
-        figures: &mut Figures,
-    ) -> Result<(), Fault>
+        figures: &mut BenchFigures,
+    ) -> Result<(), BenchFault>
         requires { IsBehind self.old.lane.spec (reached self.old.lane) self.old.builder }
         ensures { OnOk result (IsBehind self.new.lane.spec (reached self.new.lane) self.new.builder) }
     {
@@ -77,11 +77,11 @@ impl Bench {
 }
 
 /// Sends so many messages through a lane and a builder, and copies their bytes.
-pub fn run<R: CpuClock>(rt: &R, alloc: Global, number: u32) -> Result<Figures, Fault>
+pub fn run<R: CpuClock>(rt: &R, alloc: Global, number: u32) -> Result<BenchFigures, BenchFault>
     ensures { IfOk result (λ figures. figures.messages ≡ number) }
 {
     let mut bench = Bench::new(alloc)?;
-    let mut figures = Figures::default();
+    let mut figures = BenchFigures::default();
     for first in (0..number).step_by(BATCH) {
         let next = number.min(first.saturating_add(BATCH as u32));
         bench.round(rt, alloc, first..next, &mut figures)?;
@@ -90,7 +90,7 @@ pub fn run<R: CpuClock>(rt: &R, alloc: Global, number: u32) -> Result<Figures, F
         figures.packets.add(&closed);
     }
     if figures.messages != u64::from(number) {
-        return Err(Fault::Lost);
+        return Err(BenchFault::Lost);
     }
     Ok(figures)
 }

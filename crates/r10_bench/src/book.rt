@@ -2,7 +2,7 @@
 
 ghost use Rattle.std.specs.Prelude.{◌≡◌, ◌≤◌, length, IfOk};
 
-use crate::fault::Fault;
+use crate::fault::BenchFault;
 use r10_count::Count;
 use r10_index::{IndexBook, IndexPlace};
 use r10_indexbody::NodeEntry;
@@ -42,7 +42,7 @@ fn entry(number: u32) -> NodeEntry {
 }
 
 /// A book of so many packets.
-fn fill(alloc: Global, packets: u32) -> Result<IndexBook, Fault>
+fn fill(alloc: Global, packets: u32) -> Result<IndexBook, BenchFault>
     ensures { IfOk result (λ book. length book.entries ≡ packets) }
 {
     let mut book = IndexBook::new(alloc);
@@ -76,7 +76,7 @@ fn search(book: &IndexBook, packets: u32) -> u64 {
 }
 
 /// Writes nodes and roots into one buffer, one after the other, in groups of 32,765 nodes, and answers how many bytes they have.
-fn write_index(alloc: Global, book: &IndexBook) -> Result<u64, Fault>
+fn write_index(alloc: Global, book: &IndexBook) -> Result<u64, BenchFault>
     requires { length book.now.entries ≤ MOST }
 {
     let counter = entry(0).counter;
@@ -91,7 +91,7 @@ fn write_index(alloc: Global, book: &IndexBook) -> Result<u64, Fault>
 }
 
 /// Searches in the book of so many packets, and writes the index of it.
-pub fn run<R: CpuClock>(rt: &R, alloc: Global, number: u32) -> Result<BookFigures, Fault> {
+pub fn run<R: CpuClock>(rt: &R, alloc: Global, number: u32) -> Result<BookFigures, BenchFault> {
     let packets = number.min(MOST);
     let book = fill(alloc, packets)?;
     let start = rt.thread_cpu_time()?;

@@ -1,6 +1,6 @@
 //! Files judged: how long the verdict on a file of one kind of messages takes.
 
-use crate::fault::Fault;
+use crate::fault::BenchFault;
 use crate::figures::a_second;
 use r10_body::Kind;
 use r10_checker::{Verdict, check_file};
@@ -139,10 +139,10 @@ fn push_packet(
     header: &Header,
     body: &[u8],
     file: &mut Vec<u8>,
-) -> Result<(), Fault> {
+) -> Result<(), BenchFault> {
     let width = Check::of_flags(header.flags).width();
     if body.len() > 524_264 - width {
-        return Err(Fault::Lost);
+        return Err(BenchFault::Lost);
     }
     let packet = Packet::frame(alloc, header, body)?;
     file.extend_from_slice(packet.as_slice())?;
@@ -164,7 +164,7 @@ fn header(channel: u16, data_type: u8) -> Header {
 }
 
 /// Adds setup and time.
-fn push_start(alloc: Global, file: &mut Vec<u8>) -> Result<(), Fault> {
+fn push_start(alloc: Global, file: &mut Vec<u8>) -> Result<(), BenchFault> {
     let setup = SetupBody { text: &[] }.encode(alloc)?;
     push_packet(alloc, &header(0, 0x01), setup.as_slice(), file)?;
     let parts = Parts {
@@ -177,7 +177,7 @@ fn push_start(alloc: Global, file: &mut Vec<u8>) -> Result<(), Fault> {
         centi: 0,
     };
     let Some(civil) = Civil::of(parts) else {
-        return Err(Fault::Lost);
+        return Err(BenchFault::Lost);
     };
     push_packet(alloc, &header(1, 0x11), &TimeBody { civil }.encode(), file)
 }
@@ -203,7 +203,7 @@ fn word(kind: Kind, number: u32) -> u32 {
 }
 
 /// The body of a packet of messages.
-fn make_body(alloc: Global, shape: &Shape) -> Result<Vec<u8>, Fault> {
+fn make_body(alloc: Global, shape: &Shape) -> Result<Vec<u8>, BenchFault> {
     let text = &TEXT[..shape.message.min(1024)];
     let (front, size) = front(shape.kind, text.len() as u16);
     let front = &front[..size.min(14)];
@@ -218,7 +218,7 @@ fn make_body(alloc: Global, shape: &Shape) -> Result<Vec<u8>, Fault> {
 }
 
 /// A file of so many bytes, or a packet more.
-fn make_file(alloc: Global, shape: &Shape, bytes: usize) -> Result<Vec<u8>, Fault> {
+fn make_file(alloc: Global, shape: &Shape, bytes: usize) -> Result<Vec<u8>, BenchFault> {
     let body = make_body(alloc, shape)?;
     let mut file = Vec::with_capacity(alloc, bytes)?;
     push_start(alloc, &mut file)?;
@@ -241,14 +241,14 @@ pub fn run<R: CpuClock>(
     alloc: Global,
     shape: &Shape,
     number: u32,
-) -> Result<CheckFigures, Fault> {
+) -> Result<CheckFigures, BenchFault> {
     let bytes = (number as usize).min(MOST / SHARE) * SHARE;
     let file = make_file(alloc, shape, bytes)?;
     let start = rt.thread_cpu_time()?;
     let verdict = check_file(alloc, file.as_slice())?;
     let end = rt.thread_cpu_time()?;
     if verdict != Verdict::Strict {
-        return Err(Fault::Lost);
+        return Err(BenchFault::Lost);
     }
     Ok(CheckFigures {
         shape: *shape,
@@ -270,7 +270,8 @@ impl fmt::Display for CheckFigures {
         let rate = a_second(bytes, self.judging);
         writeln!(
             f,
-            "judging {bytes} bytes, {channels:>3} channels, checksum {flags}, {name} of {message:>4} bytes: {millis:>6} ms {rate:>12} bytes/s"
+            "judging {bytes} bytes, {channels:>3} channels, checksum {flags}, \
+            {name} of {message:>4} bytes: {millis:>6} ms {rate:>12} bytes/s"
         )
     }
 }

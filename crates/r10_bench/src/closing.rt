@@ -1,6 +1,6 @@
 //! How long it takes to close a file of many packets, in processor time: the index is written, in groups of 32,765 nodes.
 
-use crate::fault::Fault;
+use crate::fault::BenchFault;
 use crate::figures::a_second;
 use crate::finding::fill;
 use crate::mounted::{InMemory, begin};
@@ -27,19 +27,19 @@ pub struct CloseFigures {
 }
 
 /// Closes the file, and answers the processor time of that.
-fn close<R: CpuClock>(rt: &R, recorder: &mut InMemory) -> Result<Duration, Fault> {
+fn close<R: CpuClock>(rt: &R, recorder: &mut InMemory) -> Result<Duration, BenchFault> {
     let start = rt.thread_cpu_time()?;
     let stopped = recorder.stop_file()?;
     let end = rt.thread_cpu_time()?;
     if stopped.left > 0 {
-        return Err(Fault::Lost);
+        return Err(BenchFault::Lost);
     }
     Ok(end.saturating_sub(start))
 }
 
 /// Records so many packets with a message each, all of which the directory shows then, and closes the file: what it has more is its
 /// index.
-pub fn run<R: CpuClock>(rt: &R, alloc: Global, number: u32) -> Result<CloseFigures, Fault> {
+pub fn run<R: CpuClock>(rt: &R, alloc: Global, number: u32) -> Result<CloseFigures, BenchFault> {
     let packets = number.min(MOST);
     let mut recorder = begin(alloc, packets, LENGTH, 1)?;
     fill(rt, alloc, &mut recorder, packets, STEP)?;

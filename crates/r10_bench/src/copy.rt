@@ -6,7 +6,9 @@ use r10_body::{Message, Timed};
 
 /// Copies bytes to the end of a buffer, which is emptied first where they lack room.
 pub fn copy(bytes: &[u8], copied: &mut Vec<u8>)
-    ensures copied { length bytes.now ≤ vec_capacity copied.old → copied.new.items ≡ (if nat_lt (vec_capacity copied.old - length copied.old.items) (length bytes.now) then [] else copied.old.items) ++ bytes.now }
+    ensures copied { length bytes.now ≤ vec_capacity copied.old → copied.new.items
+        ≡ (if nat_lt (vec_capacity copied.old - length copied.old.items) (length bytes.now) then [] else copied.old.items)
+        ++ bytes.now }
     ensures room { vec_capacity copied.old ≤ vec_capacity copied.new }
 {
     if copied.capacity() - copied.len() < bytes.len() {

@@ -7,7 +7,7 @@ use thiserror::Error;
 
 /// Why there are no figures.
 #[derive(Debug, Drop, Error)]
-pub enum Fault {
+pub enum BenchFault {
     #[error("out of memory")]
     Memory(#[from] AllocError),
     /// The clock, the command line or the output failed.

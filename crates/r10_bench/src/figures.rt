@@ -29,7 +29,7 @@ impl Packets {
 
 /// What was measured.
 #[derive(Clone, Copy, Default)]
-pub struct Figures {
+pub struct BenchFigures {
     pub messages: u64,
     pub packets: Packets,
     /// Processor time of the plain copy.
@@ -45,7 +45,7 @@ pub fn a_second(amount: u64, time: Duration) -> u128
     u128::from(amount) * 1_000_000_000 / time.as_nanos().max(1)
 }
 
-impl Figures {
+impl BenchFigures {
     /// How many bytes the messages have.
     fn bytes(&self) -> u64
         ensures { result ≡ min (8 * self.now.messages) u64.MAX }
@@ -69,7 +69,7 @@ impl Figures {
     }
 }
 
-impl fmt::Display for Figures {
+impl fmt::Display for BenchFigures {
     fn fmt<W: fmt::Write>(&self, f: &mut fmt::Formatter<W>) -> fmt::Result {
         let messages = self.messages;
         let bytes = self.bytes();
@@ -88,14 +88,14 @@ impl fmt::Display for Figures {
 
 /// What was measured of a lane: how many messages were accepted and taken, and the processor time of both.
 #[derive(Clone, Copy, Default)]
-pub struct Handing {
+pub struct HandingFigures {
     pub accepted: u64,
     pub taken: u64,
     pub offering: Duration,
     pub taking: Duration,
 }
 
-impl Handing {
+impl HandingFigures {
     /// Adds a batch, of which so many were accepted and taken: the times before the offers, behind them and behind the takes.
     pub fn add(&mut self, times: [Duration; 3], accepted: u64, taken: u64)
         ensures accepted { self.new.accepted ≡ min (self.old.accepted + accepted) u64.MAX }
@@ -112,8 +112,8 @@ impl Handing {
 /// What was measured of lanes of one thread and between threads.
 #[derive(Clone, Copy, Default)]
 pub struct LaneFigures {
-    pub lane: Handing,
-    pub ports: Handing,
+    pub lane: HandingFigures,
+    pub ports: HandingFigures,
     pub offered: u64,
     pub accepted: u64,
     /// The time that passed while messages went from one thread to another.

@@ -1,6 +1,6 @@
 //! How long it takes to find an entry in a file of many packets that is still recorded, in processor time.
 
-use crate::fault::Fault;
+use crate::fault::BenchFault;
 use crate::figures::a_second;
 use crate::mounted::{InMemory, begin, channel_of};
 use crate::whole::{LENGTH, TEXT, make_round, record, rounds};
@@ -41,7 +41,7 @@ pub(crate) fn fill<R: CpuClock>(
     recorder: &mut InMemory,
     packets: u32,
     step: u64,
-) -> Result<Duration, Fault> {
+) -> Result<Duration, BenchFault> {
     let mut recording = Duration::default();
     for round in 0..rounds(packets) {
         let messages = make_round(alloc, round, packets, &TEXT)?;
@@ -89,7 +89,7 @@ pub fn run<R: CpuClock>(
     alloc: Global,
     step: u64,
     number: u32,
-) -> Result<FindFigures, Fault> {
+) -> Result<FindFigures, BenchFault> {
     let packets = number.clamp(1, MOST);
     let mut recorder = begin(alloc, packets, LENGTH, 1)?;
     let recording = fill(rt, alloc, &mut recorder, packets, step)?;
@@ -97,7 +97,7 @@ pub fn run<R: CpuClock>(
     let found = find_all(&mut recorder, packets, step)?;
     let finding = rt.thread_cpu_time()?.saturating_sub(start);
     if found != SEARCHES {
-        return Err(Fault::Lost);
+        return Err(BenchFault::Lost);
     }
     Ok(FindFigures {
         step,
@@ -115,7 +115,8 @@ impl fmt::Display for FindFigures {
         let nanos = self.finding.as_nanos() / u128::from(searches.max(1));
         writeln!(
             f,
-            "find: {packets} packets of a message each, {step} counts apart, recorded at {rate} packets/s: {nanos} ns each of {searches} searches"
+            "find: {packets} packets of a message each, {step} counts apart, recorded at {rate} packets/s: {nanos} ns each of \
+            {searches} searches"
         )
     }
 }

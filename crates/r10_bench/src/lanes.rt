@@ -1,7 +1,7 @@
 //! Lanes of one thread and between two, for messages without bytes.
 
-use crate::fault::Fault;
-use crate::figures::{Handing, LaneFigures};
+use crate::fault::BenchFault;
+use crate::figures::{HandingFigures, LaneFigures};
 use r10_body::{ChannelSpec, Kind, Message};
 use r10_count::{Bytes, Count};
 use r10_lane::{LaneOut, RingLane};
@@ -81,9 +81,13 @@ fn take_all<L: LaneOut>(lane: &mut L) -> u64 {
 }
 
 /// Sends so many messages through a lane of one thread, a batch at a time.
-fn through_lane<R: CpuClock>(rt: &R, alloc: Global, number: u32) -> Result<Handing, Fault> {
+fn through_lane<R: CpuClock>(
+    rt: &R,
+    alloc: Global,
+    number: u32,
+) -> Result<HandingFigures, BenchFault> {
     let mut lane = RingLane::new(alloc, CHANNEL)?;
-    let mut handing = Handing::default();
+    let mut handing = HandingFigures::default();
     for first in (0..number).step_by(BATCH as usize) {
         let next = number.min(first.saturating_add(BATCH));
         let start = rt.thread_cpu_time()?;
@@ -96,9 +100,13 @@ fn through_lane<R: CpuClock>(rt: &R, alloc: Global, number: u32) -> Result<Handi
 }
 
 /// The same through a lane between threads, with both ends in this one.
-fn through_ports<R: CpuClock>(rt: &R, alloc: Global, number: u32) -> Result<Handing, Fault> {
+fn through_ports<R: CpuClock>(
+    rt: &R,
+    alloc: Global,
+    number: u32,
+) -> Result<HandingFigures, BenchFault> {
     let (mut port, mut outlet) = lane(alloc, CHANNEL)?;
-    let mut handing = Handing::default();
+    let mut handing = HandingFigures::default();
     for first in (0..number).step_by(BATCH as usize) {
         let next = number.min(first.saturating_add(BATCH));
         let start = rt.thread_cpu_time()?;
@@ -141,7 +149,7 @@ fn cross<R: Threads + Wait + Sync>(
     rt: &R,
     alloc: Global,
     number: u32,
-) -> Result<(u64, u64), Fault> {
+) -> Result<(u64, u64), BenchFault> {
     let spec = ChannelSpec {
         capacity: 65_536,
         ..CHANNEL
@@ -161,14 +169,14 @@ pub fn run<R: CpuClock + Clock + Threads + Wait + Sync>(
     rt: &R,
     alloc: Global,
     number: u32,
-) -> Result<LaneFigures, Fault> {
+) -> Result<LaneFigures, BenchFault> {
     let lane = through_lane(rt, alloc, number)?;
     let ports = through_ports(rt, alloc, number)?;
     let start = Instant::now(rt)?;
     let (accepted, taken) = cross(rt, alloc, number)?;
     let crossing = start.elapsed(rt)?;
     if accepted != taken {
-        return Err(Fault::Lost);
+        return Err(BenchFault::Lost);
     }
     Ok(LaneFigures {
         lane,

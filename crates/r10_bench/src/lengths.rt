@@ -1,7 +1,7 @@
 //! How long a recording takes by the length of its messages: the whole recorder, as in `whole`, with messages of one length each
 //! time.
 
-use crate::fault::Fault;
+use crate::fault::BenchFault;
 use crate::whole;
 use crate::whole::WholeFigures;
 use std::alloc::Global;
@@ -26,7 +26,7 @@ pub(crate) fn run<R: CpuClock>(
     alloc: Global,
     length: u16,
     number: u32,
-) -> Result<WholeFigures, Fault> {
+) -> Result<WholeFigures, BenchFault> {
     let mut text = Vec::new(alloc);
     text.resize(usize::from(length), 0x55)?;
     let (figures, _recorder) = whole::run(

@@ -1,7 +1,8 @@
 //! The program `r10_bench`, run by hand: how many small UART messages a second go through a lane and a builder, beside a
 //! plain copy of the same bytes, how many go through lanes of one thread and between two, how long searches in the book
-//! of a file's packets take, and its index, how many messages a second a recorder records onto a medium in memory, how many entries a second it replays, how long it takes to find one in a file of many packets, how
-//! many bytes of index a second it writes where it closes one, and how many bytes of a file are judged in a second.
+//! of a file's packets take, and its index, how many messages a second a recorder records onto a medium in memory, how many entries
+//! a second it replays, how long it takes to find one in a file of many packets, how many bytes of index a second it writes where
+//! it closes one, and how many bytes of a file are judged in a second.
 #![tactic(auto)]
 
 mod bench;
@@ -20,14 +21,14 @@ mod path;
 mod replay;
 mod whole;
 
-use fault::Fault;
+use fault::BenchFault;
 use std::io;
 use std::process::ExitCode;
 use std::rt::Env;
 
 /// What the command line asks for.
 #[derive(Clone, Copy)]
-enum Asked {
+enum BenchRequest {
     /// All parts, of so many messages.
     All(u32),
     /// Only the part that closes a file, of so many packets.
@@ -36,7 +37,7 @@ enum Asked {
     Lengths(u32),
 }
 
-fn read_words<R: Env + AllocGlobal>(rt: &R) -> io::Result<Option<Asked>> {
+fn read_words<R: Env + AllocGlobal>(rt: &R) -> io::Result<Option<BenchRequest>> {
     let mut words = std::env::args(rt)?;
     let Some(first) = words.nth(1) else {
         return Ok(None);
@@ -46,7 +47,7 @@ fn read_words<R: Env + AllocGlobal>(rt: &R) -> io::Result<Option<Asked>> {
         let Ok(number) = first.parse() else {
             return Ok(None);
         };
-        return Ok(Some(Asked::All(number)));
+        return Ok(Some(BenchRequest::All(number)));
     }
     let Some(second) = words.next() else {
         return Ok(None);
@@ -55,20 +56,20 @@ fn read_words<R: Env + AllocGlobal>(rt: &R) -> io::Result<Option<Asked>> {
         return Ok(None);
     };
     if closes {
-        return Ok(Some(Asked::Close(number)));
+        return Ok(Some(BenchRequest::Close(number)));
     }
-    Ok(Some(Asked::Lengths(number)))
+    Ok(Some(BenchRequest::Lengths(number)))
 }
 
-fn main(rt: HostRuntime) -> Result<ExitCode, Fault> {
+fn main(rt: HostRuntime) -> Result<ExitCode, BenchFault> {
     let number = match read_words(&rt)? {
-        Some(Asked::All(number)) => number,
-        Some(Asked::Close(number)) => {
+        Some(BenchRequest::All(number)) => number,
+        Some(BenchRequest::Close(number)) => {
             let figures = closing::run(&rt, rt.alloc(), number)?;
             print!(rt; "{figures}")?;
             return Ok(ExitCode::SUCCESS);
         }
-        Some(Asked::Lengths(number)) => {
+        Some(BenchRequest::Lengths(number)) => {
             for length in &lengths::LENGTHS {
                 let figures = lengths::run(&rt, rt.alloc(), *length, number)?;
                 print!(rt; "{figures}")?;

@@ -4,7 +4,7 @@ ghost use Rattle.std.specs.Prelude.{◌≡◌, length, map, IfOk};
 ghost use Rattle.r10_machine.specs.Machine.{fresh_lane};
 ghost use Rattle.r10_medium.specs.MemoryDisk.{memory_disk};
 
-use crate::fault::Fault;
+use crate::fault::BenchFault;
 use r10_body::{ChannelSpec, Kind};
 use r10_control::Recorder;
 use r10_count::Parts;
@@ -79,12 +79,12 @@ fn settings_for(
     messages: u32,
     bytes: u16,
     number: usize,
-) -> Result<Settings, Fault> {
+) -> Result<Settings, BenchFault> {
     let channels = channels_for(alloc, number)?;
     let volume = Vec::from_slice(alloc, b"BENCH")?;
     let blocks = blocks_for(messages, bytes);
     let Ok(settings) = Settings::of(blocks, 2, volume, 32_765, 1, 2, channels) else {
-        return Err(Fault::Settings);
+        return Err(BenchFault::Settings);
     };
     Ok(settings)
 }
@@ -112,13 +112,13 @@ fn make_medium(alloc: Global, blocks: usize) -> Result<Memory, AllocError>
 }
 
 /// A recorder over a formatted medium of these settings.
-fn make_recorder(alloc: Global, settings: Settings) -> Result<InMemory, Fault> {
+fn make_recorder(alloc: Global, settings: Settings) -> Result<InMemory, BenchFault> {
     let mut medium = make_medium(alloc, settings.blocks())?;
     format(&mut medium, &settings)?;
     let lanes = lanes_of(alloc, settings.channels())?;
     match Recorder::new(alloc, settings, medium, lanes) {
         Ok(recorder) => Ok(recorder),
-        Err(_) => Err(Fault::Memory(AllocError)),
+        Err(_) => Err(BenchFault::Memory(AllocError)),
     }
 }
 
@@ -128,7 +128,7 @@ pub(crate) fn begin(
     messages: u32,
     bytes: u16,
     number: usize,
-) -> Result<InMemory, Fault> {
+) -> Result<InMemory, BenchFault> {
     let settings = settings_for(alloc, messages, bytes, number)?;
     let mut recorder = make_recorder(alloc, settings)?;
     recorder.mount()?;

@@ -1,8 +1,8 @@
 //! How long a replay through the public recorder takes: what a cursor gives, entry by entry, in processor time. A closed file is
-//! replayed in one instalment, and the check of it, which judges it whole where it is read first, is timed by itself; a file that is
-//! recorded is replayed behind each commit.
+//! replayed in one instalment, and the check of it, which judges it whole where it is read first, is timed by itself; a file that
+//! is recorded is replayed behind each commit.
 
-use crate::fault::Fault;
+use crate::fault::BenchFault;
 use crate::figures::a_second;
 use crate::mounted::{InMemory, begin};
 use crate::whole::{LENGTH, NUMBER, TEXT, make_round, record, rounds};
@@ -52,7 +52,7 @@ fn open(alloc: Global, recorder: &mut InMemory) -> Result<Cursor, Refusal> {
 /// Takes what a cursor has yet to give, and answers how many entries that was.
 fn take_all(cursor: &mut Cursor) -> u64 {
     let mut taken = 0u64;
-    for _ in 0..cursor.left() {
+    for _ in 0..cursor.queue_len() {
         if cursor.next().is_some() {
             taken = taken.wrapping_add(1);
         }
@@ -66,7 +66,7 @@ fn take_instalment<R: CpuClock>(
     recorder: &mut InMemory,
     cursor: &mut Cursor,
     figures: &mut ReplayFigures,
-) -> Result<u64, Fault> {
+) -> Result<u64, BenchFault> {
     let start = rt.thread_cpu_time()?;
     recorder.advance(cursor)?;
     let middle = rt.thread_cpu_time()?;
@@ -81,14 +81,14 @@ pub(crate) fn run<R: CpuClock>(
     alloc: Global,
     mut recorder: InMemory,
     least: u64,
-) -> Result<ReplayFigures, Fault> {
+) -> Result<ReplayFigures, BenchFault> {
     let mut figures = ReplayFigures::default();
     let start = rt.thread_cpu_time()?;
     let mut cursor = open(alloc, &mut recorder)?;
     figures.checking = rt.thread_cpu_time()?.saturating_sub(start);
     let taken = take_instalment(rt, &mut recorder, &mut cursor, &mut figures)?;
     if taken < least {
-        return Err(Fault::Lost);
+        return Err(BenchFault::Lost);
     }
     Ok(figures)
 }
@@ -98,7 +98,7 @@ pub(crate) fn follow<R: CpuClock>(
     rt: &R,
     alloc: Global,
     number: u32,
-) -> Result<ReplayFigures, Fault> {
+) -> Result<ReplayFigures, BenchFault> {
     let mut figures = ReplayFigures::default();
     let mut recorder = begin(alloc, number, LENGTH, NUMBER)?;
     let mut cursor = open(alloc, &mut recorder)?;
@@ -112,7 +112,7 @@ pub(crate) fn follow<R: CpuClock>(
     recorder.commit()?;
     take_instalment(rt, &mut recorder, &mut cursor, &mut figures)?;
     if figures.entries < u64::from(number) {
-        return Err(Fault::Lost);
+        return Err(BenchFault::Lost);
     }
     Ok(figures)
 }
@@ -125,7 +125,8 @@ impl fmt::Display for ReplayFigures {
         let rate = a_second(entries, self.advancing.saturating_add(self.giving));
         writeln!(
             f,
-            "replay: {entries} entries in {instalments} instalments, advance {advancing} us, next {giving} us {rate:>12} entries/s; the file is checked in {checking} us"
+            "replay: {entries} entries in {instalments} instalments, advance {advancing} us, next {giving} us {rate:>12} \
+            entries/s; the file is checked in {checking} us"
         )
     }
 }

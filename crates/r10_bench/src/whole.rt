@@ -1,7 +1,7 @@
 //! How long a recording through the public recorder takes: offers, pumps, commits and the stop, in processor time. Making the
 //! messages, and beginning the file, is not timed.
 
-use crate::fault::Fault;
+use crate::fault::BenchFault;
 use crate::figures::a_second;
 use crate::messages::make;
 use crate::mounted::{CHANNELS, InMemory, WAITING, begin, channel_of};
@@ -106,7 +106,7 @@ pub(crate) fn run<R: CpuClock>(
     number: u32,
     length: u16,
     text: &[u8],
-) -> Result<(WholeFigures, InMemory), Fault> {
+) -> Result<(WholeFigures, InMemory), BenchFault> {
     let mut figures = WholeFigures {
         length,
         ..WholeFigures::default()
@@ -127,7 +127,7 @@ pub(crate) fn run<R: CpuClock>(
     let stopped = recorder.stop_file()?;
     let time = rt.thread_cpu_time()?.saturating_sub(start);
     if stopped.left > 0 {
-        return Err(Fault::Lost);
+        return Err(BenchFault::Lost);
     }
     figures.recording = figures.recording.saturating_add(time);
     figures.bytes = size_of_file(&recorder)?;
@@ -142,7 +142,8 @@ impl fmt::Display for WholeFigures {
         let rate = a_second(messages, self.recording);
         writeln!(
             f,
-            "recorder: {messages} messages of {length} bytes, checksum 16, {commits} commits: a file of {bytes} bytes, {micros} us {rate:>12} messages/s"
+            "recorder: {messages} messages of {length} bytes, checksum 16, {commits} commits: a file of {bytes} bytes, {micros} \
+            us {rate:>12} messages/s"
         )
     }
 }

@@ -7,5 +7,6 @@ ghost use Rattle.r10_blockout.specs.Bytes.{bytes_of};
 
 /// Of a file that the medium shows, any run is read as the file has it.
 pub fn shown_run()
-    ensures { (image : Image) (first : ℕ) (bytes : List ℕ) (offset size : ℕ) → Shows image first bytes → offset + size ≤ length bytes → bytes_of image first offset size ≡ take size (drop offset bytes) }
+    ensures { (image : Image) (first : ℕ) (bytes : List ℕ) (offset size : ℕ) → Shows image first bytes
+        → offset + size ≤ length bytes → bytes_of image first offset size ≡ take size (drop offset bytes) }
 {}

@@ -2,7 +2,8 @@
 
 ghost use Rattle.std.specs.Prelude.{◌≡◌, ◌==◌};
 ghost use Rattle.std.specs.List.{list_any};
-ghost use Rattle.r10_body.specs.Foreign.{is_loss_report as loss_reports, known_types, selects_other as word_selects, is_opaque_packet as opaque};
+ghost use Rattle.r10_body.specs.Foreign.{is_loss_report as loss_reports, known_types, selects_other as word_selects};
+ghost use Rattle.r10_body.specs.Foreign.{is_opaque_packet as opaque};
 
 use r10_event::EventBody;
 use r10_indexbody::LossBody;

@@ -1,5 +1,5 @@
-//! Whether entries are the same. The derived `==` goes by the definitions of equality of an entry's parts; of these a contract says that they
-//! answer yes for the same entries and for no others.
+//! Whether entries are the same. The derived `==` goes by the definitions of equality of an entry's parts; of these a contract says
+//! that they answer yes for the same entries and for no others.
 
 ghost use Rattle.std.specs.Prelude.{◌≡◌, ◌↔◌, IsTrue, take};
 

@@ -11,6 +11,8 @@ ghost use Rattle.r10_builder.specs.declared.closed.Closed.{Closed as ClosedValue
 /// Framed with a sequence number, header and body of what was handed out are the packet with this
 /// number that says the samples.
 pub fn handed_out_frames()
-    ensures { (spec : ChannelSpecValue) (samples : List SampleValue) (closed : ClosedValue) (closes : IsClosedPacket spec samples closed) (number : ℕ)
-        → framed_bytes (record closed.header { sequence = number }) closed.body.items ≡ packet_bytes (record closes.packet { sequence = number }) }
+    ensures { (spec : ChannelSpecValue) (samples : List SampleValue)
+        (closed : ClosedValue) (closes : IsClosedPacket spec samples closed) (number : ℕ)
+        → framed_bytes (record closed.header { sequence = number }) closed.body.items
+        ≡ packet_bytes (record closes.packet { sequence = number }) }
 {}

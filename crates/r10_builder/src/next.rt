@@ -16,14 +16,17 @@ ghost use Rattle.r10_body.specs.declared.entry.Sample.{Sample};
 ghost use Rattle.r10_body.specs.declared.spec.ChannelSpec.{ChannelSpec};
 ghost use Rattle.r10_builder.specs.Packing.{IsClosedPacket, first_count};
 ghost use Rattle.r10_builder.specs.declared.closed.Closed.{Closed};
-ghost use Rattle.r10_builder.specs.Next.{ChannelGoesOn, IsGrowing, event_packet, report_packet, reporting, setup_packet, time_packet};
+ghost use Rattle.r10_builder.specs.Next.{ChannelGoesOn, IsGrowing, event_packet};
+ghost use Rattle.r10_builder.specs.Next.{report_packet, reporting, setup_packet, time_packet};
 ghost use Rattle.r10_body.specs.Sequence.{numbered};
 
 /// What a builder hands out may come next, with its channel's next number, behind its report where a number is told of
 /// what was lost before it.
 pub fn handed_out_may_follow()
-    ensures { (packets : List Packet) (spec : ChannelSpec) (samples : List Sample) (closed : Closed) (closes : IsClosedPacket spec samples closed)
-        → IsGrowing packets → ChannelGoesOn packets spec.id (kind_type spec.kind) (first_count samples) → MayFollow (reporting packets closes.packet) (numbered (reporting packets closes.packet) closes.packet) }
+    ensures { (packets : List Packet) (spec : ChannelSpec) (samples : List Sample)
+        (closed : Closed) (closes : IsClosedPacket spec samples closed)
+        → IsGrowing packets → ChannelGoesOn packets spec.id (kind_type spec.kind) (first_count samples)
+        → MayFollow (reporting packets closes.packet) (numbered (reporting packets closes.packet) closes.packet) }
 {}
 
 /// The report of a loss may come next, with the counter of the last time packet.
@@ -57,7 +60,10 @@ pub fn file_begins()
 
 /// A file that grows by a packet that may come next and is no report goes on growing, and at each moment it is a file.
 pub fn one_more_grows()
-    ensures more { (packets : List Packet) (p : Packet) → IsGrowing packets → MayFollow packets p → is_index p ≡ false → is_report_packet p ≡ false → IsGrowing (packets ++ p ∷ []) }
-    ensures file { (packets : List Packet) (text : List ℕ) (entries : List Entry) → IsGrowing packets → map (λ p. p.content) (take 1 packets) ≡ setup text ∷ []
-        → ((channel : ℕ) → on_channel channel (file_entries packets) ≡ on_channel channel entries) → PacketsSay packets text entries false }
+    ensures more { (packets : List Packet) (p : Packet) → IsGrowing packets → MayFollow packets p → is_index p ≡ false
+        → is_report_packet p ≡ false → IsGrowing (packets ++ p ∷ []) }
+    ensures file { (packets : List Packet) (text : List ℕ) (entries : List Entry)
+        → IsGrowing packets → map (λ p. p.content) (take 1 packets) ≡ setup text ∷ []
+        → ((channel : ℕ) → on_channel channel (file_entries packets) ≡ on_channel channel entries)
+        → PacketsSay packets text entries false }
 {}

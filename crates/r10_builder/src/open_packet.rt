@@ -37,7 +37,8 @@ impl OpenPacket {
 pub(crate) fn count_in(place: &mut Option<OpenPacket>, packet: &OpenPacket, count: Count)
     requires is { place.old ≡ Some packet.now }
     requires few { packet.now.number + 1 < 2 ^ 64 }
-    ensures { place.new ≡ Some (record { first = packet.now.first; last = count; number = packet.now.number + 1; gap = packet.now.gap }) }
+    ensures { place.new
+        ≡ Some (record { first = packet.now.first; last = count; number = packet.now.number + 1; gap = packet.now.gap }) }
 {
     if let Some(open) = place {
         open.last = count;

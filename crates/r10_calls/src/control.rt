@@ -37,8 +37,8 @@ impl<M: BlockMedium> Desk<M> {
         number_of(&reply)
     }
 
-    /// Begins a file with a name of 1 to 56 letters, digits, `.`, `_` and `-`, and a setup text of at most 524,260 bytes: 0, or 1, 2, 4, 9,
-    /// 14, 15, 16, 18, 23, 25, 28, 30.
+    /// Begins a file with a name of 1 to 56 letters, digits, `.`, `_` and `-`, and a setup text of at most 524,260 bytes: 0, or 1,
+    /// 2, 4, 9, 14, 15, 16, 18, 23, 25, 28, 30.
     pub fn start(&mut self, name: &[u8], setup: &[u8]) -> u32
         ensures { DoesEvent M.disk self.old (events.Start name.now setup.now) (λ reply. result ≡ number_of reply) self.new }
     {

@@ -33,7 +33,8 @@ impl<M: BlockMedium> Desk<M> {
         sub: u16,
         bytes: &[u8],
     ) -> u32
-        ensures { DoesEvent M.disk self.old (events.Offer channel count (messages.Uart parity sub bytes.now)) (λ reply. result ≡ number_of reply) self.new }
+        ensures { DoesEvent M.disk self.old (events.Offer channel count (messages.Uart parity sub bytes.now))
+            (λ reply. result ≡ number_of reply) self.new }
     {
         let Ok(bytes) = Bytes::copy_of(self.alloc, bytes) else {
             return OUT_OF_MEMORY;
@@ -50,7 +51,8 @@ impl<M: BlockMedium> Desk<M> {
         gap: u16,
         words: &[u16],
     ) -> u32
-        ensures { DoesEvent M.disk self.old (events.Offer channel count (messages.Bus1553 status gap words.now)) (λ reply. result ≡ number_of reply) self.new }
+        ensures { DoesEvent M.disk self.old (events.Offer channel count (messages.Bus1553 status gap words.now))
+            (λ reply. result ≡ number_of reply) self.new }
     {
         let Ok(words) = Vec::from_slice(self.alloc, words) else {
             return OUT_OF_MEMORY;
@@ -70,7 +72,8 @@ impl<M: BlockMedium> Desk<M> {
         high: bool,
         word: u32,
     ) -> u32
-        ensures { DoesEvent M.disk self.old (events.Offer channel count (messages.Arinc bus format parity high word)) (λ reply. result ≡ number_of reply) self.new }
+        ensures { DoesEvent M.disk self.old (events.Offer channel count (messages.Arinc bus format parity high word))
+            (λ reply. result ≡ number_of reply) self.new }
     {
         let message = Message::Arinc {
             bus,
@@ -84,7 +87,8 @@ impl<M: BlockMedium> Desk<M> {
 
     /// The states of a channel's discretes, a bit for each.
     pub fn offer_discrete(&mut self, channel: u16, count: u64, states: u32) -> u32
-        ensures { DoesEvent M.disk self.old (events.Offer channel count (messages.Discrete states)) (λ reply. result ≡ number_of reply) self.new }
+        ensures { DoesEvent M.disk self.old (events.Offer channel count (messages.Discrete states))
+            (λ reply. result ≡ number_of reply) self.new }
     {
         self.offer(channel, count, Message::Discrete { states })
     }
@@ -99,7 +103,8 @@ impl<M: BlockMedium> Desk<M> {
         sub: u16,
         bytes: &[u8],
     ) -> u32
-        ensures { DoesEvent M.disk self.old (events.Offer channel count (messages.Message data_error format sub bytes.now)) (λ reply. result ≡ number_of reply) self.new }
+        ensures { DoesEvent M.disk self.old (events.Offer channel count (messages.Message data_error format sub bytes.now))
+            (λ reply. result ≡ number_of reply) self.new }
     {
         let Ok(bytes) = Bytes::copy_of(self.alloc, bytes) else {
             return OUT_OF_MEMORY;

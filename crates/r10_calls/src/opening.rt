@@ -18,7 +18,8 @@ use r10_text::ScriptFault;
 use r10_world::World;
 use std::alloc::Global;
 
-/// The settings of a script of so many blocks, or 30, 40 where it is none, or 41 where it has another number of blocks. Its steps are not done.
+/// The settings of a script of so many blocks, or 30, 40 where it is none, or 41 where it has another number of blocks. Its steps
+/// are not done.
 fn settings_of(alloc: Global, script: &[u8], blocks: usize) -> Result<Settings, u32>
     ensures settings { IfOk result (λ s. IsSettings script.now s × (blocks ≡ s.blocks)) }
     ensures refused { IfErr result (λ n. (n ≡ 30) ⊎ (n ≡ 40) ⊎ (n ≡ 41)) }
@@ -37,8 +38,8 @@ fn settings_of(alloc: Global, script: &[u8], blocks: usize) -> Result<Settings, 
     }
 }
 
-/// Writes the directory of a medium without files, as the settings of this script say: 0, or 28 where the medium failed, 30, 40 where the script
-/// can't be taken, or 41 where the medium has another number of blocks.
+/// Writes the directory of a medium without files, as the settings of this script say: 0, or 28 where the medium failed, 30, 40
+/// where the script can't be taken, or 41 where the medium has another number of blocks.
 pub fn format<M: BlockMedium>(alloc: Global, medium: &mut M, script: &[u8]) -> u32
     ensures formats { result ≡ 0 → FormatsByScript script.now (M.disk medium.new) }
     ensures over { result ≡ 0 → FormatsOver script.now (M.disk medium.old).blocks (M.disk medium.new) }
@@ -56,8 +57,9 @@ pub fn format<M: BlockMedium>(alloc: Global, medium: &mut M, script: &[u8]) -> u
     }
 }
 
-/// A recorder with the settings of this script over the medium, not mounted, and without readers; and of each of its channels, that no message
-/// was accepted. Its number is 30, 40 where the script can't be taken, or 41 where the medium has another number of blocks.
+/// A recorder with the settings of this script over the medium, not mounted, and without readers; and of each of its channels, that
+/// no message was accepted. Its number is 30, 40 where the script can't be taken, or 41 where the medium has another number of
+/// blocks.
 pub fn open<M: BlockMedium + Drop>(
     alloc: Global,
     medium: M,

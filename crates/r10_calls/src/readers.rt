@@ -14,7 +14,8 @@ use r10_machine::Event;
 use r10_medium::BlockMedium;
 
 impl<M: BlockMedium> Desk<M> {
-    /// Opens a cursor on a file, for these channels, or all where there are none, and counts from `from` to `to`: 0, or 1, 2, 10, 19, 27, 28, 30.
+    /// Opens a cursor on a file, for these channels, or all where there are none, and counts from `from` to `to`: 0, or 1, 2, 10,
+    /// 19, 27, 28, 30.
     pub fn cursor(
         &mut self,
         file: usize,
@@ -23,7 +24,8 @@ impl<M: BlockMedium> Desk<M> {
         to: u64,
         id: &mut usize,
     ) -> u32
-        ensures { DoesEvent M.disk self.old (events.Cursor file channels.now from to) (λ reply. (result ≡ number_of reply) × (id.new ≡ cursor_in reply id.old)) self.new }
+        ensures { DoesEvent M.disk self.old (events.Cursor file channels.now from to)
+            (λ reply. (result ≡ number_of reply) × (id.new ≡ cursor_in reply id.old)) self.new }
     {
         let Ok(channels) = Vec::from_slice(self.alloc, channels) else {
             return OUT_OF_MEMORY;
@@ -41,15 +43,16 @@ impl<M: BlockMedium> Desk<M> {
 
     /// Queues a cursor's next instalment, and says how many entries: 0, or 1, 2, 20, 21, 22, 27, 28, 30.
     pub fn advance(&mut self, id: usize, queued: &mut usize) -> u32
-        ensures { DoesEvent M.disk self.old (events.Advance id) (λ reply. (result ≡ number_of reply) × (queued.new ≡ queued_in reply queued.old)) self.new }
+        ensures { DoesEvent M.disk self.old (events.Advance id)
+            (λ reply. (result ≡ number_of reply) × (queued.new ≡ queued_in reply queued.old)) self.new }
     {
         let reply = self.tell(Event::Advance { id });
         *queued = queued_in(&reply, *queued);
         number_of(&reply)
     }
 
-    /// Takes the first entry of a cursor's queue, if there is one: 0, or 21, 30, or 42 where there is room for fewer than 65,535 bytes or 36
-    /// words; then nothing is taken.
+    /// Takes the first entry of a cursor's queue, if there is one: 0, or 21, 30, or 42 where there is room for fewer than 65,535
+    /// bytes or 36 words; then nothing is taken.
     pub fn next(
         &mut self,
         id: usize,
@@ -58,9 +61,11 @@ impl<M: BlockMedium> Desk<M> {
         bytes: &mut [u8],
         words: &mut [u16],
     ) -> u32
-        ensures does { 65_535 ≤ length bytes.old → 36 ≤ length words.old → DoesEvent M.disk self.old (events.Next id) (λ reply. (result ≡ number_of reply)
+        ensures does { 65_535 ≤ length bytes.old → 36 ≤ length words.old
+            → DoesEvent M.disk self.old (events.Next id) (λ reply. (result ≡ number_of reply)
             × (lent there.new out.new bytes.new words.new ≡ next_out reply (lent there.old out.old bytes.old words.old))) self.new }
-        ensures room { (length bytes.old < 65_535) ⊎ (length words.old < 36) → (result ≡ 42) × (self.new ≡ self.old) × (lent there.new out.new bytes.new words.new ≡ lent there.old out.old bytes.old words.old) }
+        ensures room { (length bytes.old < 65_535) ⊎ (length words.old < 36) → (result ≡ 42) × (self.new ≡ self.old)
+            × (lent there.new out.new bytes.new words.new ≡ lent there.old out.old bytes.old words.old) }
     {
         if bytes.len() < MOST_BYTES || words.len() < MOST_WORDS {
             return ROOM;
@@ -78,8 +83,8 @@ impl<M: BlockMedium> Desk<M> {
         number_of(&reply)
     }
 
-    /// Finds the first shown entry of a channel with at least this count, and its number on the channel from 0: 0, or 1, 2, 10, 19, 27, 28, 30,
-    /// or 42 as `next`.
+    /// Finds the first shown entry of a channel with at least this count, and its number on the channel from 0: 0, or 1, 2, 10, 19,
+    /// 27, 28, 30, or 42 as `next`.
     pub fn find(
         &mut self,
         file: usize,
@@ -91,9 +96,12 @@ impl<M: BlockMedium> Desk<M> {
         bytes: &mut [u8],
         words: &mut [u16],
     ) -> u32
-        ensures does { 65_535 ≤ length bytes.old → 36 ≤ length words.old → DoesEvent M.disk self.old (events.Find file channel count) (λ reply. (result ≡ number_of reply)
-            × (number.new ≡ place_in reply number.old) × (lent there.new out.new bytes.new words.new ≡ found_in reply (lent there.old out.old bytes.old words.old))) self.new }
-        ensures room { (length bytes.old < 65_535) ⊎ (length words.old < 36) → (result ≡ 42) × (self.new ≡ self.old) × (number.new ≡ number.old)
+        ensures does { 65_535 ≤ length bytes.old → 36 ≤ length words.old
+            → DoesEvent M.disk self.old (events.Find file channel count) (λ reply. (result ≡ number_of reply)
+            × (number.new ≡ place_in reply number.old)
+            × (lent there.new out.new bytes.new words.new ≡ found_in reply (lent there.old out.old bytes.old words.old))) self.new }
+        ensures room { (length bytes.old < 65_535) ⊎ (length words.old < 36)
+            → (result ≡ 42) × (self.new ≡ self.old) × (number.new ≡ number.old)
             × (lent there.new out.new bytes.new words.new ≡ lent there.old out.old bytes.old words.old) }
     {
         if bytes.len() < MOST_BYTES || words.len() < MOST_WORDS {
@@ -111,7 +119,8 @@ impl<M: BlockMedium> Desk<M> {
 
     /// The count at a civil time, by the last shown time entry that isn't later, if there is one: 0, or 1, 2, 13, 19, 27, 28, 30.
     pub fn count_at(&mut self, file: usize, parts: Parts, there: &mut bool, count: &mut u64) -> u32
-        ensures { DoesEvent M.disk self.old (events.CountAt file parts) (λ reply. (result ≡ number_of reply) × (there.new ≡ is_count_in reply there.old) × (count.new ≡ count_in reply count.old)) self.new }
+        ensures { DoesEvent M.disk self.old (events.CountAt file parts) (λ reply. (result ≡ number_of reply)
+            × (there.new ≡ is_count_in reply there.old) × (count.new ≡ count_in reply count.old)) self.new }
     {
         let reply = self.tell(Event::CountAt { file, parts });
         *there = is_count_in(&reply, *there);

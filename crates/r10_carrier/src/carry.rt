@@ -14,7 +14,7 @@ pub struct Carry {
 
 impl Carry {
     /// What the offer answered: 0 where a sample was carried.
-    pub fn offered(self) -> u32
+    pub fn offer_status(self) -> u32
         ensures { result ≡ cond self.carried 0 1 }
     {
         if self.carried { 0 } else { 1 }

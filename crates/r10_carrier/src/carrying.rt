@@ -5,7 +5,7 @@ ghost use Rattle.r10_ends.specs.Ends.{OutletGoes};
 ghost use Rattle.r10_carrier.specs.Carrying.{Carries, CarriesFirst, CarriesNext, CarriesSample, Reaches, in_hand, no_lane, why_not};
 
 use crate::carry::Carry;
-use crate::telling::{NO_CHANNEL, tell_sample};
+use crate::sample_events::{NO_CHANNEL, tell_sample};
 use r10_body::{ChannelSpec, Sample};
 use r10_calls::{ChannelOut, Desk};
 use r10_ends::{Carrier, OutletEnd};

@@ -5,7 +5,7 @@
 mod carry;
 mod carrying;
 mod opening;
-mod telling;
+mod sample_events;
 
 pub use carry::Carry;
 pub use carrying::carry_one;

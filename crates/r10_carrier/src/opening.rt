@@ -5,7 +5,7 @@ ghost use Rattle.r10_ends.specs.Ends.{IsOpenOne};
 ghost use Rattle.r10_carrier.specs.Opening.{LacksChannel, OpensLane, place_of};
 ghost use Rattle.r10_calls.specs.Opening.{IsSettings};
 
-use crate::telling::NO_CHANNEL;
+use crate::sample_events::NO_CHANNEL;
 use r10_body::ChannelSpec;
 use r10_ends::{OutletEnd, PortEnd, open_ends};
 use r10_machine::Settings;

@@ -9,11 +9,11 @@ use Rattle.r10_dirblock.specs.Block.{has_room_for_size}
 use Rattle.r10_dirchain.specs.Chain.{HoldsBlock, IsDirectory}
 use Rattle.r10_dirchain.specs.Mount.{listed, listed_in}
 use Rattle.r10_dirchain.specs.declared.chain.ChainBlock.{ChainBlock}
-use Rattle.r10_dirchain.specs.declared.chain.Listed.{Listed}
+use Rattle.r10_dirchain.specs.declared.chain.ListedFile.{ListedFile}
 use Rattle.r10_dirchain.proofs.Standing.{each_of}
 use Rattle.r10_checker.specs.Place.{inside_rule, inside_rules, is_inside, IsPlaced}
 
-abbrev HasRoom : Listed → Type 0
+abbrev HasRoom : ListedFile → Type 0
 HasRoom f = has_room_for_size f.entry ≡ true
 
 -- the blocks of each file have room for its bytes
@@ -25,11 +25,11 @@ rooms image (b ∷ chain) all =
     (rooms image chain (All-tail (HoldsBlock image) b chain all))
 
 -- so the bytes of a file lie inside where its blocks do
-pub placed : (image : Image) (f : Listed) → HasRoom f → is_inside (length image) f.entry ≡ true → IsPlaced image f
+pub placed : (image : Image) (f : ListedFile) → HasRoom f → is_inside (length image) f.entry ≡ true → IsPlaced image f
 placed image f room inside =
     omega (arith, leb-true f.entry.size (512 * f.entry.block_count) room, leb-true (f.entry.first_block + f.entry.block_count) (length image) inside)
 
-each_placed : (image : Image) (fs : List Listed) → All HasRoom fs → All (λ f. is_inside (length image) f.entry ≡ true) fs → All (IsPlaced image) fs
+each_placed : (image : Image) (fs : List ListedFile) → All HasRoom fs → All (λ f. is_inside (length image) f.entry ≡ true) fs → All (IsPlaced image) fs
 each_placed image [] room inside = All-nil (IsPlaced image)
 each_placed image (f ∷ fs) room inside =
     All-cons (IsPlaced image) f fs
@@ -40,6 +40,6 @@ pub all_placed : (image : Image) (chain : List ChainBlock) → IsDirectory image
 all_placed image chain directory inside = each_placed image (listed chain) (rooms image chain directory.holds) (each_of (inside_rule (length image)) (listed chain) inside)
 
 -- what is found of the files that are listed holds of the directory
-pub found_of : (found : Option ℕ) (blocks : ℕ) (read image : Image) (seen items : List Listed) (chain : List ChainBlock) → found ≡ first_broken (map (inside_rule blocks) seen)
+pub found_of : (found : Option ℕ) (blocks : ℕ) (read image : Image) (seen items : List ListedFile) (chain : List ChainBlock) → found ≡ first_broken (map (inside_rule blocks) seen)
     → blocks ≡ length read → read ≡ image → seen ≡ items → items ≡ listed chain → first_broken (inside_rules (length image) chain) ≡ found
 found_of found blocks read image seen items chain is many same here all = sym (is ∙ rw (many, same, here, all) refl)

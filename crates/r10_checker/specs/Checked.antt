@@ -8,7 +8,7 @@ use Rattle.r10_dirchain.specs.Bad.{IsBad}
 use Rattle.r10_dirchain.specs.Chain.{IsDirectory}
 use Rattle.r10_dirchain.specs.Mount.{listed}
 use Rattle.r10_dirchain.specs.declared.chain.ChainBlock.{ChainBlock}
-use Rattle.r10_dirchain.specs.declared.chain.Listed.{Listed}
+use Rattle.r10_dirchain.specs.declared.chain.ListedFile.{ListedFile}
 use Rattle.r10_body.specs.declared.refusal.Refusal.{Refusal}
 use Rattle.r10_body.specs.declared.refusal.Refusal.TheVariants.{BadDirectory, Medium, OutOfMemory}
 use Rattle.r10_checker.specs.Verdict.{IsVerdict}
@@ -16,7 +16,7 @@ use Rattle.r10_checker.specs.Place.{bytes_on, inside_rules}
 use Rattle.r10_checker.specs.declared.media.FileVerdict.{FileVerdict}
 
 -- the file's name without its padding, and the verdict on its bytes
-pub record IsFileVerdict (image : Image) (f : Listed) (said : FileVerdict) : Type 0 where
+pub record IsFileVerdict (image : Image) (f : ListedFile) (said : FileVerdict) : Type 0 where
   pub name : said.name.items ≡ stripped f.entry.name
   pub verdict : IsVerdict (bytes_on image f.entry) said.verdict
 

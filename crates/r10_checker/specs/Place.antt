@@ -5,14 +5,14 @@ use Rattle.r10_medium.specs.Disk.{Image}
 use Rattle.r10_dirblock.specs.declared.entry.Entry.{Entry}
 use Rattle.r10_dirchain.specs.Mount.{listed}
 use Rattle.r10_dirchain.specs.declared.chain.ChainBlock.{ChainBlock}
-use Rattle.r10_dirchain.specs.declared.chain.Listed.{Listed}
+use Rattle.r10_dirchain.specs.declared.chain.ListedFile.{ListedFile}
 
 -- the file's blocks lie inside a medium of so many
 abbrev pub is_inside : ℕ → Entry → Bool
 is_inside blocks e = nat_le (e.first_block + e.block_count) blocks
 
 -- that they do, and the block at fault where they don't: the one that lists the file
-abbrev pub inside_rule : ℕ → Listed → Bool × ℕ
+abbrev pub inside_rule : ℕ → ListedFile → Bool × ℕ
 inside_rule blocks f = (is_inside blocks f.entry, f.number)
 
 -- the same of each file of a directory, in order
@@ -24,5 +24,5 @@ abbrev pub bytes_on : Image → Entry → List ℕ
 bytes_on image e = bytes_from image e.first_block e.size
 
 -- the file's bytes lie inside the medium
-abbrev pub IsPlaced : Image → Listed → Type 0
+abbrev pub IsPlaced : Image → ListedFile → Type 0
 IsPlaced image f = 512 * f.entry.first_block + f.entry.size ≤ 512 * length image

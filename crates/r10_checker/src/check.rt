@@ -9,7 +9,7 @@ ghost use Rattle.r10_checker.specs.declared.check.Verdict.TheVariants as verdict
 use crate::verdict::walked_verdict;
 use r10_body::FileFault;
 use r10_judge::{Judge, walk_bytes};
-use r10_packet_rules::{Fault, ForeignTrack};
+use r10_packet_rules::{FirstFault, ForeignTrack};
 use std::alloc::{AllocError, Global};
 
 /// What is said of a file.
@@ -35,7 +35,8 @@ pub fn check_file(alloc: Global, bytes: &[u8]) -> Result<Verdict, AllocError>
 
 /// The verdict on a file that ends here, by its packets, whoever wrote them, and by the rules that they keep.
 pub fn end_verdict(track: &ForeignTrack, judge: &Judge) -> Verdict
-    ensures { (bytes : List ℕ) → TracksForeign track.now bytes → TracksJudged judge.now bytes → judge.now.closed ≡ true → IsVerdict bytes result }
+    ensures { (bytes : List ℕ) → TracksForeign track.now bytes → TracksJudged judge.now bytes
+        → judge.now.closed ≡ true → IsVerdict bytes result }
 {
     match track.end() {
         Err(at) => faulty(&at),
@@ -49,7 +50,7 @@ pub fn end_verdict(track: &ForeignTrack, judge: &Judge) -> Verdict
     }
 }
 
-fn faulty(at: &Fault) -> Verdict
+fn faulty(at: &FirstFault) -> Verdict
     ensures { result ≡ verdicts.Faulty at.now.offset at.now.fault }
 {
     Verdict::Faulty {

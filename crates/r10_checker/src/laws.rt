@@ -8,6 +8,7 @@ ghost use Rattle.r10_body.specs.Foreign.{IsForeignFile};
 
 /// A file has one verdict; a strict one would be lenient too, with no opaque packet.
 pub fn one_verdict()
-    ensures one { (bytes : List ℕ) (verdict : VerdictValue) (other : VerdictValue) → IsVerdict bytes verdict → IsVerdict bytes other → verdict ≡ other }
+    ensures one { (bytes : List ℕ) (verdict : VerdictValue) (other : VerdictValue) → IsVerdict bytes verdict
+        → IsVerdict bytes other → verdict ≡ other }
     ensures strict { (bytes : List ℕ) → IsStrict bytes → IsForeignFile bytes 0 }
 {}

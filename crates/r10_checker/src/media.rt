@@ -12,7 +12,7 @@ use crate::place::{extent_of, first_outside};
 use crate::verdict::walked_verdict;
 use r10_blockout::ReadFault;
 use r10_body::Refusal;
-use r10_dirchain::{ChainError, Listed, read_chain};
+use r10_dirchain::{ChainError, ListedFile, read_chain};
 use r10_judge::walk_file;
 use r10_medium::BlockMedium;
 use std::alloc::Global;
@@ -47,7 +47,7 @@ pub fn check_medium<M: BlockMedium>(
         Err(ChainError::Medium) => return Err(Refusal::Medium),
         Err(ChainError::OutOfMemory) => return Err(Refusal::OutOfMemory),
     };
-    let Ok(files) = directory.listed(alloc) else {
+    let Ok(files) = directory.listing(alloc) else {
         return Err(Refusal::OutOfMemory);
     };
     if let Some(number) = first_outside(&files, medium.blocks()) {
@@ -64,7 +64,7 @@ pub fn check_medium<M: BlockMedium>(
 fn check_files<M: BlockMedium>(
     alloc: Global,
     medium: &mut M,
-    files: &[Listed],
+    files: &[ListedFile],
 ) -> Result<Vec<FileVerdict>, ReadFault>
     requires { All (IsPlaced (M.disk medium.old).blocks) files.now }
     ensures verdicts { IfOk result (λ said. AllZip (IsFileVerdict (M.disk medium.old).blocks) files.now said.items) }
@@ -89,7 +89,7 @@ fn check_files<M: BlockMedium>(
 fn check_listed<M: BlockMedium>(
     alloc: Global,
     medium: &mut M,
-    file: &Listed,
+    file: &ListedFile,
     buffer: &mut Vec<u8>,
 ) -> Result<FileVerdict, ReadFault>
     requires { IsPlaced (M.disk medium.old).blocks file.now }

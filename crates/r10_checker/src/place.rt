@@ -6,7 +6,7 @@ ghost use Rattle.r10_dirblock.specs.Block.{has_room_for_size};
 ghost use Rattle.r10_checker.specs.Place.{inside_rule, is_inside};
 
 use r10_dirblock::Entry;
-use r10_dirchain::Listed;
+use r10_dirchain::ListedFile;
 use r10_judge::Extent;
 
 /// How many bytes of a file can be read: more than any medium has.
@@ -20,7 +20,7 @@ pub fn is_inside(entry: &Entry, blocks: usize) -> bool
 }
 
 /// The number of the block that lists the first file which does not lie inside a medium of so many blocks.
-pub(crate) fn first_outside(files: &[Listed], blocks: usize) -> Option<u64>
+pub(crate) fn first_outside(files: &[ListedFile], blocks: usize) -> Option<u64>
     ensures { result ≡ first_broken (map (inside_rule blocks) files.now) }
 {
     for file in files {

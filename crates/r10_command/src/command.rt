@@ -17,10 +17,10 @@ use std::alloc::Global;
 use std::io::{BufWriter, Read, Write};
 
 /// Runs the command that the words name, the program's own name first, and answers the exit status: 0, 1 where an image
-/// refused it or a recording is faulty, 2 for wrong words or a wrong script, 3 for want of memory and for what can't be read or written.
-/// A fault goes to `faults`, as one line; with 0 and 1 nothing goes there, and nothing is left in the writer's buffer: a flush that fails is a
-/// write that failed. With 2 nothing goes to the writer. The reader is called only where the words ask for a command that reads its input, and
-/// wrong words are refused before that.
+/// refused it or a recording is faulty, 2 for wrong words or a wrong script, 3 for want of memory and for what can't be read or
+/// written. A fault goes to `faults`, as one line; with 0 and 1 nothing goes there, and nothing is left in the writer's buffer: a
+/// flush that fails is a write that failed. With 2 nothing goes to the writer. The reader is called only where the words ask for a
+/// command that reads its input, and wrong words are refused before that.
 pub fn run<R: Read, W: Write + Drop, E: Write>(
     alloc: Global,
     words: &[String],
@@ -28,7 +28,8 @@ pub fn run<R: Read, W: Write + Drop, E: Write>(
     writer: &mut BufWriter<W>,
     faults: &mut E,
 ) -> u8
-    ensures does { EndsWithStatus result (DoesCommand (map string_bytes words.now) (R.remaining reader.old) (writer_contents W.contents writer.old) (writer_contents W.contents writer.new)) }
+    ensures does { EndsWithStatus result (DoesCommand (map string_bytes words.now) (R.remaining reader.old)
+        (writer_contents W.contents writer.old) (writer_contents W.contents writer.new)) }
     ensures sent { EndsWithStatus result (λ _. writer_buffer writer.new ≡ []) }
     ensures silent { EndsWithStatus result (λ _. faults.new ≡ faults.old) }
     ensures quiet { result ≡ 2 → writer.new ≡ writer.old }
@@ -57,11 +58,13 @@ fn perform<R: Read, W: Write + Drop>(
     reader: &mut R,
     writer: &mut BufWriter<W>,
 ) -> Result<Outcome, Fault>
-    ensures does { IfOk result (DoesCommand (map string_bytes words.now) (R.remaining reader.old) (writer_contents W.contents writer.old) (writer_contents W.contents writer.new)) }
+    ensures does { IfOk result (DoesCommand (map string_bytes words.now) (R.remaining reader.old)
+        (writer_contents W.contents writer.old) (writer_contents W.contents writer.new)) }
     ensures sent { OnOk result (writer_buffer writer.new ≡ []) }
     ensures quiet { IfErr result (λ fault. fault_status fault ≡ 2 → writer.new ≡ writer.old) }
     ensures unread { (AsksInput (map string_bytes words.now) → ⊥) → reader.new ≡ reader.old }
-    ensures wrong { (AsksScript (map string_bytes words.now) → ⊥) → IfErr result (λ fault. fault_status fault ≡ 2 → reader.new ≡ reader.old) }
+    ensures wrong { (AsksScript (map string_bytes words.now) → ⊥)
+        → IfErr result (λ fault. fault_status fault ≡ 2 → reader.new ≡ reader.old) }
 {
     match read_words(alloc, words) {
         Ok(Asked::Sim) => {
@@ -105,7 +108,8 @@ fn write_medium<W: Write + Drop>(
     format: &FormatWords,
     writer: &mut BufWriter<W>,
 ) -> Result<(), Fault>
-    ensures image { OnOk result (WritesFormatted format.now (writer_contents W.contents writer.old) (writer_contents W.contents writer.new)) }
+    ensures image { OnOk result
+        (WritesFormatted format.now (writer_contents W.contents writer.old) (writer_contents W.contents writer.new)) }
     ensures sent { OnOk result (writer_buffer writer.new ≡ []) }
     ensures quiet { IfErr result (λ fault. fault_status fault ≡ 2 → writer.new ≡ writer.old) }
 {

@@ -102,7 +102,8 @@ impl Fault {
         }
     }
 
-    /// The exit status: 2 for wrong words, values beyond their limits or a wrong script, 3 for want of memory and for what can't be read or written.
+    /// The exit status: 2 for wrong words, values beyond their limits or a wrong script, 3 for want of memory and for what can't be
+    /// read or written.
     pub fn status(&self) -> u8
         ensures value { result ≡ fault_status self.now }
         ensures range { IsFailure result }

@@ -13,14 +13,15 @@ use std::alloc::Global;
 use std::io;
 use std::io::{BufWriter, Read, Write};
 
-/// Reads a script, runs its steps on a fresh medium in memory, and writes the medium's image, block by block. The writer's buffer is flushed.
-/// Of a wrong script nothing is written.
+/// Reads a script, runs its steps on a fresh medium in memory, and writes the medium's image, block by block. The writer's buffer
+/// is flushed. Of a wrong script nothing is written.
 pub fn sim_image<R: Read, W: Write + Drop>(
     alloc: Global,
     reader: &mut R,
     writer: &mut BufWriter<W>,
 ) -> Result<(), Fault>
-    ensures image { OnOk result (IfSome (R.remaining reader.old) (λ text. WritesLeft text (writer_contents W.contents writer.old) (writer_contents W.contents writer.new))) }
+    ensures image { OnOk result (IfSome (R.remaining reader.old)
+        (λ text. WritesLeft text (writer_contents W.contents writer.old) (writer_contents W.contents writer.new))) }
     ensures sent { OnOk result (writer_buffer writer.new ≡ []) }
     ensures quiet { IfErr result (λ fault. fault_status fault ≡ 2 → writer.new ≡ writer.old) }
 {

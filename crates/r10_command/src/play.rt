@@ -27,7 +27,8 @@ pub fn sim<R: Read, W: Write + Drop>(
     reader: &mut R,
     writer: &mut BufWriter<W>,
 ) -> Result<(), Fault>
-    ensures simulates { OnOk result (IfSome (R.remaining reader.old) (λ text. Simulates text (writer_contents W.contents writer.old) (writer_contents W.contents writer.new))) }
+    ensures simulates { OnOk result (IfSome (R.remaining reader.old)
+        (λ text. Simulates text (writer_contents W.contents writer.old) (writer_contents W.contents writer.new))) }
     ensures sent { OnOk result (writer_buffer writer.new ≡ []) }
     ensures quiet { IfErr result (λ fault. fault_status fault ≡ 2 → writer.new ≡ writer.old) }
 {
@@ -50,15 +51,16 @@ pub(crate) fn script_of(alloc: Global, text: &[u8]) -> Result<Script, Fault>
     }
 }
 
-/// Runs the steps of a script on a fresh medium in memory, which never fails, writes the lines of each reply, and gives the medium back. The
-/// writer is not flushed.
+/// Runs the steps of a script on a fresh medium in memory, which never fails, writes the lines of each reply, and gives the medium
+/// back. The writer is not flushed.
 pub fn run_script<W: Write>(
     alloc: Global,
     settings: Settings,
     events: Vec<Event>,
     writer: &mut W,
 ) -> Result<Memory, Fault>
-    ensures plays { IfOk result (λ medium. PlaysScript settings events.items (memory_disk medium).blocks (W.contents writer.old) (W.contents writer.new)) }
+    ensures plays { IfOk result
+        (λ medium. PlaysScript settings events.items (memory_disk medium).blocks (W.contents writer.old) (W.contents writer.new)) }
     ensures status { IfErr result (λ fault. fault_status fault ≡ 3) }
 {
     let world = run_on_fresh(alloc, settings, events, writer)?;
@@ -72,7 +74,8 @@ pub(crate) fn run_on_fresh<W: Write>(
     events: Vec<Event>,
     writer: &mut W,
 ) -> Result<World<Memory>, Fault>
-    ensures plays { IfOk result (λ world. PlaysScript settings events.items (memory_disk world.recorder.medium).blocks (W.contents writer.old) (W.contents writer.new)) }
+    ensures plays { IfOk result (λ world. PlaysScript settings events.items (memory_disk world.recorder.medium).blocks
+        (W.contents writer.old) (W.contents writer.new)) }
     ensures status { IfErr result (λ fault. fault_status fault ≡ 3) }
 {
     let medium = Memory::new(alloc, settings.blocks())?;
@@ -110,8 +113,8 @@ fn run_steps<M: BlockMedium, W: Write>(
     events: &[Event],
     writer: &mut W,
 ) -> Result<(), Fault>
-    ensures runs { OnOk result ((m : Machine) → WorldStandsFor M.disk world.old m
-        → RunsAndWrites M.disk world.old.recorder.kept.config m events.now world.new (W.contents writer.old) (W.contents writer.new)) }
+    ensures runs { OnOk result ((m : Machine) → WorldStandsFor M.disk world.old m → RunsAndWrites M.disk
+        world.old.recorder.kept.config m events.now world.new (W.contents writer.old) (W.contents writer.new)) }
     ensures config { OnOk result (world.new.recorder.kept.config ≡ world.old.recorder.kept.config) }
     ensures status { IfErr result (λ fault. fault_status fault ≡ 3) }
 {

@@ -5,7 +5,7 @@ use Rattle.r10_dirblock.specs.declared.entry.Entry.{Entry as DirectoryEntry}
 use Rattle.r10_dirchain.specs.Chain.{listed_files}
 use Rattle.r10_dirchain.proofs.Unique.{one_directory}
 use Rattle.r10_dirchain.specs.declared.chain.ChainBlock.{ChainBlock}
-use Rattle.r10_volume.specs.Holding.{HoldsFiles, Open}
+use Rattle.r10_volume.specs.Holding.{HoldsFiles, OpenState}
 use Rattle.r10_machine.specs.Config.{Config}
 use Rattle.r10_body.specs.declared.entry.Entry.{Entry}
 use Rattle.r10_machine.specs.Machine.{File, with_entries}
@@ -49,7 +49,7 @@ kept_behind s old new chain files whole usable same held =
     (listed_keep s.directory old new chain whole usable same)
 
 -- a file is recorded, and its calls leave the bytes of all files
-pub kept_recorded : (k : Kept) (old new : Image) (before : ℕ) (chain : List ChainBlock) (o : Open) → k.work ≡ recording chain o
+pub kept_recorded : (k : Kept) (old new : Image) (before : ℕ) (chain : List ChainBlock) (o : OpenState) → k.work ≡ recording chain o
     → ((files : List File) (f : File) → HoldsFiles k.config old chain (Some o) (files ++ f ∷ []) → KeepBytes old new (files ++ f ∷ [])) → MachinesKeepShown k old before new
 kept_recorded k old new before chain o at keeps m means =
     let held : HoldsFiles k.config old chain (Some o) m.files = subst (λ (x : Work). HasFiles k.config x old m.files) at means.files in

@@ -14,7 +14,7 @@ use Rattle.r10_dirchain.specs.declared.chain.ChainBlock.{ChainBlock}
 use Rattle.r10_dirchain.proofs.Directories.{some_block}
 use Rattle.r10_dirchain.proofs.FileLists.{files-with_shutdown}
 use Rattle.r10_dirchain.proofs.Usable.{place_rules_hold, placed}
-use Rattle.r10_volume.specs.Holding.{Open}
+use Rattle.r10_volume.specs.Holding.{OpenState}
 use Rattle.r10_machine.specs.Machine.{Tick}
 use Rattle.r10_refinement.specs.Kept.{Kept, Work, unmounted, idle, recording, failed}
 use Rattle.r10_medium.specs.Disk.{Disk, Image, block_at}
@@ -87,7 +87,7 @@ erase_effect k old new chain made result at usable turns is published erased cop
 
 -- ---- the calls on the file that is recorded
 
-pub start_effect : (k : Kept) (old new : Disk) (chain made : List ChainBlock) (o : Open) (tick : Tick) (name setup : List ℕ) → k.work ≡ idle chain → k.tick ≡ Some tick
+pub start_effect : (k : Kept) (old new : Disk) (chain made : List ChainBlock) (o : OpenState) (tick : Tick) (name setup : List ℕ) → k.work ≡ idle chain → k.tick ≡ Some tick
     → first_of o.recording.out.blocks ≡ block_behind k.config.directory (listed_files chain)
     → made ≡ added (sized (size_of o.recording.out.blocks) (begun_entry name (first_of o.recording.out.blocks) tick.civil)) chain
     → KeepsFront k.config.directory (block_behind k.config.directory (listed_files chain)) old.blocks new.blocks → IsPublished made new → IsShown new.blocks o setup (time_entry_at k.config.time tick.count tick.civil ∷ []) 1
@@ -108,7 +108,7 @@ start_effect k old new chain made o tick name setup at ticked first is front pub
     subst (λ (w : Work). WhereIdle w (λ c. WhereRecording (recording made o) (λ m p. IsSomeAnd k.tick (λ (t : Tick). StartEffectAt name setup t c p k old later new)))) (sym at)
     (subst (λ (t : Option Tick). IsSomeAnd t does) (sym ticked) done)
 
-pub commit_effect : (k : Kept) (old new : Disk) (chain made : List ChainBlock) (o p : Open) → k.work ≡ recording chain o
+pub commit_effect : (k : Kept) (old new : Disk) (chain made : List ChainBlock) (o p : OpenState) → k.work ≡ recording chain o
     → made ≡ updated (sized (size_of p.recording.out.blocks) (last_listed chain)) chain → KeepsFront k.config.directory (first_of o.recording.out.blocks) old.blocks new.blocks → IsPublished made new
     → ((text : List ℕ) (entries : List Entry) (n : ℕ) → IsShown old.blocks o text entries n → IsShown new.blocks p text entries (length entries)) → all_held p.recording.builders ≡ [] → CommitEffect k old (record k { work = recording made p }) new
 commit_effect k old new chain made o p at is front published shows none = rw at (record {
@@ -121,7 +121,7 @@ commit_effect k old new chain made o p at is front published shows none = rw at 
   none = none;
 })
 
-pub stop_effect : (k : Kept) (old new : Disk) (chain made : List ChainBlock) (o : Open) (tick : Tick) (taken : List ℕ) → k.work ≡ recording chain o → k.tick ≡ Some tick → IsListedClosed tick.civil chain made new
+pub stop_effect : (k : Kept) (old new : Disk) (chain made : List ChainBlock) (o : OpenState) (tick : Tick) (taken : List ℕ) → k.work ≡ recording chain o → k.tick ≡ Some tick → IsListedClosed tick.civil chain made new
     → KeepsFront k.config.directory (first_of o.recording.out.blocks) old.blocks new.blocks → EndsIndexed k.config.nodes (first_of o.recording.out.blocks) new.blocks made
     → StopEffect k old (record k { work = idle made; taken = taken }) new
 stop_effect k old new chain made o tick taken at ticked is front indexed =
@@ -144,16 +144,16 @@ stop_effect k old new chain made o tick taken at ticked is front indexed =
 pub idle_tick_effect : (k : Kept) (disk : Disk) (chain : List ChainBlock) (tick : Tick) → k.work ≡ idle chain → IsDirectory disk.blocks chain → TickEffect tick k disk (record k { tick = Some tick }) disk
 idle_tick_effect k disk chain tick at is = rw at (record { kept = refl; front = record { size = refl; zeroth = λ less. refl; blocks = λ n behind less. refl }; directory = is })
 
-pub tick_effect : (k : Kept) (old new : Disk) (chain : List ChainBlock) (o p : Open) (tick : Tick) → k.work ≡ recording chain o → KeepsFront k.config.directory (first_of o.recording.out.blocks) old.blocks new.blocks → IsDirectory new.blocks chain
+pub tick_effect : (k : Kept) (old new : Disk) (chain : List ChainBlock) (o p : OpenState) (tick : Tick) → k.work ≡ recording chain o → KeepsFront k.config.directory (first_of o.recording.out.blocks) old.blocks new.blocks → IsDirectory new.blocks chain
     → ((text : List ℕ) (entries : List Entry) (n : ℕ) → IsShown old.blocks o text entries n → IsShown new.blocks p text (entries ++ time_entry_at k.config.time tick.count tick.civil ∷ []) n)
     → LeavesOpen (closing (is_old tick.count)) o.recording.builders p.recording.builders → TickEffect tick k old (record k { work = recording chain p; tick = Some tick }) new
 tick_effect k old new chain o p tick at front is takes closes = rw at (record { effect = record { kept = refl; front = front; directory = is }; takes = takes; closes = closes })
 
-pub event_effect : (k : Kept) (old new : Disk) (chain : List ChainBlock) (o p : Open) (number count : ℕ) → k.work ≡ recording chain o → KeepsFront k.config.directory (first_of o.recording.out.blocks) old.blocks new.blocks → IsDirectory new.blocks chain
+pub event_effect : (k : Kept) (old new : Disk) (chain : List ChainBlock) (o p : OpenState) (number count : ℕ) → k.work ≡ recording chain o → KeepsFront k.config.directory (first_of o.recording.out.blocks) old.blocks new.blocks → IsDirectory new.blocks chain
     → ((text : List ℕ) (entries : List Entry) (n : ℕ) → IsShown old.blocks o text entries n → IsShown new.blocks p text (entries ++ next_event o.recording number count ∷ []) n)
     → LeavesOpen still_open o.recording.builders p.recording.builders → EventEffect number count k old (record k { work = recording chain p; last_event = Some count }) new
 event_effect k old new chain o p number count at front is takes closes = rw at (record { effect = record { kept = refl; front = front; directory = is }; takes = takes; closes = closes })
 
-pub pump_effect : (k : Kept) (old new : Disk) (chain : List ChainBlock) (o p : Open) (taken : List ℕ) → k.work ≡ recording chain o → KeepsFront k.config.directory (first_of o.recording.out.blocks) old.blocks new.blocks → IsDirectory new.blocks chain
+pub pump_effect : (k : Kept) (old new : Disk) (chain : List ChainBlock) (o p : OpenState) (taken : List ℕ) → k.work ≡ recording chain o → KeepsFront k.config.directory (first_of o.recording.out.blocks) old.blocks new.blocks → IsDirectory new.blocks chain
     → PumpEffect k old (record k { work = recording chain p; taken = taken }) new
 pump_effect k old new chain o p taken at front is = rw at (record { kept = refl; front = front; directory = is })

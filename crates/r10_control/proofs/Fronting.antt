@@ -21,7 +21,7 @@ use Rattle.r10_openfile.specs.AtOnce.{BeginsAtOnce, SparesFront, TurnsAtOnce}
 use Rattle.r10_seal.specs.Judging.{IsUnsealable}
 use Rattle.r10_seal.specs.Sealing.{IsPartlySealed, IsSealing, IsUnsealed, listing_block}
 use Rattle.r10_volume.specs.Front.{KeepsFront}
-use Rattle.r10_volume.specs.Holding.{Open}
+use Rattle.r10_volume.specs.Holding.{OpenState}
 use Rattle.r10_volume.specs.Listing.{block_behind}
 use Rattle.r10_volume.specs.Mounting.{IsUnusable, IsUsable}
 use Rattle.r10_control.specs.Effects.{closed_listing}
@@ -35,7 +35,7 @@ writes_none reserved None image = refl
 writes_none reserved (Some first) image = record { size = refl; zeroth = λ less. refl; blocks = λ n behind less. refl }
 
 -- a file is recorded
-pub writes_recorded : (reserved : ℕ) (k : Kept) (old new : Image) (chain : List ChainBlock) (o : Open) → k.work ≡ recording chain o → KeepsFront reserved (first_of o.recording.out.blocks) old new
+pub writes_recorded : (reserved : ℕ) (k : Kept) (old new : Image) (chain : List ChainBlock) (o : OpenState) → k.work ≡ recording chain o → KeepsFront reserved (first_of o.recording.out.blocks) old new
     → WritesFrom reserved (recorded_from k.work) old new
 writes_recorded reserved k old new chain o at front = subst (λ (w : Work). WritesFrom reserved (recorded_from w) old new) (sym at) front
 
@@ -87,7 +87,7 @@ recorded_spares_all (idle chain) disk = unchanged disk
 recorded_spares_all (recording chain o) disk = spares_all (first_of o.recording.out.blocks) disk
 recorded_spares_all failed disk = unchanged disk
 
-pub recorded_spares : (w : Work) (chain : List ChainBlock) (o : Open) (old new : Disk) → w ≡ recording chain o → SparesFront (first_of o.recording.out.blocks) old new → RecordedSpares w old new
+pub recorded_spares : (w : Work) (chain : List ChainBlock) (o : OpenState) (old new : Disk) → w ≡ recording chain o → SparesFront (first_of o.recording.out.blocks) old new → RecordedSpares w old new
 recorded_spares w chain o old new at spares = subst (λ (x : Work). RecordedSpares x old new) (sym at) spares
 
 -- ---- a commit and a stop
@@ -110,18 +110,18 @@ stop_spares_all k disk = record { front = writes_none k.config.directory (record
     by None = tt
     by (Some tick) = lists_at_once_all (closed_listing tick.civil) k.work disk
 
-lists_recorded : (listing : ℕ → List ChainBlock → List ChainBlock) (w : Work) (chain : List ChainBlock) (o : Open) (old new : Disk) → w ≡ recording chain o
+lists_recorded : (listing : ℕ → List ChainBlock → List ChainBlock) (w : Work) (chain : List ChainBlock) (o : OpenState) (old new : Disk) → w ≡ recording chain o
     → ((size : ℕ) × TurnsAtOnce (first_of o.recording.out.blocks) (listing size chain) [] (listing_block chain) old new) → ListsAtOnce listing w old new
 lists_recorded listing w chain o old new at lists = subst (λ (x : Work). ListsAtOnce listing x old new) (sym at) lists
 
-pub commit_spares : (k : Kept) (chain : List ChainBlock) (o : Open) (old new : Disk) → k.work ≡ recording chain o → KeepsFront k.config.directory (first_of o.recording.out.blocks) old.blocks new.blocks
+pub commit_spares : (k : Kept) (chain : List ChainBlock) (o : OpenState) (old new : Disk) → k.work ≡ recording chain o → KeepsFront k.config.directory (first_of o.recording.out.blocks) old.blocks new.blocks
     → ((size : ℕ) × TurnsAtOnce (first_of o.recording.out.blocks) (sized_listing size chain) [] (listing_block chain) old new) → CommitSpares k old new
 commit_spares k chain o old new at front lists = record {
   front = writes_recorded k.config.directory k old.blocks new.blocks chain o at front;
   at_once = lists_recorded sized_listing k.work chain o old new at lists;
 }
 
-pub stop_spares : (k : Kept) (tick : Tick) (chain : List ChainBlock) (o : Open) (old new : Disk) → k.tick ≡ Some tick → k.work ≡ recording chain o → KeepsFront k.config.directory (first_of o.recording.out.blocks) old.blocks new.blocks
+pub stop_spares : (k : Kept) (tick : Tick) (chain : List ChainBlock) (o : OpenState) (old new : Disk) → k.tick ≡ Some tick → k.work ≡ recording chain o → KeepsFront k.config.directory (first_of o.recording.out.blocks) old.blocks new.blocks
     → ((size : ℕ) × TurnsAtOnce (first_of o.recording.out.blocks) (closed_listing tick.civil size chain) [] (listing_block chain) old new) → StopSpares k old new
 stop_spares k tick chain o old new ticked at front lists = record {
   front = writes_recorded k.config.directory k old.blocks new.blocks chain o at front;

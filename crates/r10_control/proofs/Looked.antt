@@ -8,7 +8,7 @@ use Rattle.r10_body.specs.declared.entry.Entry.{Entry}
 use Rattle.r10_body.specs.declared.entry.Sample.{Sample}
 use Rattle.r10_body.specs.declared.spec.ChannelSpec.{ChannelSpec}
 use Rattle.r10_dirchain.specs.declared.chain.ChainBlock.{ChainBlock}
-use Rattle.r10_volume.specs.Holding.{Open}
+use Rattle.r10_volume.specs.Holding.{OpenState}
 use Rattle.r10_machine.specs.Checks.{is_mounted, last_tick}
 use Rattle.r10_machine.specs.Config.{Config}
 use Rattle.r10_machine.specs.Finding.{channel_status, free_bytes, status_of}
@@ -108,7 +108,7 @@ end_still took spec_of reached entries (a ∷ lanes) [] keeps rises all ends = a
 end_still took spec_of reached entries (a ∷ lanes) (b ∷ now) keeps rises all ends =
     (subst (λ (s : ChannelSpec). last_count 0 (on_channel s.id entries) ≤ reached b) (sym (keeps a b [] all.0)) (omega (arith, ends.0, rises a b [] all.0)), end_still took spec_of reached entries lanes now keeps rises all.1 ends.1)
 
-recorded_still : {L N : Type 0} (spec_of : L → ChannelSpec) (reached : L → ℕ) (spec_of' : N → ChannelSpec) (reached' : N → ℕ) (s : Config) (tick : Option Tick) (last_event : Option ℕ) (image : Image) (chain : List ChainBlock) (o : Open) (lanes : List L) (now : List N)
+recorded_still : {L N : Type 0} (spec_of : L → ChannelSpec) (reached : L → ℕ) (spec_of' : N → ChannelSpec) (reached' : N → ℕ) (s : Config) (tick : Option Tick) (last_event : Option ℕ) (image : Image) (chain : List ChainBlock) (o : OpenState) (lanes : List L) (now : List N)
     → ((entries : List Entry) → AllEnd spec_of reached lanes entries → AllEnd spec_of' reached' now entries) → IsRecorded spec_of reached s tick last_event image chain o lanes → IsRecorded spec_of' reached' s tick last_event image chain o now
 recorded_still spec_of reached spec_of' reached' s tick last_event image chain o lanes now ends is = record {
   text = is.text;

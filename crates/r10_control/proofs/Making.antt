@@ -27,7 +27,7 @@ use Rattle.r10_seal.specs.Sealing.{sealed}
 use Rattle.r10_refinement.specs.Left.{Makes}
 use Rattle.r10_refinement.specs.Left.{IsEither as MachineEither}
 use Rattle.r10_refinement.specs.Safe.{IsSafe}
-use Rattle.r10_volume.specs.Holding.{HoldsFiles, Open}
+use Rattle.r10_volume.specs.Holding.{HoldsFiles, OpenState}
 use Rattle.r10_volume.specs.Listing.{is_last_closed}
 use Rattle.r10_volume.specs.Settling.{IsSettled}
 use Rattle.r10_control.specs.Started.{recorder_start_checks}
@@ -52,7 +52,7 @@ commit_makes k m front f size image fine is says =
     let does : made ≡ with_last (shown_whole (last_size made)) m = ap (λ (l : List File). record m { files = l }) changed in
     record { reply = replies.Done; made = made; step = (omega arith, (fine, does)); says = says }
 
-pub commit_left : (k : Kept) (old new : Disk) (chain : List ChainBlock) (o : Open) (size : ℕ) → k.work ≡ recording chain o → first_broken (recording_checks (mode_of k.work)) ≡ None
+pub commit_left : (k : Kept) (old new : Disk) (chain : List ChainBlock) (o : OpenState) (size : ℕ) → k.work ≡ recording chain o → first_broken (recording_checks (mode_of k.work)) ≡ None
     → ((front : List File) (f : File) → HoldsFiles k.config old.blocks chain (Some o) (front ++ f ∷ []) → Becomes k.config front f (front ++ shown_whole size f ∷ []) old new) → LeavesShown (λ m. Makes k.config m Commit) k old new
 commit_left k old new chain o size at fine becomes =
     recorded_becomes (λ m. Makes k.config m Commit) k old new chain o at (λ m front f means is held kept. weakened

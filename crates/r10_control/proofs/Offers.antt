@@ -18,7 +18,7 @@ use Rattle.r10_machine.specs.Calls.{accepted, losing, overflowed}
 use Rattle.r10_machine.specs.Checks.{channel_checks, in_48_bits, is_not_before, message_checks, offer_checks, offer_refusal, taking_checks}
 use Rattle.r10_machine.specs.Limits.{IsConfig}
 use Rattle.r10_dirchain.specs.declared.chain.ChainBlock.{ChainBlock}
-use Rattle.r10_volume.specs.Holding.{Open}
+use Rattle.r10_volume.specs.Holding.{OpenState}
 use Rattle.r10_machine.specs.Config.{Config}
 use Rattle.r10_machine.specs.Machine.{Lane, Machine, Tick, change_first, is_channel, lane_of, with_lane}
 use Rattle.r10_machine.proofs.Places.{changed_at, found_at, found_nowhere}
@@ -129,7 +129,7 @@ risen_end entries (a ∷ old) (b ∷ new) risen ends =
     (subst (λ (s : ChannelSpec). last_count 0 (on_channel s.id entries) ≤ reached b) (sym risen.0.0) (omega (arith, ends.0, risen.0.1)), risen_end entries old new risen.1 ends.1)
 
 -- what a recorder is known to be stays where lanes rise
-recorded_risen : (s : Config) (tick : Option Tick) (last_event : Option ℕ) (image : Image) (chain : List ChainBlock) (o : Open) (old new : List Lane) → HaveRisen old new
+recorded_risen : (s : Config) (tick : Option Tick) (last_event : Option ℕ) (image : Image) (chain : List ChainBlock) (o : OpenState) (old new : List Lane) → HaveRisen old new
     → IsRecorded (λ (l : Lane). l.spec) reached s tick last_event image chain o old → IsRecorded (λ (l : Lane). l.spec) reached s tick last_event image chain o new
 recorded_risen s tick last_event image chain o old new risen is = record {
   text = is.text;

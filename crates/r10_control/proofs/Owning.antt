@@ -29,7 +29,7 @@ use Rattle.r10_openfile.specs.Keeping.{ListsLast, ended_in}
 use Rattle.r10_openfile.proofs.Grown.{carries_one}
 use Rattle.r10_openfile.specs.Stopping.{AllEnd}
 use Rattle.r10_volume.specs.Front.{KeepsFront}
-use Rattle.r10_volume.specs.Holding.{Open}
+use Rattle.r10_volume.specs.Holding.{OpenState}
 use Rattle.r10_volume.specs.Listing.{block_behind, is_last_closed}
 use Rattle.r10_volume.specs.Mounting.{IsUsable}
 use Rattle.r10_volume.proofs.Listed.{placed_at}
@@ -155,7 +155,7 @@ stay_failed k later old new is = stay_by k later old new (inl is)
 
 -- ---- while a file is recorded
 
-module _ (k : Kept) (image : Image) (chain : List ChainBlock) (o : Open) (at : k.work ≡ recording chain o) where
+module _ (k : Kept) (image : Image) (chain : List ChainBlock) (o : OpenState) (at : k.work ≡ recording chain o) where
   pub end_open : (own : List Entry) → AreOwn k image own → EndOpen k.found image chain o own
   end_open own has = subst (λ (w : Work). OwnIn k.found w image own) at has
 
@@ -164,7 +164,7 @@ module _ (k : Kept) (image : Image) (chain : List ChainBlock) (o : Open) (at : k
   own_in later w new own is stays has = subst (λ (f : Option ℕ). OwnIn f later.work new own) (sym stays) (subst (λ (x : Work). OwnIn k.found x new own) (sym is) has)
 
   -- only memory was asked for
-  pub asked_own : (p : Open) (later : Kept) → later.work ≡ recording chain p → later.found ≡ k.found → IsAskedFor o p → OwnGrow k image later image []
+  pub asked_own : (p : OpenState) (later : Kept) → later.work ≡ recording chain p → later.found ≡ k.found → IsAskedFor o p → OwnGrow k image later image []
   asked_own p later is stays asked = inr (λ own has.
       let it = end_open own has in
       own_in later (recording chain p) image (own ++ []) is stays
@@ -179,7 +179,7 @@ module _ (k : Kept) (image : Image) (chain : List ChainBlock) (o : Open) (at : k
         (after_keeps k.found image new (ended_in chain) own (ended_keep k.config.directory (first_of o.recording.out.blocks) image new chain whole usable last front) is)
 
     -- the file that is recorded took these in
-    pub recorded_own : (p : Open) (later : Kept) (more : List Entry) → later.work ≡ recording made p → later.found ≡ k.found
+    pub recorded_own : (p : OpenState) (later : Kept) (more : List Entry) → later.work ≡ recording made p → later.found ≡ k.found
         → ((text : List ℕ) (entries : List Entry) (n : ℕ) → IsShown image o text entries n → (m : ℕ) × IsShown new p text (entries ++ more) m) → OwnGrow k image later new more
     recorded_own p later more is stays shows = inr (λ own has.
         let it = end_open own has in
@@ -214,7 +214,7 @@ ends_each spec_of reached entries others same [] all = tt
 ends_each spec_of reached entries others same (l ∷ lanes) all =
     (omega (arith, all.0, ap (λ (es : List Entry). last_count 0 es) (same (spec_of l).id)), ends_each spec_of reached entries others same lanes all.1)
 
-pub ends_too : {L : Type 0} (spec_of : L → ChannelSpec) (reached : L → ℕ) (image : Image) (o : Open) (text other : List ℕ) (entries others : List Entry) (n m : ℕ) (lanes : List L) → IsShown image o text entries n → AllEnd spec_of reached lanes entries
+pub ends_too : {L : Type 0} (spec_of : L → ChannelSpec) (reached : L → ℕ) (image : Image) (o : OpenState) (text other : List ℕ) (entries others : List Entry) (n m : ℕ) (lanes : List L) → IsShown image o text entries n → AllEnd spec_of reached lanes entries
     → IsShown image o other others m → AllEnd spec_of reached lanes others
 ends_too spec_of reached image o text other entries others n m lanes was ends is =
     ends_each spec_of reached entries others (carries_one o.recording image text other entries others was.carried.carries is.carried.carries) lanes ends
@@ -263,7 +263,7 @@ erased_own later new made is none empty =
     (record { number = 0; found_is = none; within = omega arith; ended = subst (λ (l : List DirectoryEntry). AreEnded new l []) (sym empty) refl })
 
 -- a file is begun behind all others
-pub started_own : (k later : Kept) (old new : Image) (chain made : List ChainBlock) (o : Open) (text : List ℕ) (more : List Entry) (n : ℕ) → k.work ≡ idle chain → IsWhole old → IsUsable k.config.directory old chain
+pub started_own : (k later : Kept) (old new : Image) (chain made : List ChainBlock) (o : OpenState) (text : List ℕ) (more : List Entry) (n : ℕ) → k.work ≡ idle chain → IsWhole old → IsUsable k.config.directory old chain
     → KeepsFront k.config.directory (block_behind k.config.directory (listed_files chain)) old new → ended_in made ≡ listed_files chain → IsShown new o text more n → later.work ≡ recording made o → later.found ≡ k.found → OwnGrow k old later new more
 started_own k later old new chain made o text more n at whole usable front ended shows is stays = inr (λ own has.
     let was : EndAfter k.found old (listed_files chain) own = subst (λ (w : Work). OwnIn k.found w old own) at has in

@@ -13,7 +13,7 @@ use Rattle.r10_body.specs.declared.spec.ChannelSpec.{ChannelSpec}
 use Rattle.r10_builder.specs.Packing.{entry_on}
 use Rattle.r10_count.specs.Checks.{first_broken}
 use Rattle.r10_dirchain.specs.declared.chain.ChainBlock.{ChainBlock}
-use Rattle.r10_volume.specs.Holding.{HoldsFiles, IsWritten, Open}
+use Rattle.r10_volume.specs.Holding.{HoldsFiles, IsWritten, OpenState}
 use Rattle.r10_machine.specs.Calls.{Pumps, without}
 use Rattle.r10_machine.specs.Checks.{recording_checks}
 use Rattle.r10_machine.specs.Config.{Config}
@@ -52,7 +52,7 @@ pub use Rattle.r10_refinement.proofs.Lasting.{last_changes}
 
 -- the law of pumps
 abbrev pub PumpsAreLed : Type 0
-PumpsAreLed = (k : Kept) (old new : Image) (n later : ℕ) (m : Machine) (chain : List ChainBlock) (file after : Open) (files : List File) (f : File) (channel most moved : ℕ) (more : List Entry) (grown : List ℕ) → IsConfig k.config → KeptStandsFor k old n m
+PumpsAreLed = (k : Kept) (old new : Image) (n later : ℕ) (m : Machine) (chain : List ChainBlock) (file after : OpenState) (files : List File) (f : File) (channel most moved : ℕ) (more : List Entry) (grown : List ℕ) → IsConfig k.config → KeptStandsFor k old n m
     → k.work ≡ recording chain file → m.files ≡ files ++ f ∷ [] → f.own ≡ true → refusal k.config m (Pump channel most) ≡ None
     → Pumps k.config (record m { failures = later }) channel most moved (record m { lanes = change_first (is_channel channel) (without moved) m.lanes; files = files ++ with_entries more f ∷ []; failures = later })
     → AreGrown more k.config.channels k.taken grown → HoldsFiles k.config new chain (Some after) (files ++ with_entries more f ∷ []) → n ≤ later
@@ -155,7 +155,7 @@ room_at s m f channel (suc most) lane (x ∷ waiting) there last waits fits = rw
 
 -- ---- memory that was asked for
 
-pub means_readied : (k : Kept) (image : Image) (n : ℕ) (m : Machine) (chain : List ChainBlock) (o r : Open) → k.work ≡ recording chain o → IsAskedFor o r → KeptStandsFor k image n m → KeptStandsFor (record k { work = recording chain r }) image n m
+pub means_readied : (k : Kept) (image : Image) (n : ℕ) (m : Machine) (chain : List ChainBlock) (o r : OpenState) → k.work ≡ recording chain o → IsAskedFor o r → KeptStandsFor k image n m → KeptStandsFor (record k { work = recording chain r }) image n m
 means_readied k image n m chain o r at readied means = record {
   mode = means.mode ∙ ap mode_of at;
   tick = means.tick;
@@ -165,7 +165,7 @@ means_readied k image n m chain o r at readied means = record {
   sound = means.sound;
 }
 
-pub leads_readied : (a b : ℕ → ℕ) (k : Kept) (m : Machine) (event : EventValue) (reply : ReplyValue) (image : Image) (n : ℕ) (chain : List ChainBlock) (o r : Open) → k.work ≡ recording chain o → IsAskedFor o r → ((c : ℕ) → a c ≡ b c)
+pub leads_readied : (a b : ℕ → ℕ) (k : Kept) (m : Machine) (event : EventValue) (reply : ReplyValue) (image : Image) (n : ℕ) (chain : List ChainBlock) (o r : OpenState) → k.work ≡ recording chain o → IsAskedFor o r → ((c : ℕ) → a c ≡ b c)
     → KeptStepsTaking a k m event reply k image n → KeptStepsTaking b k m event reply (record k { work = recording chain r }) image n
 leads_readied a b k m event reply image n chain o r at readied alike leads = record {
   machine = leads.machine;
@@ -183,7 +183,7 @@ same_check k image n m channel most means =
     ∙ ap (λ (b : Bool). first_broken (recording_checks (mode_of k.work) ++ (b, NoSuchChannel) ∷ []))
     (found_alike channel m.lanes ∙ ap (λ (specs : List ChannelSpec). is_some (find (λ (spec : ChannelSpec). spec.id == channel) specs)) means.sound.channels)
 
-module _ (law : StepsStaySound) (led : PumpsAreLed) (k : Kept) (old new : Image) (before now : ℕ) (m : Machine) (chain : List ChainBlock) (o after : Open) (channel most area : ℕ) (samples rest : List Sample) (limits : IsConfig k.config) (means : KeptStandsFor k old before m)
+module _ (law : StepsStaySound) (led : PumpsAreLed) (k : Kept) (old new : Image) (before now : ℕ) (m : Machine) (chain : List ChainBlock) (o after : OpenState) (channel most area : ℕ) (samples rest : List Sample) (limits : IsConfig k.config) (means : KeptStandsFor k old before m)
     (at : k.work ≡ recording chain o) (fine : recorder_refusal k (Pump channel most) ≡ None) (there : is_some (find (λ (spec : ChannelSpec). spec.id == channel) k.config.channels) ≡ true)
     (ends ends' : List Entry → Type 0) (end : (files : List File) (f : File) → HoldsFiles k.config old chain (Some o) (files ++ f ∷ []) → ends f.entries)
     (area_is : (files : List File) (f : File) → HoldsFiles k.config old chain (Some o) (files ++ f ∷ []) → area ≡ area_of k.config f)

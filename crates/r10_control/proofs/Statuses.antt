@@ -8,7 +8,7 @@ use Rattle.r10_dirblock.specs.declared.entry.Entry.{Entry as DirectoryEntry}
 use Rattle.r10_dirchain.specs.Chain.{listed_files}
 use Rattle.r10_dirchain.specs.declared.chain.ChainBlock.{ChainBlock}
 use Rattle.r10_dirchain.proofs.Standing.{usable_of}
-use Rattle.r10_volume.specs.Holding.{HoldsFiles, IsWritten, Open}
+use Rattle.r10_volume.specs.Holding.{HoldsFiles, IsWritten, OpenState}
 use Rattle.r10_volume.proofs.Relisting.{last_file_listed}
 use Rattle.r10_machine.specs.Checks.{is_mounted, last_tick}
 use Rattle.r10_machine.specs.Config.{Config}
@@ -43,7 +43,7 @@ area_min s n behind is few = omega (arith, is, few)
 
 -- ---- bytes that are free
 
-module _ (s : Config) (image : Image) (chain : List ChainBlock) (o : Open) (files : List File) (f : File) (holds : HoldsFiles s image chain (Some o) (files ++ f ∷ [])) where
+module _ (s : Config) (image : Image) (chain : List ChainBlock) (o : OpenState) (files : List File) (f : File) (holds : HoldsFiles s image chain (Some o) (files ++ f ∷ [])) where
   listed : IsSomeAnd (last_or None (listed_files chain)) (Lists f)
   listed = last_file_listed image None (listed_files chain) files f (held_lists s image chain (Some o) (files ++ f ∷ []) holds).each
 
@@ -67,7 +67,7 @@ free_by s m mode = elim mode [ modes.Recording ↦ elim (last_or None m.files) [
 pub free_idle : (s : Config) (image : Image) (chain : List ChainBlock) (m : Machine) → m.mode ≡ modes.Idle → HoldsFiles s image chain None m.files → area_from s (block_behind s.directory (listed_files chain)) ≡ free_bytes s m
 free_idle s image chain m mode holds = ap (area_from s) (behind_told s image chain None m.files holds) ∙ sym (ap (free_by s m) mode)
 
-pub free_recording : (s : Config) (image : Image) (chain : List ChainBlock) (o : Open) (m : Machine) (left : ℕ) → m.mode ≡ modes.Recording → HoldsFiles s image chain (Some o) m.files
+pub free_recording : (s : Config) (image : Image) (chain : List ChainBlock) (o : OpenState) (m : Machine) (left : ℕ) → m.mode ≡ modes.Recording → HoldsFiles s image chain (Some o) m.files
     → ((files : List File) (f : File) → HoldsFiles s image chain (Some o) (files ++ f ∷ []) → left ≡ area s f - cost_of f) → left ≡ free_bytes s m
 free_recording s image chain o m left mode holds told =
     let split = last_front (IsWritten s image o) m.files holds.last in

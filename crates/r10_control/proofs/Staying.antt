@@ -10,7 +10,7 @@ use Rattle.r10_dirchain.specs.Chain.{listed_files}
 use Rattle.r10_dirchain.specs.Mount.{blocks_in, stands}
 use Rattle.r10_dirchain.specs.declared.chain.ChainBlock.{ChainBlock}
 use Rattle.r10_dirchain.proofs.Standing.{Stand, Stand-take, usable_of}
-use Rattle.r10_volume.specs.Holding.{Open}
+use Rattle.r10_volume.specs.Holding.{OpenState}
 use Rattle.r10_refinement.specs.Kept.{idle, recording}
 use Rattle.r10_medium.specs.Disk.{Image, IsWhole}
 use Rattle.r10_openfile.specs.Keeping.{ListsLast, ended_in}
@@ -85,13 +85,13 @@ ended_stay reserved first old new chain more judged whole usable last same are =
 -- ---- while a file is recorded
 
 -- its calls, which leave the directory or list it anew
-pub recording_stays : (reserved first : ℕ) (old new : Image) (chain made : List ChainBlock) (file later : Open) (books : Books) → IsWhole old → IsUsable reserved old chain → ListsLast first chain → KeepsFront reserved first old new
+pub recording_stays : (reserved first : ℕ) (old new : Image) (chain made : List ChainBlock) (file later : OpenState) (books : Books) → IsWhole old → IsUsable reserved old chain → ListsLast first chain → KeepsFront reserved first old new
     → ended_in made ≡ ended_in chain → OwnsBooks (recording chain file) old books → OwnsBooks (recording made later) new books
 recording_stays reserved first old new chain made file later books whole usable last same ended are =
     subst (λ (l : List DirectoryEntry). AreJudged l new books.kept.items) (append-nil (ended_in chain) ∙ sym ended) (ended_stay reserved first old new chain [] books.kept.items whole usable last same are)
 
 -- a stop, behind which it is one of the others
-pub stopped_stays : (reserved first : ℕ) (old new : Image) (chain made : List ChainBlock) (file : Open) (books : Books) → IsWhole old → IsUsable reserved old chain → ListsLast first chain → KeepsFront reserved first old new
+pub stopped_stays : (reserved first : ℕ) (old new : Image) (chain made : List ChainBlock) (file : OpenState) (books : Books) → IsWhole old → IsUsable reserved old chain → ListsLast first chain → KeepsFront reserved first old new
     → ended_in made ≡ ended_in chain → OwnsBooks (recording chain file) old books → OwnsBooks (idle made) new books
 stopped_stays reserved first old new chain made file books whole usable last same ended are =
     let behind : List DirectoryEntry = drop (length (listed_files made) - 1) (listed_files made) in
@@ -122,7 +122,7 @@ pub listed_stay : (reserved : ℕ) (old new : Image) (chain : List ChainBlock) (
 listed_stay reserved old new chain more judged whole usable same are = still_judged old new (listed_files chain) more judged (listed_keep reserved old new chain whole usable same) are
 
 -- a start, which lists one more behind them
-pub started_stays : (reserved : ℕ) (old new : Image) (chain made : List ChainBlock) (file : Open) (books : Books) → IsWhole old → IsUsable reserved old chain → KeepsFront reserved (block_behind reserved (listed_files chain)) old new
+pub started_stays : (reserved : ℕ) (old new : Image) (chain made : List ChainBlock) (file : OpenState) (books : Books) → IsWhole old → IsUsable reserved old chain → KeepsFront reserved (block_behind reserved (listed_files chain)) old new
     → ended_in made ≡ listed_files chain → OwnsBooks (idle chain) old books → OwnsBooks (recording made file) new books
 started_stays reserved old new chain made file books whole usable same ended are =
     subst (λ (l : List DirectoryEntry). AreJudged l new books.kept.items) (append-nil (listed_files chain) ∙ sym ended) (listed_stay reserved old new chain [] books.kept.items whole usable same are)

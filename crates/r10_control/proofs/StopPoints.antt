@@ -4,7 +4,7 @@ use Rattle.std.specs.Prelude.{IfSome}
 use Rattle.std.specs.List.{last_or}
 use Rattle.r10_blockout.specs.Blocks.{bytes_from}
 use Rattle.r10_dirchain.specs.declared.chain.ChainBlock.{ChainBlock}
-use Rattle.r10_volume.specs.Holding.{HoldsFiles, Open}
+use Rattle.r10_volume.specs.Holding.{HoldsFiles, OpenState}
 use Rattle.r10_machine.proofs.Growing.{append_last}
 use Rattle.r10_machine.specs.Config.{Config}
 use Rattle.r10_machine.specs.Machine.{File, Machine}
@@ -58,20 +58,20 @@ as_shown s (recording chain o) files disk safe = λ image may. record { says = (
 as_shown s failed files disk safe = absurd safe
 
 -- the file that is recorded is the last
-kept_last : (s : Config) (chain : List ChainBlock) (o : Open) (front : List File) (f : File) (shown image : Image) → IsAsShown s (recording chain o) (front ++ f ∷ []) shown image → Keeps s front f shown image
+kept_last : (s : Config) (chain : List ChainBlock) (o : OpenState) (front : List File) (f : File) (shown image : Image) → IsAsShown s (recording chain o) (front ++ f ∷ []) shown image → Keeps s front f shown image
 kept_last s chain o front f shown image as_shown = record {
   says = as_shown.says;
   bytes = subst (λ (x : Option File). IfSome x (λ (g : File). bytes_from image g.first_block g.size ≡ bytes_from shown g.first_block g.size)) (append_last None front f) as_shown.bytes;
 }
 
-shown_last : (s : Config) (chain : List ChainBlock) (o : Open) (front : List File) (f : File) (shown image : Image) → Keeps s front f shown image → IsAsShown s (recording chain o) (front ++ f ∷ []) shown image
+shown_last : (s : Config) (chain : List ChainBlock) (o : OpenState) (front : List File) (f : File) (shown image : Image) → Keeps s front f shown image → IsAsShown s (recording chain o) (front ++ f ∷ []) shown image
 shown_last s chain o front f shown image keeps = record {
   says = keeps.says;
   bytes = subst (λ (x : Option File). IfSome x (λ (g : File). bytes_from image g.first_block g.size ≡ bytes_from shown g.first_block g.size)) (sym (append_last None front f)) keeps.bytes;
 }
 
 -- a file is recorded, and its call makes these files of it
-pub recorded_becomes : (makes : Machine → Image → Type 0) (k : Kept) (old new : Disk) (chain : List ChainBlock) (o : Open) → k.work ≡ recording chain o
+pub recorded_becomes : (makes : Machine → Image → Type 0) (k : Kept) (old new : Disk) (chain : List ChainBlock) (o : OpenState) → k.work ≡ recording chain o
     → ((m : Machine) (front : List File) (f : File) → KeptStandsFor k old.blocks old.failures m → m.files ≡ front ++ f ∷ [] → HoldsFiles k.config old.blocks chain (Some o) (front ++ f ∷ []) → StopKeepsFiles k.config front f old
     → Leaves (λ image. Keeps k.config front f old.blocks image ⊎ makes m image) old new)
     → LeavesShown makes k old new
@@ -88,7 +88,7 @@ recorded_becomes makes k old new chain o at leaves m means safe =
     (leaves m last.front last.file means last.is (subst (λ (l : List File). HoldsFiles k.config old.blocks chain (Some o) l) last.is held) (λ image may. kept_last k.config chain o last.front last.file old.blocks image (safe_so image may)))))
 
 -- and its call makes no others
-pub recorded_leaves : (k : Kept) (old new : Disk) (chain : List ChainBlock) (o : Open) → k.work ≡ recording chain o
+pub recorded_leaves : (k : Kept) (old new : Disk) (chain : List ChainBlock) (o : OpenState) → k.work ≡ recording chain o
     → ((front : List File) (f : File) → HoldsFiles k.config old.blocks chain (Some o) (front ++ f ∷ []) → StaysKept k.config front f old new) → LeavesShown none_made k old new
 recorded_leaves k old new chain o at stays =
     recorded_becomes none_made k old new chain o at (λ m front f means is held kept. weakened (Keeps k.config front f old.blocks) (λ image. Keeps k.config front f old.blocks image ⊎ none_made m image) old new (λ image keeps. inl keeps) (stays front f held kept))
@@ -142,10 +142,10 @@ refused_same disk known k later event r medium medium' config same =
 
 -- ---- the calls that show no more: the file that is recorded goes on
 
-last_says : (s : Config) (chain : List ChainBlock) (o : Open) (files : List File) (shown image : Image) → IsAsShown s (recording chain o) files shown image → SaysLast s files shown image
+last_says : (s : Config) (chain : List ChainBlock) (o : OpenState) (files : List File) (shown image : Image) → IsAsShown s (recording chain o) files shown image → SaysLast s files shown image
 last_says s chain o files shown image is = record { says = is.says; bytes = is.bytes }
 
-pub goes_on_safely : (known : Machine → Type 0) (k later : Kept) (event : EventValue) (reply : ReplyValue) (old new : Disk) (chain made : List ChainBlock) (o p : Open) → k.work ≡ recording chain o → later.work ≡ recording made p
+pub goes_on_safely : (known : Machine → Type 0) (k later : Kept) (event : EventValue) (reply : ReplyValue) (old new : Disk) (chain made : List ChainBlock) (o p : OpenState) → k.work ≡ recording chain o → later.work ≡ recording made p
     → later.config ≡ k.config → may_make event ≡ false → IsNoFailure reply → LeavesShown none_made k old new → StaysSafe known k event reply old later new
 goes_on_safely known k later event reply old new chain made o p at then config plain fine leaves =
     shown_safely known k later event reply old new chain made o p at then config plain fine (λ m means settled.

@@ -14,7 +14,7 @@ use Rattle.r10_machine.specs.Cuts.{Agree}
 use Rattle.r10_dirblock.specs.declared.entry.Entry.{Entry as DirectoryEntry}
 use Rattle.r10_dirchain.specs.Chain.{listed_files}
 use Rattle.r10_dirchain.specs.declared.chain.ChainBlock.{ChainBlock}
-use Rattle.r10_volume.specs.Holding.{IsCarried, IsWritten, Open}
+use Rattle.r10_volume.specs.Holding.{IsCarried, IsWritten, OpenState}
 use Rattle.r10_volume.proofs.Carried.{carried_of}
 use Rattle.r10_machine.specs.Config.{Config}
 use Rattle.r10_machine.specs.Machine.{File, shown_entries}
@@ -32,7 +32,7 @@ use Rattle.r10_cursor.specs.Read.{IsReadTo, bytes_shown}
 use Rattle.r10_cursor.specs.Shown.{ShowsPackets}
 use Rattle.r10_control.specs.Reading.{IsToldOf}
 
-pub shown : (image : Image) (o : Open) (text : List ℕ) (entries : List Entry) (w : Written) (is : IsCarried image o text entries) → IsToldOf o w → IsShownWith image w.first w.named.now w.book.now (take o.shown is.carries.packets)
+pub shown : (image : Image) (o : OpenState) (text : List ℕ) (entries : List Entry) (w : Written) (is : IsCarried image o text entries) → IsToldOf o w → IsShownWith image w.first w.named.now w.book.now (take o.shown is.carries.packets)
 shown image o text entries w is told =
     let packets = is.carries.packets in
     let front = take o.shown packets in
@@ -47,12 +47,12 @@ shown image o text entries w is told =
       begins = (drop o.shown packets, subst (IsBookOf w.book.now) (sym (take-append-drop o.shown packets)) book);
     }
 
-pub is_shown : (image : Image) (o : Open) (text : List ℕ) (entries : List Entry) (w : Written) → IsCarried image o text entries → IsToldOf o w → IsWhole image → length image ≤ 2 ^ 53 → IsWriting image (Some w)
+pub is_shown : (image : Image) (o : OpenState) (text : List ℕ) (entries : List Entry) (w : Written) → IsCarried image o text entries → IsToldOf o w → IsWhole image → length image ≤ 2 ^ 53 → IsWriting image (Some w)
 is_shown image o text entries w is told whole few =
     let front = take o.shown is.carries.packets in
     (front, shown image o text entries w is told, omega (arith, shown_length image (first_of o.recording.out.blocks) (file_bytes front) whole is.stands, few))
 
-pub is_held : (s : Config) (image : Image) (chain : List ChainBlock) (o : Open) (f : File) (w : Written) → IsWritten s image o f → IsToldOf o w → AllByRecursion (IsEntry s) f.entries → IsHeldFile image chain (Some w) w.file f
+pub is_held : (s : Config) (image : Image) (chain : List ChainBlock) (o : OpenState) (f : File) (w : Written) → IsWritten s image o f → IsToldOf o w → AllByRecursion (IsEntry s) f.entries → IsHeldFile image chain (Some w) w.file f
 is_held s image chain o f w is told entries =
     let packets = is.carries.packets in
     let agree : Agree (file_entries (take o.shown packets)) (shown_entries f) = subst (λ (n : ℕ). Agree (file_entries (take n packets)) (shown_entries f)) is.shown is.cut.agree in
@@ -60,7 +60,7 @@ is_held s image chain o f w is told entries =
 
 -- ---- how far
 
-pub written : (s : Config) (image : Image) (chain : List ChainBlock) (o : Open) (f : File) (w : Written) (count n : ℕ) → IsWritten s image o f → IsToldOf o w → (held : IsHeldFile image chain (Some w) w.file f)
+pub written : (s : Config) (image : Image) (chain : List ChainBlock) (o : OpenState) (f : File) (w : Written) (count n : ℕ) → IsWritten s image o f → IsToldOf o w → (held : IsHeldFile image chain (Some w) w.file f)
     → IsReadTo image f count n → HasDataPackets (bytes_shown image f) held.packets × IsCovered held.packets f count n
 written s image chain o f w count n is told held read = covered_so image f count n held.packets (by held.shows) read
   where

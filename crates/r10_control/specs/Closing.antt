@@ -10,7 +10,7 @@ use Rattle.r10_packetout.specs.Carries.{Recording}
 use Rattle.r10_count.specs.declared.civil.Parts.{Parts}
 use Rattle.r10_dirchain.specs.OnMedium.{IsPublished}
 use Rattle.r10_dirchain.specs.declared.chain.ChainBlock.{ChainBlock}
-use Rattle.r10_volume.specs.Holding.{HoldsFiles, Open}
+use Rattle.r10_volume.specs.Holding.{HoldsFiles, OpenState}
 use Rattle.r10_machine.specs.Calls.{closed_whole}
 use Rattle.r10_machine.specs.Config.{Config}
 use Rattle.r10_machine.specs.Machine.{File, with_entries}
@@ -27,7 +27,7 @@ use Rattle.r10_openfile.specs.Stopping.{AllEnd, FailsAll, GoesThrough, IsOpenToA
 use Rattle.r10_machine.specs.Says.{MediumSays}
 
 -- what the close of a file behind a stop's samples asks: groups of index packets of a size that there is, each channel once in the order, a number for each, memory for all that may be put, and a file that is open to the lanes and may go on
-pub record MayCloseFile {L : Type 0} (spec_of : L → ChannelSpec) (reached : L → ℕ) (nodes : ℕ) (order shares : List ℕ) (area : ℕ) (lanes : List L) (o : Open) (image : Image) (chain : List ChainBlock) : Type 0 where
+pub record MayCloseFile {L : Type 0} (spec_of : L → ChannelSpec) (reached : L → ℕ) (nodes : ℕ) (order shares : List ℕ) (area : ℕ) (lanes : List L) (o : OpenState) (image : Image) (chain : List ChainBlock) : Type 0 where
   pub group : IsGroup nodes
   pub open_to : IsOpenToAll spec_of reached o.recording image lanes area
   pub once : (channel : ℕ) → count_by (λ c. c == channel) order ≤ 1
@@ -37,7 +37,7 @@ pub record MayCloseFile {L : Type 0} (spec_of : L → ChannelSpec) (reached : L 
 
 -- Channel by channel in this order, these parts were taken from the lanes; of a lane that is quiet, a part and its rest are all that waited. Into whatever file of the machine, they are what its stop takes in.
 pub record TakenAll {L : Type 0} (took : L → List Sample → L → Type 0) (quiet : L → Option (List Sample)) (reached : L → ℕ) (spec_of : L → ChannelSpec) (order shares : List ℕ) (area : ℕ) (lanes lanes' : List L)
-    (old : Open) (before : Image) (chain : List ChainBlock) (said : Stopped) : Type 0 where
+    (old : OpenState) (before : Image) (chain : List ChainBlock) (said : Stopped) : Type 0 where
   pub parts : List Part
   pub order_is : map (λ (p : Part). p.channel) parts ≡ order
   pub shares_are : map (λ (p : Part). length p.samples) parts ≡ shares
@@ -58,32 +58,32 @@ closed_with size parts f = closed_whole size (with_entries (entries_of parts) f)
 
 -- an image says the file closed, with what was taken from the lanes
 pub record SaysStopped {L : Type 0} (took : L → List Sample → L → Type 0) (quiet : L → Option (List Sample)) (reached : L → ℕ) (spec_of : L → ChannelSpec) (order shares : List ℕ) (area : ℕ) (lanes lanes' : List L)
-    (old : Open) (before : Image) (chain : List ChainBlock) (s : Config) (files : List File) (f : File) (image : Image) : Type 0 where
+    (old : OpenState) (before : Image) (chain : List ChainBlock) (s : Config) (files : List File) (f : File) (image : Image) : Type 0 where
   pub said : Stopped
   pub taken : TakenAll took quiet reached spec_of order shares area lanes lanes' old before chain said
   pub size : ℕ
   pub says : MediumSays s image (files ++ closed_with size taken.parts f ∷ [])
 
 -- the directory holds it so, no shorter than it was shown
-abbrev pub ClosesSo : {L : Type 0} → (L → ℕ) → (L → ChannelSpec) → List L → Open → Image → List ChainBlock → List ChainBlock → Image → ℕ → List Part → Type 0
+abbrev pub ClosesSo : {L : Type 0} → (L → ℕ) → (L → ChannelSpec) → List L → OpenState → Image → List ChainBlock → List ChainBlock → Image → ℕ → List Part → Type 0
 ClosesSo reached spec_of lanes old before chain made after size parts =
     (s : Config) (files : List File) (f : File) → HoldsFiles s before chain (Some old) (files ++ f ∷ []) → AllEnd spec_of reached lanes f.entries → HoldsFiles s after made None (files ++ closed_with size parts f ∷ []) × (f.size ≤ size)
 
 -- whatever files the medium has, the last of the directory is ended with what the file carried, and with what was taken
-abbrev pub EndsSo : {L : Type 0} → (L → ℕ) → (L → ChannelSpec) → List L → Open → Image → List ChainBlock → List ChainBlock → Image → List Part → Type 0
+abbrev pub EndsSo : {L : Type 0} → (L → ℕ) → (L → ChannelSpec) → List L → OpenState → Image → List ChainBlock → List ChainBlock → Image → List Part → Type 0
 EndsSo reached spec_of lanes old before chain made after parts =
     ListsLast (first_of old.recording.out.blocks) chain → (text : List ℕ) (entries : List Entry) (n : ℕ) → IsShown before old text entries n → AllEnd spec_of reached lanes entries
     → EndsLast after made (first_of old.recording.out.blocks) text (entries ++ entries_of parts)
 
 -- the medium failed before the file was listed, and says it as it was; or while it was, and may say it closed
-abbrev pub MaySayClosed : {L : Type 0} → (L → ℕ) → (L → ChannelSpec) → List L → Open → Image → List ChainBlock → Image → ℕ → List Part → Type 0
+abbrev pub MaySayClosed : {L : Type 0} → (L → ℕ) → (L → ChannelSpec) → List L → OpenState → Image → List ChainBlock → Image → ℕ → List Part → Type 0
 MaySayClosed reached spec_of lanes old before chain after size parts =
     (s : Config) (files : List File) (f : File) → HoldsFiles s before chain (Some old) (files ++ f ∷ []) → AllEnd spec_of reached lanes f.entries
     → MediumSays s after (files ++ with_entries (entries_of parts) f ∷ []) ⊎ (MediumSays s after (files ++ closed_with size parts f ∷ []) × (f.size ≤ size))
 
 -- the medium failed while samples were taken, or while the file was closed
 pub data StopFails {L : Type 0} (took : L → List Sample → L → Type 0) (quiet : L → Option (List Sample)) (reached : L → ℕ) (spec_of : L → ChannelSpec) (order shares : List ℕ) (area : ℕ) (lanes lanes' : List L)
-    (old : Open) (before after : Disk) (chain : List ChainBlock) : Type 0 where
+    (old : OpenState) (before after : Disk) (chain : List ChainBlock) : Type 0 where
   in_taking : FailsAll took reached spec_of order lanes lanes' old.recording before after
       → ((s : Config) (files : List File) (f : File) → HoldsFiles s before.blocks chain (Some old) (files ++ f ∷ []) → AllEnd spec_of reached lanes f.entries → MediumSays s after.blocks (files ++ f ∷ []))
       → StopFails took quiet reached spec_of order shares area lanes lanes' old before after chain
@@ -91,7 +91,7 @@ pub data StopFails {L : Type 0} (took : L → List Sample → L → Type 0) (qui
       → Rose before.failures after.failures → StopFails took quiet reached spec_of order shares area lanes lanes' old before after chain
 
 pub record StopCloses {L : Type 0} (took : L → List Sample → L → Type 0) (quiet : L → Option (List Sample)) (reached : L → ℕ) (spec_of : L → ChannelSpec) (order shares : List ℕ) (area : ℕ) (lanes lanes' : List L)
-    (old : Open) (before after : Image) (chain made : List ChainBlock) (said : Stopped) : Type 0 where
+    (old : OpenState) (before after : Image) (chain made : List ChainBlock) (said : Stopped) : Type 0 where
   pub taken : TakenAll took quiet reached spec_of order shares area lanes lanes' old before chain said
   pub size : ℕ
   pub closes : ClosesSo reached spec_of lanes old before chain made after size taken.parts

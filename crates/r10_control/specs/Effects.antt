@@ -17,7 +17,7 @@ use Rattle.r10_builder.specs.Grows.{all_held}
 use Rattle.r10_builder.specs.LeftOpen.{LeavesOpen, closing, still_open}
 use Rattle.r10_builder.specs.Settings.{is_old}
 use Rattle.r10_builder.specs.State.{BuilderState}
-use Rattle.r10_volume.specs.Holding.{Open}
+use Rattle.r10_volume.specs.Holding.{OpenState}
 use Rattle.r10_machine.specs.Machine.{Tick}
 use Rattle.r10_refinement.specs.Kept.{Kept, Work, unmounted, idle, recording, failed}
 use Rattle.r10_medium.specs.Disk.{Disk, Image}
@@ -31,7 +31,7 @@ abbrev pub WhereIdle : Work → (List ChainBlock → Type 0) → Type 0
 WhereIdle (idle chain) holds = holds chain
 WhereIdle work holds = ⊥
 
-abbrev pub WhereRecording : Work → (List ChainBlock → Open → Type 0) → Type 0
+abbrev pub WhereRecording : Work → (List ChainBlock → OpenState → Type 0) → Type 0
 WhereRecording (recording chain o) holds = holds chain o
 WhereRecording work holds = ⊥
 
@@ -65,11 +65,11 @@ EraseEffect k old later new =
 -- ---- the calls on the file that is recorded
 
 -- the directory with one file more, of this name, from the block behind the others on, begun at this time, with as many blocks as its bytes need
-abbrev pub longer_listing : ℕ → List ℕ → Parts → Open → List ChainBlock → List ChainBlock
+abbrev pub longer_listing : ℕ → List ℕ → Parts → OpenState → List ChainBlock → List ChainBlock
 longer_listing reserved name civil o chain = added (sized (size_of o.recording.out.blocks) (begun_entry name (block_behind reserved (listed_files chain)) civil)) chain
 
 -- a start: one file more is listed, begun at the last tick's civil time; it carries its setup text and that tick's time, and shows both
-pub record StartEffectAt (name setup : List ℕ) (tick : Tick) (chain : List ChainBlock) (o : Open) (k : Kept) (old : Disk) (later : Kept) (new : Disk) : Type 0 where
+pub record StartEffectAt (name setup : List ℕ) (tick : Tick) (chain : List ChainBlock) (o : OpenState) (k : Kept) (old : Disk) (later : Kept) (new : Disk) : Type 0 where
   pub effect : Effect (block_behind k.config.directory (listed_files chain)) (record k { work = recording (longer_listing k.config.directory name tick.civil o chain) o }) (IsPublished (longer_listing k.config.directory name tick.civil o chain)) old.blocks later new
   pub shows : IsShown new.blocks o setup (time_entry_at k.config.time tick.count tick.civil ∷ []) 1
 
@@ -79,7 +79,7 @@ StartEffect name setup k old later new =
 
 -- a commit: the last file is listed with its bytes, and as many blocks as they need; whatever it carried, it shows all of that
 -- nothing is open then
-pub record CommitEffectAt (chain : List ChainBlock) (o p : Open) (k : Kept) (old : Disk) (later : Kept) (new : Disk) : Type 0 where
+pub record CommitEffectAt (chain : List ChainBlock) (o p : OpenState) (k : Kept) (old : Disk) (later : Kept) (new : Disk) : Type 0 where
   pub effect : Effect (first_of o.recording.out.blocks) (record k { work = recording (updated (sized (size_of p.recording.out.blocks) (last_listed chain)) chain) p })
       (IsPublished (updated (sized (size_of p.recording.out.blocks) (last_listed chain)) chain)) old.blocks later new
   pub shows : (text : List ℕ) (entries : List Entry) (n : ℕ) → IsShown old.blocks o text entries n → IsShown new.blocks p text entries (length entries)
@@ -94,7 +94,7 @@ closed_listing civil size chain = updated (record (sized size (last_listed chain
 
 -- a stop: the last file is listed with its bytes, closed at the last tick's civil time, and ends with its index, in groups of the settings' node packets;
 -- of the channels' numbers those of what was taken in rise
-pub record StopEffectAt (civil : Parts) (chain : List ChainBlock) (o : Open) (k : Kept) (old : Disk) (later : Kept) (new : Disk) : Type 0 where
+pub record StopEffectAt (civil : Parts) (chain : List ChainBlock) (o : OpenState) (k : Kept) (old : Disk) (later : Kept) (new : Disk) : Type 0 where
   pub size : ℕ
   pub effect : Effect (first_of o.recording.out.blocks) (record k { work = idle (closed_listing civil size chain); taken = later.taken }) (IsPublished (closed_listing civil size chain)) old.blocks later new
   pub indexed : EndsIndexed k.config.nodes (first_of o.recording.out.blocks) new.blocks (closed_listing civil size chain)
@@ -107,7 +107,7 @@ StopEffect k old later new = WhereRecording k.work (λ chain o. IsSomeAnd k.tick
 -- the file that is recorded goes on with this entry behind all that it carried, and shows what it showed
 -- this is left in the open packet of each channel
 pub record EntryEffect (entry : Entry) (left : BuilderState → List Sample)
-    (chain : List ChainBlock) (o p : Open) (made : Kept) (old : Image) (later : Kept) (new : Disk) : Type 0 where
+    (chain : List ChainBlock) (o p : OpenState) (made : Kept) (old : Image) (later : Kept) (new : Disk) : Type 0 where
   pub effect : Effect (first_of o.recording.out.blocks) made (HasDirectory chain) old later new
   pub takes : (text : List ℕ) (entries : List Entry) (n : ℕ) → IsShown old o text entries n → IsShown new.blocks p text (entries ++ entry ∷ []) n
   pub closes : LeavesOpen left o.recording.builders p.recording.builders

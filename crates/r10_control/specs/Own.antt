@@ -11,7 +11,7 @@ use Rattle.r10_refinement.specs.Kept.{Kept, Work, unmounted, idle, recording, fa
 use Rattle.r10_medium.specs.Disk.{Image}
 use Rattle.r10_openfile.specs.Carrying.{IsEnded, IsShown}
 use Rattle.r10_openfile.specs.Keeping.{ended_in}
-use Rattle.r10_volume.specs.Holding.{Open}
+use Rattle.r10_volume.specs.Holding.{OpenState}
 
 -- ---- which they are
 
@@ -28,7 +28,7 @@ pub record EndAfter (found : Option ℕ) (image : Image) (listed : List Director
   pub ended : AreEnded image (drop number listed) own
 
 -- the last of them are in the file that is recorded, which carries them
-pub record EndOpen (found : Option ℕ) (image : Image) (chain : List ChainBlock) (o : Open) (own : List Entry) : Type 0 where
+pub record EndOpen (found : Option ℕ) (image : Image) (chain : List ChainBlock) (o : OpenState) (own : List Entry) : Type 0 where
   pub ended : List Entry
   pub now : List Entry
   pub own_is : own ≡ ended ++ now

@@ -8,7 +8,7 @@ use Rattle.r10_builder.specs.State.{HasRoomForTwo}
 use Rattle.r10_dirblock.specs.declared.entry.Entry.{Entry as DirectoryEntry}
 use Rattle.r10_dirchain.specs.Chain.{listed_files}
 use Rattle.r10_dirchain.specs.declared.chain.ChainBlock.{ChainBlock}
-use Rattle.r10_volume.specs.Holding.{Open}
+use Rattle.r10_volume.specs.Holding.{OpenState}
 use Rattle.r10_machine.specs.Config.{Config}
 use Rattle.r10_machine.specs.Limits.{IsConfig}
 use Rattle.r10_machine.specs.Machine.{Tick}
@@ -31,7 +31,7 @@ tick_count (Some tick) = Some tick.count
 
 -- The file that is recorded goes on with times, events and what the lanes give: it carries entries of which none is later than what may come, and the medium shows the first of them, so many.
 -- It costs no more than there is of the medium; the directory lists it last.
-pub record IsRecorded {L : Type 0} (spec_of : L → ChannelSpec) (reached : L → ℕ) (s : Config) (tick : Option Tick) (last_event : Option ℕ) (image : Image) (chain : List ChainBlock) (o : Open) (lanes : List L) : Type 0 where
+pub record IsRecorded {L : Type 0} (spec_of : L → ChannelSpec) (reached : L → ℕ) (s : Config) (tick : Option Tick) (last_event : Option ℕ) (image : Image) (chain : List ChainBlock) (o : OpenState) (lanes : List L) : Type 0 where
   pub text : List ℕ
   pub entries : List Entry
   pub shown : ℕ

@@ -9,7 +9,7 @@ use Rattle.r10_body.specs.declared.refusal.Refusal.TheVariants as refusals
 use Rattle.r10_dirblock.specs.Block.{is_closed}
 use Rattle.r10_dirblock.specs.declared.entry.Entry.{Entry as DirectoryEntry}
 use Rattle.r10_dirchain.specs.declared.chain.ChainBlock.{ChainBlock}
-use Rattle.r10_volume.specs.Holding.{Open}
+use Rattle.r10_volume.specs.Holding.{OpenState}
 use Rattle.r10_index.specs.Book.{Book}
 use Rattle.r10_cursor.specs.Knowing.{SaysClosed}
 use Rattle.r10_machine.specs.Machine.{Machine}
@@ -36,7 +36,7 @@ directory_of (recording chain o) = chain
 directory_of failed = []
 
 -- the file that is recorded
-abbrev pub open_of : Work → Option Open
+abbrev pub open_of : Work → Option OpenState
 open_of unmounted = None
 open_of (idle chain) = None
 open_of (recording chain o) = Some o
@@ -48,14 +48,14 @@ pub record ListsRecordedLast (work : Work) : Type 0 where
   pub last : IfSome (open_of work) (λ o. IsSomeAnd (last_or None (files_of work)) (λ (e : DirectoryEntry). e.first_block ≡ first_of o.recording.out.blocks))
 
 -- this is told of a file that is held as the one that is written: its first block, and what the index will say of the packets that the medium shows, and of all
-pub record IsToldOf (o : Open) (w : Written) : Type 0 where
+pub record IsToldOf (o : OpenState) (w : Written) : Type 0 where
   pub first : w.first ≡ first_of o.recording.out.blocks
   pub named : w.named.now ≡ take o.shown o.recording.out.entries
   pub entries : w.book.now.entries ≡ o.recording.out.entries
   pub counted : w.book.now.counted ≡ o.recording.out.counted
 
 -- this is told of the file that is recorded, where one is: it is the last of so many
-abbrev pub TellsWritten : ℕ → Option Open → Option Written → Type 0
+abbrev pub TellsWritten : ℕ → Option OpenState → Option Written → Type 0
 TellsWritten files None None = Unit {0}
 TellsWritten files None (Some w) = ⊥
 TellsWritten files (Some o) None = ⊥
@@ -70,22 +70,22 @@ pub record IsInUse (work : Work) (chain : List ChainBlock) (files : ℕ) (writte
 -- ---- what is shown
 
 -- what its book says of a file that is written
-abbrev pub book_of : Open → Book
+abbrev pub book_of : OpenState → Book
 book_of o = record { entries = o.recording.out.entries; room = o.recording.out.room; counted = o.recording.out.counted }
 
 -- of the file that is recorded the medium shows these packets, these are what an index would say of them, and its book has them first
-abbrev pub ShowsOpenPackets : Image → Open → List Packet → Type 0
+abbrev pub ShowsOpenPackets : Image → OpenState → List Packet → Type 0
 ShowsOpenPackets image o packets = IsShownWith image (first_of o.recording.out.blocks) (take o.shown o.recording.out.entries) (book_of o) packets
 
 -- the medium shows these packets of the file of a number, without those of its index
 pub data ShowsAt (work : Work) (image : Image) (file : ℕ) (packets : List Packet) : Type 0 where
   of_ended : (e : DirectoryEntry) → slice_get (ended_files work) file ≡ Some e → HasDataPackets (bytes_in image e) packets → ShowsAt work image file packets
-  of_recorded : (o : Open) → open_of work ≡ Some o → length (files_of work) ≡ file + 1 → ShowsOpenPackets image o packets → ShowsAt work image file packets
+  of_recorded : (o : OpenState) → open_of work ≡ Some o → length (files_of work) ≡ file + 1 → ShowsOpenPackets image o packets → ShowsAt work image file packets
 
 -- the file of a number is there: it is strict with the closing of its directory entry, or the one that is recorded, of which the medium shows packets
 pub data IsReadAt (work : Work) (image : Image) (file : ℕ) : Type 0 where
   is_ended : (e : DirectoryEntry) → slice_get (ended_files work) file ≡ Some e → SaysClosed (bytes_in image e) (is_closed e) → IsReadAt work image file
-  is_recorded : (o : Open) (packets : List Packet) → open_of work ≡ Some o → length (files_of work) ≡ file + 1 → ShowsOpenPackets image o packets → IsReadAt work image file
+  is_recorded : (o : OpenState) (packets : List Packet) → open_of work ≡ Some o → length (files_of work) ≡ file + 1 → ShowsOpenPackets image o packets → IsReadAt work image file
 
 -- ---- what is refused
 

@@ -15,7 +15,7 @@ use Rattle.r10_builder.specs.LeftOpen.{LeavesOpen, with_taken}
 use Rattle.r10_builder.specs.State.{HasRoomForTwo}
 use Rattle.r10_dirblock.specs.declared.entry.Entry.{Entry as DirectoryEntry}
 use Rattle.r10_dirchain.specs.declared.chain.ChainBlock.{ChainBlock}
-use Rattle.r10_volume.specs.Holding.{HoldsFiles, Open}
+use Rattle.r10_volume.specs.Holding.{HoldsFiles, OpenState}
 use Rattle.r10_machine.specs.Config.{Config}
 use Rattle.r10_machine.specs.Machine.{File, Machine, with_entries}
 use Rattle.r10_machine.specs.Room.{area as area_of, area_from}
@@ -59,7 +59,7 @@ abbrev pub NoneBehind : {L : Type 0} → (L → Option (List Sample)) → (L →
 NoneBehind quiet spec_of lanes p = AllByRecursion (λ lane. (spec_of lane).id ≡ p.channel → quiet lane ≡ None → p.rest ≡ []) lanes
 
 -- Behind a file that took all of this in, channel by channel all went in that may, up to the first sample that has no room there; behind that one none did.
-pub record WentThrough (most : ℕ → ℕ) (s : Config) (o : Open) (parts : List Part) : Type 0 where
+pub record WentThrough (most : ℕ → ℕ) (s : Config) (o : OpenState) (parts : List Part) : Type 0 where
   pub file : Recording
   pub cost : file.cost ≡ o.recording.cost + sum_by entry_cost (entries_of parts)
   pub through : GoesThrough most file (area_from s (first_of o.recording.out.blocks)) parts
@@ -127,7 +127,7 @@ RefusesReadied disk None lacks old new medium medium' OutOfMemory = IsSameKept o
 RefusesReadied disk None lacks old new medium medium' r = lacks r × IsSameKept old new × (medium' ≡ medium)
 
 -- The file took these entries in, and goes on: it costs no more than there is, where that was so before.
-pub record WentOn (area : ℕ) (ends ends' : List Entry → Type 0) (more : List Entry) (old : Open) (before : Image) (new : Open) (after : Image) : Type 0 where
+pub record WentOn (area : ℕ) (ends ends' : List Entry → Type 0) (more : List Entry) (old : OpenState) (before : Image) (new : OpenState) (after : Image) : Type 0 where
   pub carries : (text : List ℕ) (entries : List Entry) (n : ℕ) → IsShown before old text entries n → ends entries → IsShown after new text (entries ++ more) n
   pub follows : (entries : List Entry) → ends entries → ends' (entries ++ more)
   pub file : IsSameFile old.recording new.recording
@@ -146,11 +146,11 @@ area_behind s (Some e) = area_from s e.first_block
 -- ---- a pump
 
 -- the first that waits in the channel's lane has no room in the file, where one may be moved; of a lane that is quiet all of this waits
-abbrev pub HasNoPlace : {L : Type 0} → (L → Option (List Sample)) → (L → ChannelSpec) → List L → Config → Open → ℕ → ℕ → Full → Type 0
+abbrev pub HasNoPlace : {L : Type 0} → (L → Option (List Sample)) → (L → ChannelSpec) → List L → Config → OpenState → ℕ → ℕ → Full → Type 0
 HasNoPlace quiet spec_of lanes s o channel most lacks =
     (waiting : List Sample) × TellsWaiting quiet spec_of lanes (one_part channel [] waiting) × Begins o.recording channel (area_from s (first_of o.recording.out.blocks)) most waiting (Some lacks)
 
-abbrev pub IsForFirst : {L : Type 0} → (L → Option (List Sample)) → (L → ChannelSpec) → List L → Config → Open → ℕ → ℕ → Refusal → Type 0
+abbrev pub IsForFirst : {L : Type 0} → (L → Option (List Sample)) → (L → ChannelSpec) → List L → Config → OpenState → ℕ → ℕ → Refusal → Type 0
 IsForFirst quiet spec_of lanes s o channel most MediumFull = HasNoPlace quiet spec_of lanes s o channel most lacking.Medium
 IsForFirst quiet spec_of lanes s o channel most r = ⊥
 
@@ -160,12 +160,12 @@ FirstLacks quiet spec_of lanes s (recording chain o) channel most r = IsForFirst
 FirstLacks quiet spec_of lanes s work channel most r = ⊥
 
 -- these samples are moved into the machine's file, whichever it is
-abbrev pub MovesAny : (List Entry → Type 0) → ℕ → ℕ → ℕ → ℕ → List Sample → List Sample → Option Full → Open → Image → Open → Type 0
+abbrev pub MovesAny : (List Entry → Type 0) → ℕ → ℕ → ℕ → ℕ → List Sample → List Sample → Option Full → OpenState → Image → OpenState → Type 0
 MovesAny ends channel most area n samples rest full old before new =
     (s : Config) (chain : List ChainBlock) (files : List File) (f : File) → HoldsFiles s before chain (Some old) (files ++ f ∷ []) → ends f.entries → area ≡ area_of s f → IsMovedIn s f channel most n samples rest full new.recording
 
 -- so many were moved, and where none was, none was asked for or nothing waits; why no more were is told
-pub record MovedSamples (ends ends' : List Entry → Type 0) (channel most area : ℕ) (samples rest : List Sample) (old : Open) (before : Image) (new : Open) (after : Image) (n : ℕ) : Type 0 where
+pub record MovedSamples (ends ends' : List Entry → Type 0) (channel most area : ℕ) (samples rest : List Sample) (old : OpenState) (before : Image) (new : OpenState) (after : Image) (n : ℕ) : Type 0 where
   pub number : n ≡ length samples
   pub on : WentOn area ends ends' (entries_on channel samples) old before new after
   pub full : Option Full
@@ -175,14 +175,14 @@ pub record MovedSamples (ends ends' : List Entry → Type 0) (channel most area 
   pub moves : MovesAny ends channel most area n samples rest full old before new
 
 -- nothing was moved and nothing written, and the file is the same but for its memory
-pub record Stayed {M : Type 0} (ends ends' : List Entry → Type 0) (samples : List Sample) (old : Open) (medium : M) (new : Open) (medium' : M) : Type 0 where
+pub record Stayed {M : Type 0} (ends ends' : List Entry → Type 0) (samples : List Sample) (old : OpenState) (medium : M) (new : OpenState) (medium' : M) : Type 0 where
   pub none : samples ≡ []
   pub same : medium' ≡ medium
   pub file : IsAskedFor old new
   pub lasts : (entries : List Entry) → ends entries → ends' entries
 
 -- the first that waits has no room; or memory was refused where it has; or the medium failed, behind a first one that had room
-abbrev pub MovedNone : {M : Type 0} → (M → Disk) → (List Entry → Type 0) → (List Entry → Type 0) → ℕ → ℕ → ℕ → List Sample → List Sample → Open → M → Open → M → PumpFault → Type 0
+abbrev pub MovedNone : {M : Type 0} → (M → Disk) → (List Entry → Type 0) → (List Entry → Type 0) → ℕ → ℕ → ℕ → List Sample → List Sample → OpenState → M → OpenState → M → PumpFault → Type 0
 MovedNone disk ends ends' channel most area samples rest old medium new medium' (pump_faults.Full full) =
     Stayed ends ends' samples old medium new medium' × MovesAny ends channel most area 0 [] rest (Some full) old (disk medium).blocks new × Begins new.recording channel area most rest (Some full)
 MovedNone disk ends ends' channel most area samples rest old medium new medium' pump_faults.Memory = Stayed ends ends' samples old medium new medium' × Begins old.recording channel area most rest None
@@ -207,7 +207,7 @@ pub record ShowsFirst (shows : Sample → Type 0) (single : Sample → List Samp
 
 -- From the lane of a channel these samples were taken, at most so many and no more than it has room for, and the rest waits behind them, which is bare unless the first has no room: that one is shown then.
 pub record PumpedLane {M : Type 0} (took : List Sample → Type 0) (left : List Sample → List Sample → Type 0) (bare : List Sample → Type 0) (showing : List Sample → Type 0) (ends ends' : List Entry → Type 0) (disk : M → Disk) (channel capacity most area : ℕ)
-    (old : Open) (medium : M) (new : Open) (medium' : M) (result : Result ℕ PumpFault) : Type 0 where
+    (old : OpenState) (medium : M) (new : OpenState) (medium' : M) (result : Result ℕ PumpFault) : Type 0 where
   pub samples : List Sample
   pub rest : List Sample
   pub gave : took samples

@@ -7,7 +7,7 @@ use Rattle.r10_body.specs.declared.spec.ChannelSpec.{ChannelSpec}
 use Rattle.r10_dirblock.specs.declared.entry.Entry.{Entry as DirectoryEntry}
 use Rattle.r10_dirchain.specs.Chain.{listed_files}
 use Rattle.r10_dirchain.specs.declared.chain.ChainBlock.{ChainBlock}
-use Rattle.r10_volume.specs.Holding.{Open}
+use Rattle.r10_volume.specs.Holding.{OpenState}
 use Rattle.r10_machine.specs.Config.{Config}
 use Rattle.r10_machine.specs.Machine.{Lane}
 use Rattle.r10_machine.specs.Room.{area_from}
@@ -25,7 +25,7 @@ use Rattle.r10_control.specs.declared.status.RecorderStatus.{RecorderStatus}
 pub use Rattle.r10_volume.specs.Listing.{info_in}
 
 -- the bytes that the file that is recorded has left: from its first block on, without what it costs
-abbrev pub left_in : Config → List ChainBlock → Open → ℕ
+abbrev pub left_in : Config → List ChainBlock → OpenState → ℕ
 left_in s chain o = elim (last_or None (listed_files chain)) [ None ↦ 0 | Some e ↦ area_from s e.first_block - o.recording.cost ]
 
 -- and those that the next file may have, where none is recorded

@@ -26,8 +26,8 @@ impl<M: BlockMedium, L: LaneOut> Recorder<M, L> {
         self.settings.channels()
     }
 
-    /// The files in order, each with its name, its bytes, its blocks and whether it is closed; the one that is recorded is the last, as the
-    /// medium shows it. Refused: Failed, NotMounted, OutOfMemory.
+    /// The files in order, each with its name, its bytes, its blocks and whether it is closed; the one that is recorded is the
+    /// last, as the medium shows it. Refused: Failed, NotMounted, OutOfMemory.
     pub fn files(&self) -> Result<Vec<FileInfo>, Refusal>
         ensures does { OnlyTells M.disk events.Files (λ infos. replies.Files infos.items) self.now result }
         ensures told { IfOk result (λ infos. infos.items ≡ map info_in (files_of self.now.kept.work)) }

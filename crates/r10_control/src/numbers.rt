@@ -17,9 +17,9 @@ use r10_medium::BlockMedium;
 use r10_volume::{count, last_file};
 
 impl<M: BlockMedium, L: LaneOut> Recorder<M, L> {
-    /// The number of the last file of the directory in use, as files are numbered from 0, and how many of its bytes the medium shows: of the file
-    /// that is recorded, as many as the last start or commit showed. None where there is no file, and where none is mounted. It takes no
-    /// memory.
+    /// The number of the last file of the directory in use, as files are numbered from 0, and how many of its bytes the medium
+    /// shows: of the file that is recorded, as many as the last start or commit showed. None where there is no file, and where none
+    /// is mounted. It takes no memory.
     pub fn last_shown(&self) -> Option<(usize, u64)>
         ensures { result ≡ last_shown self.now.kept.work }
     {
@@ -28,8 +28,8 @@ impl<M: BlockMedium, L: LaneOut> Recorder<M, L> {
         last_in(&self.work)
     }
 
-    /// How many entries of a channel were taken in, of all files since the recorder was made, up to `u64::MAX`. None where the settings have no such
-    /// channel. It takes no memory.
+    /// How many entries of a channel were taken in, of all files since the recorder was made, up to `u64::MAX`. None where the
+    /// settings have no such channel. It takes no memory.
     pub fn taken(&self, channel: u16) -> Option<u64>
         ensures { result ≡ number_on channel self.now.kept.config.channels self.now.kept.taken }
     {
@@ -46,7 +46,8 @@ impl<M: BlockMedium, L: LaneOut> Recorder<M, L> {
 
 /// The last file of the directory in use.
 fn last_in(work: &Doing) -> Option<(usize, u64)>
-    ensures { result ≡ shown_as_last (min (length (files_of (work_of work.now))) (2 ^ 64 - 1)) (last_or None (files_of (work_of work.now))) }
+    ensures { result
+        ≡ shown_as_last (min (length (files_of (work_of work.now))) (2 ^ 64 - 1)) (last_or None (files_of (work_of work.now))) }
 {
     match work {
         Doing::Unmounted => None,
@@ -58,7 +59,8 @@ fn last_in(work: &Doing) -> Option<(usize, u64)>
 
 /// The last file of a directory.
 fn last_of(directory: &Directory) -> Option<(usize, u64)>
-    ensures { result ≡ shown_as_last (min (length (listed_files directory.now)) (2 ^ 64 - 1)) (last_or None (listed_files directory.now)) }
+    ensures { result
+        ≡ shown_as_last (min (length (listed_files directory.now)) (2 ^ 64 - 1)) (last_or None (listed_files directory.now)) }
 {
     match last_file(directory) {
         Some(entry) => Some((count(directory).saturating_sub(1), entry.size)),

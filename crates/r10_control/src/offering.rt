@@ -23,7 +23,8 @@ impl<M: BlockMedium> Recorder<M, RingLane> {
     /// Overflow. An overflow counts the message as lost, and the next one that is accepted has a gap.
     pub fn offer(&mut self, channel: u16, count: u64, message: Message) -> Result<(), Refusal>
         ensures offers { OffersTo channel self.old.lanes count message result self.new.lanes }
-        ensures steps { AnswersWith self.old.lanes self.old.kept (M.disk self.old.medium).blocks (M.disk self.old.medium).failures (events.Offer channel count message) (λ _. replies.Done) result self.new.lanes }
+        ensures steps { AnswersWith self.old.lanes self.old.kept (M.disk self.old.medium).blocks (M.disk self.old.medium).failures
+            (events.Offer channel count message) (λ _. replies.Done) result self.new.lanes }
         ensures kept { self.new.kept ≡ self.old.kept }
         ensures medium { self.new.medium ≡ self.old.medium }
     {
@@ -33,11 +34,12 @@ impl<M: BlockMedium> Recorder<M, RingLane> {
         offer_to(&mut self.lanes, channel, count, message)
     }
 
-    /// A channel lost so many messages that were never offered, in any mode: the next one that is accepted has them in its gap, with
-    /// those that overflowed. None changes nothing. Refused: NoSuchChannel.
+    /// A channel lost so many messages that were never offered, in any mode: the next one that is accepted has them in its gap,
+    /// with those that overflowed. None changes nothing. Refused: NoSuchChannel.
     pub fn lose(&mut self, channel: u16, lost: u64) -> Result<(), Refusal>
         ensures loses { LosesOn channel self.old.lanes lost result self.new.lanes }
-        ensures steps { AnswersWith self.old.lanes self.old.kept (M.disk self.old.medium).blocks (M.disk self.old.medium).failures (events.Lose channel lost) (λ _. replies.Done) result self.new.lanes }
+        ensures steps { AnswersWith self.old.lanes self.old.kept (M.disk self.old.medium).blocks (M.disk self.old.medium).failures
+            (events.Lose channel lost) (λ _. replies.Done) result self.new.lanes }
         ensures kept { self.new.kept ≡ self.old.kept }
         ensures medium { self.new.medium ≡ self.old.medium }
     {
@@ -51,7 +53,8 @@ impl<M: BlockMedium> Recorder<M, RingLane> {
     /// NoSuchChannel.
     pub fn lost(&self, channel: u16) -> Result<u64, Refusal>
         ensures lost { IfOk result (λ n. option_map (λ lane. lane.lost) (lane_in channel self.now.lanes) ≡ Some n) }
-        ensures refused { IfErr result (λ r. (r ≡ refusals.NoSuchChannel) × (option_map (λ lane. lane.lost) (lane_in channel self.now.lanes) ≡ None)) }
+        ensures refused { IfErr result
+            (λ r. (r ≡ refusals.NoSuchChannel) × (option_map (λ lane. lane.lost) (lane_in channel self.now.lanes) ≡ None)) }
     {
         match lost_in(self.lanes.as_slice(), channel) {
             Some(lost) => Ok(lost),

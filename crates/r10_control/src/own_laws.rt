@@ -20,5 +20,6 @@ pub fn own_entries_stay()
 /// Of each machine that a recorder stands for, and that has not failed, the entries of the files that it began are the
 /// recorder's own.
 pub fn own_entries_are_meant()
-    ensures { (k : Kept) (image : Image) (failures : ℕ) (m : Machine) → KeptStandsFor k image failures m → (k.work ≡ failed → ⊥) → AreOwn k image (flat_map (λ f. f.entries) (own_files m.files)) }
+    ensures { (k : Kept) (image : Image) (failures : ℕ) (m : Machine) → KeptStandsFor k image failures m → (k.work ≡ failed → ⊥)
+        → AreOwn k image (flat_map (λ f. f.entries) (own_files m.files)) }
 {}

@@ -45,14 +45,30 @@ impl<M: BlockMedium, L: LaneOut> Model for Recorder<M, L> {
     ghost Value = { RecorderState M L };
 
     ghost view = { λ r. record {
-      kept = record { config = r.settings; work = work_of r.work; tick = r.tick; last_event = r.last_event; generation = r.generation; taken = r.taken.items; erased = r.erased.items; found = r.found };
+      kept = record {
+        config = r.settings;
+        work = work_of r.work;
+        tick = r.tick;
+        last_event = r.last_event;
+        generation = r.generation;
+        taken = r.taken.items;
+        erased = r.erased.items;
+        found = r.found;
+      };
       lanes = r.lanes.items;
       medium = r.medium;
     } };
 
-    ghost invariant = { λ r. Owns L.spec_of L.reached
-        (record { config = r.settings; work = work_of r.work; tick = r.tick; last_event = r.last_event; generation = r.generation; taken = r.taken.items; erased = r.erased.items; found = r.found })
-        (M.disk r.medium).blocks r.lanes.items r.reader.books };
+    ghost invariant = { λ r. Owns L.spec_of L.reached (record {
+      config = r.settings;
+      work = work_of r.work;
+      tick = r.tick;
+      last_event = r.last_event;
+      generation = r.generation;
+      taken = r.taken.items;
+      erased = r.erased.items;
+      found = r.found;
+    }) (M.disk r.medium).blocks r.lanes.items r.reader.books };
 }
 
 /// Letting a recorder go is one call, whatever it does, so that a body that holds one has no exit for each mode.
@@ -83,7 +99,8 @@ fn zeros(alloc: Global, count: usize) -> Result<Vec<u64>, AllocError>
 }
 
 impl<M: BlockMedium, L: LaneOut> Recorder<M, L> {
-    /// A recorder over a medium of these settings, and a lane for each of their channels, in their order. Where memory is refused, all come back.
+    /// A recorder over a medium of these settings, and a lane for each of their channels, in their order. Where memory is refused,
+    /// all come back.
     pub fn new(
         alloc: Global,
         settings: Settings,
@@ -92,7 +109,16 @@ impl<M: BlockMedium, L: LaneOut> Recorder<M, L> {
     ) -> Result<Recorder<M, L>, (Settings, M, Vec<L>)>
         requires blocks { length (M.disk medium).blocks ≡ settings.blocks }
         requires lanes { map L.spec_of lanes.items ≡ settings.channels }
-        ensures kept { IfOk result (λ r. r.kept ≡ record { config = settings; work = unmounted; tick = None; last_event = None; generation = 0; taken = replicate (length settings.channels) 0; erased = replicate (length settings.channels) 0; found = None }) }
+        ensures kept { IfOk result (λ r. r.kept ≡ record {
+          config = settings;
+          work = unmounted;
+          tick = None;
+          last_event = None;
+          generation = 0;
+          taken = replicate (length settings.channels) 0;
+          erased = replicate (length settings.channels) 0;
+          found = None;
+        }) }
         ensures lanes { IfOk result (λ r. r.lanes ≡ lanes.items) }
         ensures medium { IfOk result (λ r. r.medium ≡ medium) }
         ensures owned { IfOk result (λ r. AreOwn r.kept (M.disk r.medium).blocks []) }
@@ -143,8 +169,8 @@ impl<M: BlockMedium, L: LaneOut> Recorder<M, L> {
         (medium, lanes)
     }
 
-    /// The recorder and its lanes, in the order of the settings. In the place of each lane the recorder has one that gives nothing, so that
-    /// it goes on as before, but for what its lanes held. Where memory is refused, the recorder comes back as it was.
+    /// The recorder and its lanes, in the order of the settings. In the place of each lane the recorder has one that gives nothing,
+    /// so that it goes on as before, but for what its lanes held. Where memory is refused, the recorder comes back as it was.
     pub fn apart(self) -> Result<(Recorder<M, Spent>, Vec<L>), Recorder<M, L>>
         ensures kept { IfOk result (λ parts. parts.0.kept ≡ self.kept) }
         ensures medium { IfOk result (λ parts. parts.0.medium ≡ self.medium) }

@@ -58,9 +58,9 @@ pub struct RecorderStatus {
 }
 
 impl<M: BlockMedium, L: LaneOut> Recorder<M, L> {
-    /// How the recorder is, in any mode: the last tick, how many files there are, the bytes that the file that is recorded has left, or that
-    /// the next one may have, and of each channel how many messages its lane holds, and erases took. Of a lane that is quiet all that waits is
-    /// held. Refused: OutOfMemory.
+    /// How the recorder is, in any mode: the last tick, how many files there are, the bytes that the file that is recorded has
+    /// left, or that the next one may have, and of each channel how many messages its lane holds, and erases took. Of a lane that
+    /// is quiet all that waits is held. Refused: OutOfMemory.
     pub fn status(&mut self) -> Result<RecorderStatus, Refusal>
         ensures does { TellsStatus L.took L.quiet L.spec_of M.disk self.old self.new result }
     {
@@ -89,7 +89,8 @@ impl<M: BlockMedium> Recorder<M, RingLane> {
     pub fn status_with_lost(&self) -> Result<Status, Refusal>
         ensures told { IfOk result (λ status. status ≡ status_in self.now.kept self.now.lanes) }
         ensures refused { IfErr result (λ r. r ≡ refusals.OutOfMemory) }
-        ensures steps { AnswersWith self.now.lanes self.now.kept (M.disk self.now.medium).blocks (M.disk self.now.medium).failures events.Status (λ status. replies.Status status) result self.now.lanes }
+        ensures steps { AnswersWith self.now.lanes self.now.kept (M.disk self.now.medium).blocks
+            (M.disk self.now.medium).failures events.Status (λ status. replies.Status status) result self.now.lanes }
     {
         // For the proof: a step keeps a state sound; what is told is the machine's; the channels and blocks are within limits.
         a_step_stays_sound();
@@ -140,7 +141,8 @@ fn count_in(work: &Doing) -> usize
 /// The bytes that the next file may have, or that the one that is recorded has left.
 fn free_in(settings: &Settings, work: &Doing) -> u64
     ensures value { result ≡ free_in settings.now (work_of work.now) }
-    ensures held { (image : Image) (m : Machine) → m.mode ≡ mode_of (work_of work.now) → HasFiles settings.now (work_of work.now) image m.files → result ≡ free_bytes settings.now m }
+    ensures held { (image : Image) (m : Machine) → m.mode ≡ mode_of (work_of work.now)
+        → HasFiles settings.now (work_of work.now) image m.files → result ≡ free_bytes settings.now m }
 {
     // For the proof: the blocks are within limits.
     let _blocks = settings.blocks();
@@ -155,7 +157,8 @@ fn free_in(settings: &Settings, work: &Doing) -> u64
 /// The bytes that the file that is recorded has left: from its first block on, without what it costs.
 fn left_in(settings: &Settings, directory: &Directory, file: &OpenFile) -> u64
     ensures value { result ≡ left_in settings.now directory.now file.now }
-    ensures held { (image : Image) (files : List File) (f : File) → HoldsFiles settings.now image directory.now (Some file.now) (files ++ f ∷ []) → result ≡ area settings.now f - cost_of f }
+    ensures held { (image : Image) (files : List File) (f : File)
+        → HoldsFiles settings.now image directory.now (Some file.now) (files ++ f ∷ []) → result ≡ area settings.now f - cost_of f }
 {
     match last_file(directory) {
         Some(entry) => area_from(settings, entry.first_block as usize).saturating_sub(file.cost()),

@@ -30,7 +30,7 @@ pub(crate) fn mode_in(work: &Doing) -> Mode
 }
 
 /// Does something else from now on.
-pub(crate) fn turn(work: &mut Doing, to: Doing)
+pub(crate) fn set_work(work: &mut Doing, to: Doing)
     ensures { work.new ≡ to }
 {
     *work = to;

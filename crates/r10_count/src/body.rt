@@ -51,8 +51,10 @@ pub fn read_body<E: BodyEntry + Drop>(
     counter: u64,
     body: &[u8],
 ) -> Result<Reading<Items<E>>, AllocError>
-    ensures found { IfOk result (ReadsBody (λ entries. IsBody E.form setting counter entries body.now) (IsForeign E.form body.now)) }
-    ensures only { (entries : List E) → IsBody E.form setting counter entries body.now → IfOk result (λ reading. reading ≡ Strict entries) }
+    ensures found { IfOk result
+        (ReadsBody (λ entries. IsBody E.form setting counter entries body.now) (IsForeign E.form body.now)) }
+    ensures only { (entries : List E) → IsBody E.form setting counter entries body.now
+        → IfOk result (λ reading. reading ≡ Strict entries) }
 {
     let Some((word, rest)) = split_u32(body) else {
         return Ok(Reading::Neither);

@@ -11,7 +11,7 @@ const SHORT: usize = 38;
 
 /// Where bytes stand: in the value itself, the first of so many places, or in memory of their own.
 #[derive(Drop)]
-pub(crate) enum Held {
+pub(crate) enum BytesPlace {
     Short { len: u8, places: [u8; 38] },
     Long { vec: Vec<u8> },
 }
@@ -19,7 +19,7 @@ pub(crate) enum Held {
 /// Bytes that a contract sees as their list, so that two messages with the same bytes are one value. Up to 38 of them stand in
 /// the value itself where they are copied into it, and take no memory of their own: it has 40 bytes.
 pub struct Bytes {
-    held: Held,
+    held: BytesPlace,
 }
 
 impl Model for Bytes {
@@ -39,7 +39,7 @@ impl Bytes {
         ensures { result ≡ vec.items }
     {
         Bytes {
-            held: Held::Long { vec },
+            held: BytesPlace::Long { vec },
         }
     }
 
@@ -57,7 +57,7 @@ impl Bytes {
         places[..bytes.len()].copy_from_slice(bytes);
         let len = bytes.len() as u8;
         Ok(Bytes {
-            held: Held::Short { len, places },
+            held: BytesPlace::Short { len, places },
         })
     }
 
@@ -67,8 +67,8 @@ impl Bytes {
         ensures { result.now ≡ self.now }
     {
         match &self.held {
-            Held::Short { len, places } => &places[..usize::from(*len)],
-            Held::Long { vec } => vec.as_slice(),
+            BytesPlace::Short { len, places } => &places[..usize::from(*len)],
+            BytesPlace::Long { vec } => vec.as_slice(),
         }
     }
 
@@ -78,8 +78,8 @@ impl Bytes {
         ensures { IfSome result (λ found. (found.1 ≤ 38) × (self.now ≡ take found.1 found.0.now)) }
     {
         match &self.held {
-            Held::Short { len, places } => Some((places, usize::from(*len))),
-            Held::Long { vec: _ } => None,
+            BytesPlace::Short { len, places } => Some((places, usize::from(*len))),
+            BytesPlace::Long { vec: _ } => None,
         }
     }
 
@@ -99,7 +99,7 @@ impl Bytes {
     }
 
     /// The same bytes in a value of their own.
-    pub fn copied(&self, alloc: Global) -> Result<Bytes, AllocError>
+    pub fn duplicate(&self, alloc: Global) -> Result<Bytes, AllocError>
         ensures same { IfOk result (λ copy. copy ≡ self.now) }
         ensures short { length self.now ≤ 38 → IsOk result }
     {

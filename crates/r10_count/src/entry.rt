@@ -16,7 +16,7 @@ pub trait BodyEntry: Sized {
         ensures { result ≡ form.front };
 
     /// The length in bytes of an entry that begins so, if one does.
-    fn told(front: &[u8]) -> Option<usize>
+    fn entry_length(front: &[u8]) -> Option<usize>
         requires { length front.now ≡ form.front }
         ensures { result ≡ form.told front.now };
 
@@ -53,5 +53,6 @@ pub trait BodyEntry: Sized {
     /// The entry that the writer spells with these bytes behind an entry at a count, if there is one.
     fn read(alloc: Global, before: u64, bytes: &[u8]) -> Result<Option<Self>, AllocError>
         ensures found { IfOk result (λ read. IfSome read (λ e. form.Fits before e × (bytes.now ≡ form.spelled before e))) }
-        ensures none { IfOk result (λ read. IfNone read ((e : Self) → form.Fits before e → bytes.now ≡ form.spelled before e → ⊥)) };
+        ensures none { IfOk result
+            (λ read. IfNone read ((e : Self) → form.Fits before e → bytes.now ≡ form.spelled before e → ⊥)) };
 }

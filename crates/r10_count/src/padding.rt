@@ -11,7 +11,7 @@ pub fn padding_of(count: usize) -> &'static [u8]
 }
 
 /// The first bytes, where nothing but their padding is behind them.
-pub fn unpadded(bytes: &[u8], count: usize) -> Option<&[u8]>
+pub fn strip_padding(bytes: &[u8], count: usize) -> Option<&[u8]>
     ensures found { IfSome result (λ text. (bytes.now ≡ padded text.now) × (length text.now ≡ count)) }
     ensures none { IfNone result ((text : List ℕ) → length text ≡ count → bytes.now ≡ padded text → ⊥) }
 {

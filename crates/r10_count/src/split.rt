@@ -9,13 +9,14 @@ use crate::entry::BodyEntry;
 #[inline(always)]
 pub fn first_entry<E: BodyEntry>(bytes: &[u8]) -> Option<(&[u8], &[u8])>
     ensures some { IfSome result (λ x. IsEntryBytes E.form.front E.form.told x.0.now × (bytes.now ≡ x.0.now ++ x.1.now)) }
-    ensures none { IfNone result ((entry rest : List ℕ) → IsEntryBytes E.form.front E.form.told entry → bytes.now ≡ entry ++ rest → ⊥) }
+    ensures none { IfNone result
+        ((entry rest : List ℕ) → IsEntryBytes E.form.front E.form.told entry → bytes.now ≡ entry ++ rest → ⊥) }
 {
     let front = E::front();
     if bytes.len() < front {
         return None;
     }
-    let Some(told) = E::told(&bytes[..front]) else {
+    let Some(told) = E::entry_length(&bytes[..front]) else {
         return None;
     };
     if bytes.len() < told {

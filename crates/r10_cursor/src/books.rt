@@ -1,6 +1,7 @@
 //! The files that were judged.
 
-ghost use Rattle.std.specs.Prelude.{◌≡◌, ◌≢◌, ◌+◌, ◌*◌, ◌^◌, ◌≤◌, ◌<◌, [], List, Option, None, Some, length, slice_get, IfOk, IfErr, IfSome, IfNone, IsErrOf, IsSomeAnd, OnOk, OnErr};
+ghost use Rattle.std.specs.Prelude.{◌≡◌, ◌≢◌, ◌+◌, ◌*◌, ◌^◌, ◌≤◌, ◌<◌, [], List, Option, None, Some, length, slice_get, IfOk};
+ghost use Rattle.std.specs.Prelude.{IfErr, IfSome, IfNone, IsErrOf, IsSomeAnd, OnOk, OnErr};
 ghost use Rattle.std.specs.Bool.{OnTrue, OnFalse};
 ghost use Rattle.std.specs.List.{AllByRecursion};
 ghost use Rattle.r10_medium.specs.Disk.{Image, IsWhole, Unchanged};
@@ -58,9 +59,10 @@ impl Books {
         file: usize,
         buffer: &mut Vec<u8>,
     ) -> Result<usize, ReadRefusal>
-        ensures learned { HasJudged (M.disk medium.old).blocks directory.now written.entry self.old
-            → IfOk result (λ place. IsLearned (M.disk medium.old).blocks directory.now written.entry file self.new.kept.items place) }
-        ensures judged { HasJudged (M.disk medium.old).blocks directory.now written.entry self.old → HasJudged (M.disk medium.old).blocks directory.now written.entry self.new }
+        ensures learned { HasJudged (M.disk medium.old).blocks directory.now written.entry self.old → IfOk result
+            (λ place. IsLearned (M.disk medium.old).blocks directory.now written.entry file self.new.kept.items place) }
+        ensures judged { HasJudged (M.disk medium.old).blocks directory.now written.entry self.old
+            → HasJudged (M.disk medium.old).blocks directory.now written.entry self.new }
         ensures refused { IfErr result (RefusesRead (M.disk medium.old) (M.disk medium.new) directory.now written.entry file) }
         ensures unread { IfErr result (RefusesToRead (M.disk medium.old) (M.disk medium.new) directory.now written.entry file) }
         ensures same { Unchanged (M.disk medium.old) (M.disk medium.new) }
@@ -77,19 +79,22 @@ impl Books {
 
     /// Where the packets stand that the medium shows of a file that was learned of, and what nodes say of them: what is told of the
     /// file that is written, or else what is kept at a place.
-    pub(crate) fn shown<'a>(
+    pub(crate) fn shown_packets<'a>(
         &'a self,
         written: Option<Written<'a>>,
         file: usize,
         place: usize,
     ) -> Option<Shown<'a>>
-        ensures told { (image : Image) (chain : List ChainBlock) → IsToldRight image written.entry file → IsLearned image chain written.entry file self.now.kept.items place
+        ensures told { (image : Image) (chain : List ChainBlock) → IsToldRight image written.entry file
+            → IsLearned image chain written.entry file self.now.kept.items place
             → IsSomeAnd result (IsTold image chain written.entry file) }
-        ensures there { (image : Image) (chain : List ChainBlock) → IsLearned image chain written.entry file self.now.kept.items place → result ≢ None }
-        ensures shown { (image : Image) (chain : List ChainBlock) (packets : List StrictPacket) → IsLearned image chain written.entry file self.now.kept.items place → ShowsFile image chain written.entry file packets
+        ensures there { (image : Image) (chain : List ChainBlock)
+            → IsLearned image chain written.entry file self.now.kept.items place → result ≢ None }
+        ensures shown { (image : Image) (chain : List ChainBlock) (packets : List StrictPacket)
+            → IsLearned image chain written.entry file self.now.kept.items place → ShowsFile image chain written.entry file packets
             → IfSome result (λ shown. IsShownWith image shown.first shown.named.now shown.book.now packets) }
     {
-        match told(written, file) {
+        match shown_of_written(written, file) {
             Some(told) => Some(told),
             None => self.book(place),
         }
@@ -129,9 +134,11 @@ impl Books {
         entry: &Entry,
         buffer: &mut Vec<u8>,
     ) -> Result<usize, ReadRefusal>
-        ensures kept { (chain : List ChainBlock) (written : Option Written) → finished_file written chain file ≡ Some entry.now → AllByRecursion (IsOf (M.disk medium.old).blocks chain written) self.old.kept.items
+        ensures kept { (chain : List ChainBlock) (written : Option Written) → finished_file written chain file ≡ Some entry.now
+            → AllByRecursion (IsOf (M.disk medium.old).blocks chain written) self.old.kept.items
             → IfOk result (λ n. IsSomeAnd (slice_get self.new.kept.items n) (IsUnder (M.disk medium.old).blocks entry.now)) }
-        ensures judged { (chain : List ChainBlock) (written : Option Written) → finished_file written chain file ≡ Some entry.now → AllByRecursion (IsOf (M.disk medium.old).blocks chain written) self.old.kept.items
+        ensures judged { (chain : List ChainBlock) (written : Option Written) → finished_file written chain file ≡ Some entry.now
+            → AllByRecursion (IsOf (M.disk medium.old).blocks chain written) self.old.kept.items
             → AllByRecursion (IsOf (M.disk medium.old).blocks chain written) self.new.kept.items }
         ensures refused { IfErr result (IsUnread (M.disk medium.old) (M.disk medium.new) entry.now) }
         ensures same { Unchanged (M.disk medium.old) (M.disk medium.new) }
@@ -178,12 +185,13 @@ fn is_written(written: Option<Written<'_>>, file: usize) -> bool
     ensures yes { OnTrue result (IsSomeAnd written.entry (λ w. w.file ≡ file)) }
     ensures no { OnFalse result (IfSome written.entry (λ w. w.file ≢ file)) }
 {
-    told(written, file).is_some()
+    shown_of_written(written, file).is_some()
 }
 
 /// What is told of a file, where it is the one that is written.
-fn told<'a>(written: Option<Written<'a>>, file: usize) -> Option<Shown<'a>>
-    ensures some { IfSome result (λ shown. IsSomeAnd written.entry (λ w. (w.file ≡ file) × (shown.first ≡ w.first) × (shown.named.now ≡ w.named.now) × (shown.book.now ≡ w.book.now))) }
+fn shown_of_written<'a>(written: Option<Written<'a>>, file: usize) -> Option<Shown<'a>>
+    ensures some { IfSome result (λ shown. IsSomeAnd written.entry
+        (λ w. (w.file ≡ file) × (shown.first ≡ w.first) × (shown.named.now ≡ w.named.now) × (shown.book.now ≡ w.book.now))) }
     ensures none { IfNone result (IfSome written.entry (λ w. w.file ≢ file)) }
 {
     let told = written?;
@@ -197,15 +205,16 @@ fn told<'a>(written: Option<Written<'a>>, file: usize) -> Option<Shown<'a>>
     })
 }
 
-/// Judges a file under its directory entry, and answers what is kept of its packets. One of which the medium has more than 2^62 bytes is
-/// refused `OutOfMemory`.
+/// Judges a file under its directory entry, and answers what is kept of its packets. One of which the medium has more than 2^62
+/// bytes is refused `OutOfMemory`.
 fn tracks_of<M: BlockMedium>(
     alloc: Global,
     medium: &mut M,
     entry: &Entry,
     buffer: &mut Vec<u8>,
 ) -> Result<Tracks, ReadRefusal>
-    ensures kept { IfOk result (λ tracks. TracksStrictFile (is_closed_entry entry.now) tracks (bytes_in (M.disk medium.old).blocks entry.now)) }
+    ensures kept { IfOk result
+        (λ tracks. TracksStrictFile (is_closed_entry entry.now) tracks (bytes_in (M.disk medium.old).blocks entry.now)) }
     ensures vast { 2 ^ 62 < length (bytes_in (M.disk medium.old).blocks entry.now) → IsErrOf result read_refusals.OutOfMemory }
     ensures refused { IfErr result (IsUnread (M.disk medium.old) (M.disk medium.new) entry.now) }
     ensures same { Unchanged (M.disk medium.old) (M.disk medium.new) }
@@ -224,14 +233,17 @@ fn tracks_of<M: BlockMedium>(
 /// How many bytes of a file can be read: more than any medium has.
 const MOST_BYTES: usize = 1 << 62;
 
-/// Where a file stands by its directory entry, as far as the medium goes, which has so many blocks. `None` where these are more than
-/// 2^62 bytes.
+/// Where a file stands by its directory entry, as far as the medium goes, which has so many blocks. `None` where these are more
+/// than 2^62 bytes.
 fn extent_of(entry: &Entry, blocks: usize) -> Option<Extent>
     ensures within { IfSome result (λ extent. 512 * extent.first + extent.size ≤ 512 * blocks) }
     ensures size { IfSome result (λ extent. extent.size ≤ 2 ^ 62) }
-    ensures bytes { (image : Image) → IsWhole image → length image ≡ blocks → IfSome result (λ extent. file_at image extent ≡ bytes_in image entry.now) }
-    ensures none { (image : Image) → IsWhole image → length image ≡ blocks → IfNone result (2 ^ 62 < length (bytes_in image entry.now)) }
-    ensures some { (image : Image) → IsWhole image → length image ≡ blocks → IfSome result (λ extent. length (bytes_in image entry.now) ≤ 2 ^ 62) }
+    ensures bytes { (image : Image) → IsWhole image → length image ≡ blocks
+        → IfSome result (λ extent. file_at image extent ≡ bytes_in image entry.now) }
+    ensures none { (image : Image) → IsWhole image → length image ≡ blocks
+        → IfNone result (2 ^ 62 < length (bytes_in image entry.now)) }
+    ensures some { (image : Image) → IsWhole image → length image ≡ blocks
+        → IfSome result (λ extent. length (bytes_in image entry.now) ≤ 2 ^ 62) }
 {
     let first = (entry.first_block as usize).min(blocks);
     let size = (entry.size as usize).min((blocks - first).saturating_mul(512));

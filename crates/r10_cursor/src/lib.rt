@@ -30,7 +30,7 @@ pub use listing::entry_at;
 pub use packet::read_packet;
 pub use reader::Reader;
 pub use refusal::ReadRefusal;
-pub use replay::Reading;
+pub use replay::FileReplay;
 pub use search::find;
 pub use table::{check_read, close_cursor, next_entry, open_cursor};
 pub use table_laws::{advances_are_the_machines, cursors_stay_over_steps};

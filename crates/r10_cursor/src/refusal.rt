@@ -8,7 +8,7 @@ ghost use Rattle.r10_cursor.specs.Refusals.{of_read, of_replay};
 use crate::ReplayFault;
 use r10_blockout::ReadFault;
 use r10_body::FileFault;
-use r10_packet_rules::Fault;
+use r10_packet_rules::FirstFault;
 use thiserror::Error;
 
 /// A file wasn't read.
@@ -20,7 +20,7 @@ pub enum ReadRefusal {
     /// The file isn't strict, or its closing isn't that of its directory entry: the packet at this offset is at fault, the
     /// first one that is.
     #[error("{0}")]
-    BadFile(Fault),
+    BadFile(FirstFault),
     /// The medium failed in a read.
     #[error("a read of the medium failed")]
     Medium,
@@ -46,7 +46,7 @@ pub(crate) fn of_reading(fault: ReplayFault) -> ReadRefusal
     match fault {
         ReplayFault::Medium => ReadRefusal::Medium,
         ReplayFault::OutOfMemory => ReadRefusal::OutOfMemory,
-        ReplayFault::NoPacket => ReadRefusal::BadFile(Fault {
+        ReplayFault::NoPacket => ReadRefusal::BadFile(FirstFault {
             offset: 0,
             fault: FileFault::Truncated,
         }),

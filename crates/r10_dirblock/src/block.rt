@@ -1,6 +1,7 @@
 // A directory block, and writing it.
 ghost use Rattle.std.specs.Prelude.{◌≡◌, ◌+◌, ◌≤◌, ◌++◌, length, Ok};
-ghost use Rattle.r10_dirblock.specs.Block.{block_bytes, entry_bytes, head_bytes, read_block, HasRooms, IsBlock, FitsHead, FitsEntry};
+ghost use Rattle.r10_dirblock.specs.Block.{block_bytes, entry_bytes, head_bytes, read_block};
+ghost use Rattle.r10_dirblock.specs.Block.{HasRooms, IsBlock, FitsHead, FitsEntry};
 
 use crate::page::Page;
 use crate::{Entries, Entry};
@@ -71,7 +72,7 @@ fn push_entry(page: &mut Page, entry: &Entry)
 
 impl DirBlock {
     /// The same block once more.
-    pub fn copied(&self) -> DirBlock
+    pub fn duplicate(&self) -> DirBlock
         ensures { result ≡ self.now }
     {
         DirBlock {
@@ -79,7 +80,7 @@ impl DirBlock {
             volume: self.volume,
             forward: self.forward,
             reverse: self.reverse,
-            entries: self.entries.copied(),
+            entries: self.entries.duplicate(),
         }
     }
 }

@@ -72,7 +72,7 @@ impl Entries {
     }
 
     /// The same entries once more.
-    pub fn copied(&self) -> Entries
+    pub fn duplicate(&self) -> Entries
         ensures { result ≡ self.now }
     {
         let mut copy = Entries::new();

@@ -29,7 +29,7 @@ pub struct Entry {
 
 impl Entry {
     /// The entry of a file that has just been begun: without blocks, and not closed.
-    pub fn begun(name: &[u8], first_block: u64, created: Civil) -> Entry
+    pub fn of_new_file(name: &[u8], first_block: u64, created: Civil) -> Entry
         requires { length name.now ≤ 56 }
         ensures { result ≡ begun_entry name.now first_block created }
     {
@@ -47,7 +47,7 @@ impl Entry {
     }
 
     /// The entry at another size in bytes, with as many blocks as the size needs.
-    pub fn sized(self, size: u64) -> Entry
+    pub fn with_size(self, size: u64) -> Entry
         ensures fields { result ≡ sized size self }
         ensures room { has_room_for_size result ≡ true }
     {

@@ -2,7 +2,8 @@
 ghost use Rattle.std.specs.Prelude.{◌≡◌, ◌+◌, ◌≤◌, length, map, All, IfOk, IfErr};
 ghost use Rattle.std.specs.List.{range_with_len};
 ghost use Rattle.r10_count.specs.Checks.{first_broken};
-ghost use Rattle.r10_dirblock.specs.Block.{part, big_endian_u64_at, entry_count, directory_entry_of, directory_entry_at, block_of, block_rules, read_block, IsBlock, FitsEntry, FitsHead};
+ghost use Rattle.r10_dirblock.specs.Block.{part, big_endian_u64_at, entry_count, directory_entry_of, directory_entry_at, block_of};
+ghost use Rattle.r10_dirblock.specs.Block.{block_rules, read_block, IsBlock, FitsEntry, FitsHead};
 ghost use Rattle.r10_dirblock.specs.declared.block.DirBlock.{DirBlock};
 
 use crate::{DirBlock, Entries, Entry};

@@ -8,7 +8,7 @@ use Rattle.r10_count.specs.Checks.{first_broken}
 use Rattle.r10_dirblock.specs.Block.{is_closed}
 use Rattle.r10_dirblock.specs.declared.entry.Entry.{Entry}
 use Rattle.r10_dirchain.specs.declared.chain.ChainBlock.{ChainBlock}
-use Rattle.r10_dirchain.specs.declared.chain.Listed.{Listed}
+use Rattle.r10_dirchain.specs.declared.chain.ListedFile.{ListedFile}
 use Rattle.r10_dirchain.specs.Chain.{listed_files}
 use Rattle.r10_dirchain.specs.Mount.{blocks_in, stands, stand_rules, closed_rule, closed_rules, listed, listed_in, place_rules, full_rule, full_rules, mount_rules}
 use Rattle.r10_dirchain.proofs.Rules.{ends_with}
@@ -40,16 +40,16 @@ abbrev pub Stand : ℕ → ℕ → List Entry → Type 0
 Stand blocks n [] = Unit {0}
 Stand blocks n (e ∷ entries) = (stands blocks n e ≡ true) × Stand blocks (n + e.block_count) entries
 
-abbrev pub entry_in : Listed → Entry
+abbrev pub entry_in : ListedFile → Entry
 entry_in f = f.entry
 
-stand_of : (blocks n : ℕ) (fs : List Listed) → first_broken (stand_rules blocks n fs) ≡ None → Stand blocks n (map entry_in fs)
+stand_of : (blocks n : ℕ) (fs : List ListedFile) → first_broken (stand_rules blocks n fs) ≡ None → Stand blocks n (map entry_in fs)
 stand_of blocks n [] none = tt
 stand_of blocks n (f ∷ fs) none =
     let here = none_broken (stands blocks n f.entry) f.number (stand_rules blocks (n + f.entry.block_count) fs) none in
     (here.0, stand_of blocks (n + f.entry.block_count) fs here.1)
 
-stand_from : (blocks n : ℕ) (fs : List Listed) → Stand blocks n (map entry_in fs) → first_broken (stand_rules blocks n fs) ≡ None
+stand_from : (blocks n : ℕ) (fs : List ListedFile) → Stand blocks n (map entry_in fs) → first_broken (stand_rules blocks n fs) ≡ None
 stand_from blocks n [] stand = refl
 stand_from blocks n (f ∷ fs) stand =
     ap (λ (b : Bool). first_broken ((b, f.number) ∷ stand_rules blocks (n + f.entry.block_count) fs)) stand.0 ∙ stand_from blocks (n + f.entry.block_count) fs stand.1
@@ -84,13 +84,13 @@ All-unmap P f (x ∷ xs) all = All-cons (λ x. P (f x)) x xs (All-head P (f x) (
 abbrev pub ButLastClosed : List Entry → Type 0
 ButLastClosed entries = All (λ (e : Entry). is_closed e ≡ true) (take (length entries - 1) entries)
 
-closed_of : (fs : List Listed) → first_broken (closed_rules fs) ≡ None → ButLastClosed (map entry_in fs)
+closed_of : (fs : List ListedFile) → first_broken (closed_rules fs) ≡ None → ButLastClosed (map entry_in fs)
 closed_of fs none =
     subst (λ (k : ℕ). All (λ (e : Entry). is_closed e ≡ true) (take (k - 1) (map entry_in fs))) (sym (length-map fs entry_in))
     (subst (All (λ (e : Entry). is_closed e ≡ true)) (sym (take-map entry_in (length fs - 1) fs))
     (All-map (λ (e : Entry). is_closed e ≡ true) entry_in (take (length fs - 1) fs) (each_of closed_rule (take (length fs - 1) fs) none)))
 
-closed_from : (fs : List Listed) → ButLastClosed (map entry_in fs) → first_broken (closed_rules fs) ≡ None
+closed_from : (fs : List ListedFile) → ButLastClosed (map entry_in fs) → first_broken (closed_rules fs) ≡ None
 closed_from fs all =
     each_from closed_rule (take (length fs - 1) fs)
     (All-unmap (λ (e : Entry). is_closed e ≡ true) entry_in (take (length fs - 1) fs)

@@ -16,7 +16,7 @@ pub struct ChainBlock {
 
 /// A file and the number of the directory block that lists it.
 #[derive(Clone, Copy, Debug, PartialEq, Eq)]
-pub struct Listed {
+pub struct ListedFile {
     pub entry: Entry,
     pub number: u64,
 }
@@ -60,7 +60,7 @@ impl Directory {
         requires { i < length self.now }
         ensures { result ≡ (at self.now i).block }
     {
-        self.chain[i].block.copied()
+        self.chain[i].block.duplicate()
     }
 
     // The number of one block.

@@ -2,15 +2,16 @@
 ghost use Rattle.std.specs.Prelude.{◌≡◌, ◌≤◌, ◌+◌, ◌++◌, ◌^◌, None, IfOk, OnOk, IfErr, map};
 ghost use Rattle.r10_count.specs.Checks.{first_broken};
 ghost use Rattle.r10_dirchain.specs.Checked.{IsCheckError};
-ghost use Rattle.r10_dirchain.specs.Mount.{listed, listed_in, stands, place_rules, full_rules, stand_rules, closed_rules, mount_rules};
+ghost use Rattle.r10_dirchain.specs.Mount.{listed, listed_in, stands, place_rules};
+ghost use Rattle.r10_dirchain.specs.Mount.{full_rules, stand_rules, closed_rules, mount_rules};
 
-use crate::{ChainBlock, ChainError, Directory, Listed};
+use crate::{ChainBlock, ChainError, Directory, ListedFile};
 use r10_dirblock::Entry;
 use std::alloc::{AllocError, Global};
 
 impl Directory {
     /// The files in order, each with the number of the directory block that lists it.
-    pub fn listed(&self, alloc: Global) -> Result<Vec<Listed>, AllocError>
+    pub fn listing(&self, alloc: Global) -> Result<Vec<ListedFile>, AllocError>
         ensures { IfOk result (λ v. v.items ≡ listed self.now) }
     {
         let mut files = Vec::new(alloc);
@@ -33,7 +34,7 @@ impl Directory {
         ensures usable { OnOk result (first_broken (mount_rules reserved blocks self.now) ≡ None) }
         ensures fault { IfErr result (IsCheckError (mount_rules reserved blocks self.now)) }
     {
-        let Ok(files) = self.listed(alloc) else {
+        let Ok(files) = self.listing(alloc) else {
             return Err(ChainError::OutOfMemory);
         };
         if let Some(number) = misplaced_block(&self.chain, reserved) {
@@ -53,11 +54,11 @@ impl Directory {
 }
 
 // Adds the files that one block lists.
-fn list_block(files: &mut Vec<Listed>, link: &ChainBlock) -> Result<(), AllocError>
+fn list_block(files: &mut Vec<ListedFile>, link: &ChainBlock) -> Result<(), AllocError>
     ensures { OnOk result (files.new.items ≡ files.old.items ++ map (listed_in link.now.number) link.now.block.entries) }
 {
     for entry in link.block.entries.as_slice() {
-        files.push(Listed {
+        files.push(ListedFile {
             entry: *entry,
             number: link.number,
         })?;
@@ -91,7 +92,7 @@ fn unfilled_block(chain: &[ChainBlock]) -> Option<u64>
 }
 
 // The block of the first file that does not stand right behind those before it.
-fn misplaced_file(files: &[Listed], first: u128, blocks: usize) -> Option<u64>
+fn misplaced_file(files: &[ListedFile], first: u128, blocks: usize) -> Option<u64>
     requires { first ≤ 2 ^ 64 }
     ensures { result ≡ first_broken (stand_rules blocks first files.now) }
 {
@@ -117,7 +118,7 @@ fn stands(entry: &Entry, n: u128, blocks: usize) -> bool
 }
 
 // The block of the first file but the last that is not closed.
-fn unclosed_file(files: &[Listed]) -> Option<u64>
+fn unclosed_file(files: &[ListedFile]) -> Option<u64>
     ensures { result ≡ first_broken (closed_rules files.now) }
 {
     for file in &files[..files.len().saturating_sub(1)] {

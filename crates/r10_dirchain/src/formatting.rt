@@ -41,12 +41,14 @@ pub fn format<M: BlockMedium>(
     requires blocks { length (M.disk medium.old).blocks ≤ 16_777_216 }
 
     ensures sure { OnOk result (IsSynced (M.disk medium.new)) }
-    ensures settled { OnOk result (Settled (Turned (formatted volume.now) (1 ∷ []) (M.disk medium.old).blocks) (M.disk medium.new)) }
+    ensures settled { OnOk result
+        (Settled (Turned (formatted volume.now) (1 ∷ []) (M.disk medium.old).blocks) (M.disk medium.new)) }
     // Block 1 is byte for byte the one that this recorder writes.
     ensures bytes { OnOk result (block_at (M.disk medium.new).blocks 1 ≡ block_bytes (at (formatted volume.now) 0).block) }
     // A recorder with these reserved blocks can take it into use.
     ensures usable { first_broken (mount_rules directory (length (M.disk medium.old).blocks) (formatted volume.now)) ≡ None }
-    ensures moments { Leaves (λ image. MayLeave (M.disk medium.old) image ⊎ Turned (formatted volume.now) (1 ∷ []) (M.disk medium.old).blocks image)
+    ensures moments { Leaves
+        (λ image. MayLeave (M.disk medium.old) image ⊎ Turned (formatted volume.now) (1 ∷ []) (M.disk medium.old).blocks image)
         (M.disk medium.old) (M.disk medium.new) }
 
     ensures named { IsErrOf result FormatError.BadName ↔ (is_volume volume.now ≡ false) }

@@ -11,7 +11,7 @@ mod read;
 mod room;
 mod steps;
 
-pub use chain::{ChainBlock, Directory, Listed};
+pub use chain::{ChainBlock, Directory, ListedFile};
 pub use formatting::{FormatError, format};
 pub use laws::{file_lists, kept_entries, one_directory, usable_directories};
 pub use read::{ChainError, read_chain};

@@ -18,7 +18,8 @@ pub(crate) fn put_block<M: BlockMedium>(
     requires rooms { HasRooms link.now.block }
     ensures moments { Leaves (λ image. MayLeave (M.disk medium.old) image ⊎ Put (M.disk medium.old).blocks link.now image)
         (M.disk medium.old) (M.disk medium.new) }
-    ensures reads { ((M.disk medium.new).blocks ≡ (M.disk medium.old).blocks) ⊎ Put (M.disk medium.old).blocks link.now (M.disk medium.new).blocks }
+    ensures reads { ((M.disk medium.new).blocks ≡ (M.disk medium.old).blocks)
+        ⊎ Put (M.disk medium.old).blocks link.now (M.disk medium.new).blocks }
     ensures settled { OnOk result (Settled (Put (M.disk medium.old).blocks link.now) (M.disk medium.new)) }
     ensures sure { OnOk result (IsSynced (M.disk medium.new)) }
     ensures counts { Counts (M.disk medium.old) (M.disk medium.new) result }
@@ -53,9 +54,10 @@ pub(crate) fn put_linked<M: BlockMedium>(
     requires apart { next.now.number ≢ linking.now.number }
     requires rooms { HasRooms linking.now.block }
     requires next_rooms { HasRooms next.now.block }
-    ensures moments { Leaves (λ image. ComesBy (SameBut next.now.number) (M.disk medium.old) image ⊎ PutTwo (M.disk medium.old).blocks next.now linking.now image)
-        (M.disk medium.old) (M.disk medium.new) }
-    ensures reads { SameBut next.now.number (M.disk medium.old).blocks (M.disk medium.new).blocks ⊎ PutTwo (M.disk medium.old).blocks next.now linking.now (M.disk medium.new).blocks }
+    ensures moments { Leaves (λ image. ComesBy (SameBut next.now.number) (M.disk medium.old) image
+        ⊎ PutTwo (M.disk medium.old).blocks next.now linking.now image) (M.disk medium.old) (M.disk medium.new) }
+    ensures reads { SameBut next.now.number (M.disk medium.old).blocks (M.disk medium.new).blocks
+        ⊎ PutTwo (M.disk medium.old).blocks next.now linking.now (M.disk medium.new).blocks }
     ensures settled { OnOk result (Settled (PutTwo (M.disk medium.old).blocks next.now linking.now) (M.disk medium.new)) }
     ensures sure { OnOk result (IsSynced (M.disk medium.new)) }
     ensures counts { Counts (M.disk medium.old) (M.disk medium.new) result }

@@ -57,7 +57,8 @@ pub fn read_chain<M: BlockMedium>(alloc: Global, medium: &mut M) -> Result<Direc
     ensures read { IfOk result (λ directory. IsDirectory (M.disk medium.old).blocks directory) }
     ensures bad { IfErr result (IsChainError (M.disk medium.old).blocks) }
     // Where there is a chain, it is read: then only the medium or memory can fail.
-    ensures only { (chain : List ChainBlock) → IsDirectory (M.disk medium.old).blocks chain → MatchResult result (λ directory. directory ≡ chain) IsNoFault }
+    ensures only { (chain : List ChainBlock) → IsDirectory (M.disk medium.old).blocks chain
+        → MatchResult result (λ directory. directory ≡ chain) IsNoFault }
     ensures same { Unchanged (M.disk medium.old) (M.disk medium.new) }
     ensures no_fewer { (M.disk medium.old).failures ≤ (M.disk medium.new).failures }
     ensures cause { IsErrOf result ChainError.Medium → Rose (M.disk medium.old).failures (M.disk medium.new).failures }

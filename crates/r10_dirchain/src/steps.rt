@@ -8,7 +8,9 @@ ghost use Rattle.r10_dirchain.specs.declared.chain.ChainBlock.{ChainBlock};
 ghost use Rattle.r10_dirchain.specs.Chain.{IsDirectory, listed_files, at};
 ghost use Rattle.r10_dirchain.specs.OnMedium.{HasNext, Turns};
 ghost use Rattle.r10_dirchain.specs.Rooms.{block_room};
-ghost use Rattle.r10_dirchain.specs.Steps.{added, blocks_with_one_more, emptied, extended, with_entry_more, last_block, last_is_full, last_listing, last_place, lists_none, next_directory_block, next_number, replaced, spare, updated, with_shutdown};
+ghost use Rattle.r10_dirchain.specs.Steps.{added, blocks_with_one_more, emptied, extended, with_entry_more, last_block};
+ghost use Rattle.r10_dirchain.specs.Steps.{last_is_full, last_listing, last_place, lists_none, next_directory_block, next_number};
+ghost use Rattle.r10_dirchain.specs.Steps.{replaced, spare, updated, with_shutdown};
 
 use crate::put::{put_block, put_linked};
 use crate::{ChainBlock, Directory, Room};
@@ -27,10 +29,13 @@ impl Directory {
         requires { IsDirectory (M.disk medium.old).blocks self.old }
         ensures done { OnOk result (self.new ≡ with_shutdown shutdown self.old) }
         ensures kept { OnErr result (self.new ≡ self.old) }
-        ensures turns { Turns self.old (with_shutdown shutdown self.old) [] ((at self.old 0).number ∷ []) (M.disk medium.old) (M.disk medium.new) result }
+        ensures turns { Turns self.old (with_shutdown shutdown self.old) [] ((at self.old 0).number ∷ [])
+            (M.disk medium.old) (M.disk medium.new) result }
         // After a failed call a stop may leave either of two directories: it leaves one of them, or the new one.
-        ensures either { (one other : List ChainBlock) → Settled (λ image. IsDirectory image one ⊎ IsDirectory image other) (M.disk medium.old)
-            → Leaves (λ image. (IsDirectory image one ⊎ IsDirectory image other) ⊎ IsDirectory image (with_shutdown shutdown self.old)) (M.disk medium.old) (M.disk medium.new) }
+        ensures either { (one other : List ChainBlock)
+            → Settled (λ image. IsDirectory image one ⊎ IsDirectory image other) (M.disk medium.old)
+            → Leaves (λ image. (IsDirectory image one ⊎ IsDirectory image other)
+            ⊎ IsDirectory image (with_shutdown shutdown self.old)) (M.disk medium.old) (M.disk medium.new) }
         ensures sure { OnOk result (IsSynced (M.disk medium.new)) }
         ensures counts { Counts (M.disk medium.old) (M.disk medium.new) result }
     {
@@ -72,7 +77,8 @@ impl Directory {
         requires room { has_room_for_size entry ≡ true }
         ensures done { OnOk result (self.new ≡ updated entry self.old) }
         ensures kept { OnErr result (self.new ≡ self.old) }
-        ensures turns { Turns self.old (updated entry self.old) [] ((at self.old (last_listing self.old)).number ∷ []) (M.disk medium.old) (M.disk medium.new) result }
+        ensures turns { Turns self.old (updated entry self.old) [] ((at self.old (last_listing self.old)).number ∷ [])
+            (M.disk medium.old) (M.disk medium.new) result }
         ensures sure { OnOk result (IsSynced (M.disk medium.new)) }
         ensures counts { Counts (M.disk medium.old) (M.disk medium.new) result }
     {
@@ -119,7 +125,8 @@ impl Directory {
         requires ready { length self.old < block_room ready }
         ensures done { OnOk result (self.new ≡ added entry self.old) }
         ensures kept { OnErr result (self.new ≡ self.old) }
-        ensures turns { Turns self.old (added entry self.old) (spare self.old) ((last_block self.old).number ∷ spare self.old) (M.disk medium.old) (M.disk medium.new) result }
+        ensures turns { Turns self.old (added entry self.old) (spare self.old) ((last_block self.old).number ∷ spare self.old)
+            (M.disk medium.old) (M.disk medium.new) result }
         // The blocks that it writes are reserved ones.
         ensures within { All (λ n. n ≤ reserved) ((last_block self.old).number ∷ spare self.old) }
         ensures sure { OnOk result (IsSynced (M.disk medium.new)) }
@@ -138,7 +145,8 @@ impl Directory {
         requires room { has_room_for_size entry ≡ true }
         ensures done { OnOk result (self.new ≡ with_entry_more entry self.old) }
         ensures kept { OnErr result (self.new ≡ self.old) }
-        ensures turns { Turns self.old (with_entry_more entry self.old) [] ((last_block self.old).number ∷ []) (M.disk medium.old) (M.disk medium.new) result }
+        ensures turns { Turns self.old (with_entry_more entry self.old) [] ((last_block self.old).number ∷ [])
+            (M.disk medium.old) (M.disk medium.new) result }
         ensures sure { OnOk result (IsSynced (M.disk medium.new)) }
         ensures counts { Counts (M.disk medium.old) (M.disk medium.new) result }
     {
@@ -161,7 +169,8 @@ impl Directory {
         requires ready { length self.old < block_room ready }
         ensures done { OnOk result (self.new ≡ extended entry self.old) }
         ensures kept { OnErr result (self.new ≡ self.old) }
-        ensures turns { Turns self.old (extended entry self.old) (next_number self.old ∷ []) ((last_block self.old).number ∷ next_number self.old ∷ []) (M.disk medium.old) (M.disk medium.new) result }
+        ensures turns { Turns self.old (extended entry self.old) (next_number self.old ∷ [])
+            ((last_block self.old).number ∷ next_number self.old ∷ []) (M.disk medium.old) (M.disk medium.new) result }
         ensures sure { OnOk result (IsSynced (M.disk medium.new)) }
         ensures counts { Counts (M.disk medium.old) (M.disk medium.new) result }
     {
@@ -257,7 +266,8 @@ impl Directory {
         requires rooms { HasRooms block }
         ensures done { OnOk result (self.new ≡ replaced self.old i block) }
         ensures kept { OnErr result (self.new ≡ self.old) }
-        ensures turns { Turns self.old (replaced self.old i block) [] ((at self.old i).number ∷ []) (M.disk medium.old) (M.disk medium.new) result }
+        ensures turns { Turns self.old (replaced self.old i block) [] ((at self.old i).number ∷ [])
+            (M.disk medium.old) (M.disk medium.new) result }
         ensures sure { OnOk result (IsSynced (M.disk medium.new)) }
         ensures counts { Counts (M.disk medium.old) (M.disk medium.new) result }
     {

@@ -23,7 +23,7 @@ pub struct DiscreteBody {
 }
 
 /// The number of discretes that a body's word tells.
-fn told_bits(body: &[u8]) -> u32
+fn bits_in(body: &[u8]) -> u32
     ensures range { result < 32 }
     ensures value { (bits : ℕ) (rest : List ℕ) → bits < 32 → body.now ≡ le_bytes 4 (8 * bits) ++ rest → result ≡ bits }
 {
@@ -67,9 +67,10 @@ impl DiscreteBody {
     /// bytes, or whether another recorder may have written them.
     pub fn decode(alloc: Global, body: &[u8]) -> Result<Reading<DiscreteBody>, AllocError>
         ensures found { IfOk result (ReadsBody (λ read. IsDiscrete read.bits read.entries body.now) (IsForeignDiscrete body.now)) }
-        ensures only { (bits : ℕ) (entries : List DiscreteEntryValue) → IsDiscrete bits entries body.now → IfOk result (λ reading. reading ≡ Strict (record { bits = bits; entries = entries })) }
+        ensures only { (bits : ℕ) (entries : List DiscreteEntryValue) → IsDiscrete bits entries body.now
+            → IfOk result (λ reading. reading ≡ Strict (record { bits = bits; entries = entries })) }
     {
-        let bits = told_bits(body);
+        let bits = bits_in(body);
         match read_body(alloc, bits, 0, body)? {
             Reading::Strict(entries) => {
                 let bits = bits as u8;

@@ -36,7 +36,7 @@ impl BodyEntry for DiscreteEntry {
         12
     }
 
-    fn told(front: &[u8]) -> Option<usize> {
+    fn entry_length(front: &[u8]) -> Option<usize> {
         let _ = front;
         Some(12)
     }

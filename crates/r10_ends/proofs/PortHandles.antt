@@ -22,7 +22,7 @@ use Rattle.std.proofs.alloc.Global.TheLaws as heap_laws
 use Rattle.std.specs.contracts.impls.GlobalAllocator.TheImpl.{ghosts}
 use Rattle.r10_ends.proofs.Words.{both, al}
 use Rattle.r10_port.specs.Ends.{Sending}
-use Rattle.r10_ends.specs.contracts.sender.Sender.{the_row as R}
+use Rattle.r10_ends.specs.contracts.sender.PortSender.{the_row as R}
 use Rattle.r10_ends.specs.contracts.port_handle.PortHandle as handle
 
 abbrev pub Z : RattleType

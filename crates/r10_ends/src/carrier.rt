@@ -3,7 +3,8 @@
 use r10_body::Sample;
 use r10_port::Outlet;
 
-/// The receiving end of a lane between threads, the place of its channel among a recorder's, and the sample that was taken out and is not carried yet.
+/// The receiving end of a lane between threads, the place of its channel among a recorder's, and the sample that was taken out and
+/// is not carried yet.
 #[derive(Drop)]
 pub struct Carrier {
     pub outlet: Outlet,

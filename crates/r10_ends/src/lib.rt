@@ -1,5 +1,5 @@
-//! The two ends of a lane between threads, as callers of other languages keep them: one offers, and answers numbers; of the other a crate above
-//! takes what it carries.
+//! The two ends of a lane between threads, as callers of other languages keep them: one offers, and answers numbers; of the other a
+//! crate above takes what it carries.
 #![tactic(auto)]
 
 mod carrier;

@@ -6,7 +6,7 @@ ghost use Rattle.r10_ends.specs.Ends.{AreOpened, IsOpenOne};
 use crate::carrier::Carrier;
 use crate::outlet_end::OutletEnd;
 use crate::port_end::PortEnd;
-use crate::sender::{OUT_OF_MEMORY, Sender};
+use crate::sender::{OUT_OF_MEMORY, PortSender};
 use r10_body::ChannelSpec;
 use r10_port::lane;
 use std::alloc::Global;
@@ -33,7 +33,7 @@ pub fn open_ends(
     let Ok((sending, receiving)) = lane(alloc, spec) else {
         return OUT_OF_MEMORY;
     };
-    let sender = Sender {
+    let sender = PortSender {
         port: sending,
         spec,
     };

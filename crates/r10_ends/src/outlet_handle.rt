@@ -9,7 +9,8 @@ use crate::loose::Loose;
 use std::alloc::Global;
 use std::marker::Model;
 
-/// An end of a lane, or none: a pointer that the caller keeps, and never reads. Only a call of this library makes one that is an end.
+/// An end of a lane, or none: a pointer that the caller keeps, and never reads. Only a call of this library makes one that is an
+/// end.
 #[repr(C)]
 #[derive(Drop)]
 pub struct OutletHandle {
@@ -35,7 +36,7 @@ impl OutletHandle {
         ensures left { self.new.held ≡ None }
     {
         std::mem::replace(self, OutletHandle::none(alloc))
-            .untied()
+            .into_loose()
             .into_box()
     }
 
@@ -43,11 +44,11 @@ impl OutletHandle {
     pub(crate) fn put(&mut self, held: Box<Carrier>)
         ensures { self.new.held ≡ Some held.value }
     {
-        *self = OutletHandle::tied(Loose::of(held));
+        *self = OutletHandle::from_loose(Loose::of(held));
     }
 
     // The pointer and the right to it, from a loose box into a handle.
-    fn tied(loose: Loose<Carrier, Global>) -> OutletHandle
+    fn from_loose(loose: Loose<Carrier, Global>) -> OutletHandle
         ensures { result.held ≡ Some loose.value }
     {
         let Loose { at, alloc } = loose;
@@ -58,7 +59,7 @@ impl OutletHandle {
     }
 
     // The same, back.
-    fn untied(self) -> Loose<Carrier, Global>
+    fn into_loose(self) -> Loose<Carrier, Global>
         requires { IsThere self.held }
         ensures { self.held ≡ Some result.value }
     {

@@ -7,7 +7,7 @@ ghost use Rattle.r10_ends.specs.Sending.{OffersByPort, OffersOrLacks, port_out};
 
 use crate::port_handle::PortHandle;
 use crate::port_out::PortOut;
-use crate::sender::Sender;
+use crate::sender::PortSender;
 use std::alloc::Global;
 
 /// The number that is answered where an end is not open.
@@ -34,7 +34,7 @@ impl PortEnd {
 
     /// Takes what it holds, and leaves none.
     #[tactic(auto, using(crate::proofs::There::there))]
-    pub(crate) fn take(&mut self, alloc: Global) -> Box<Sender>
+    pub(crate) fn take(&mut self, alloc: Global) -> Box<PortSender>
         requires { self.old.opened ≡ true }
         ensures taken { self.old.handle.held ≡ Some result.value }
         ensures left { (self.new.handle.held ≡ None) × (self.new.opened ≡ false) }
@@ -44,7 +44,7 @@ impl PortEnd {
     }
 
     /// Holds this from now on.
-    pub(crate) fn put(&mut self, held: Box<Sender>)
+    pub(crate) fn put(&mut self, held: Box<PortSender>)
         ensures { (self.new.handle.held ≡ Some held.value) × (self.new.opened ≡ true) }
     {
         self.handle.put(held);
@@ -64,7 +64,8 @@ impl PortEnd {
         sub: u16,
         bytes: &[u8],
     ) -> u32
-        ensures does { self.old.opened ≡ true → PortGoes self.old self.new (λ old new. OffersOrLacks old count (messages.Uart parity sub bytes.now) result new) }
+        ensures does { self.old.opened ≡ true
+            → PortGoes self.old self.new (λ old new. OffersOrLacks old count (messages.Uart parity sub bytes.now) result new) }
         ensures closed { self.old.opened ≡ false → (result ≡ 44) × (self.new ≡ self.old) }
     {
         if !self.is_open() {
@@ -85,7 +86,8 @@ impl PortEnd {
         gap: u16,
         words: &[u16],
     ) -> u32
-        ensures does { self.old.opened ≡ true → PortGoes self.old self.new (λ old new. OffersOrLacks old count (messages.Bus1553 status gap words.now) result new) }
+        ensures does { self.old.opened ≡ true
+            → PortGoes self.old self.new (λ old new. OffersOrLacks old count (messages.Bus1553 status gap words.now) result new) }
         ensures closed { self.old.opened ≡ false → (result ≡ 44) × (self.new ≡ self.old) }
     {
         if !self.is_open() {
@@ -108,7 +110,8 @@ impl PortEnd {
         high: bool,
         word: u32,
     ) -> u32
-        ensures does { self.old.opened ≡ true → PortGoes self.old self.new (λ old new. OffersByPort old count (messages.Arinc bus format parity high word) result new) }
+        ensures does { self.old.opened ≡ true → PortGoes self.old self.new
+            (λ old new. OffersByPort old count (messages.Arinc bus format parity high word) result new) }
         ensures closed { self.old.opened ≡ false → (result ≡ 44) × (self.new ≡ self.old) }
     {
         if !self.is_open() {
@@ -122,7 +125,8 @@ impl PortEnd {
 
     /// The states of a channel's discretes: 0, or 7 to 12, 44.
     pub fn offer_discrete(&mut self, alloc: Global, count: u64, states: u32) -> u32
-        ensures does { self.old.opened ≡ true → PortGoes self.old self.new (λ old new. OffersByPort old count (messages.Discrete states) result new) }
+        ensures does { self.old.opened ≡ true
+            → PortGoes self.old self.new (λ old new. OffersByPort old count (messages.Discrete states) result new) }
         ensures closed { self.old.opened ≡ false → (result ≡ 44) × (self.new ≡ self.old) }
     {
         if !self.is_open() {
@@ -144,7 +148,8 @@ impl PortEnd {
         sub: u16,
         bytes: &[u8],
     ) -> u32
-        ensures does { self.old.opened ≡ true → PortGoes self.old self.new (λ old new. OffersOrLacks old count (messages.Message data_error format sub bytes.now) result new) }
+        ensures does { self.old.opened ≡ true → PortGoes self.old self.new
+            (λ old new. OffersOrLacks old count (messages.Message data_error format sub bytes.now) result new) }
         ensures closed { self.old.opened ≡ false → (result ≡ 44) × (self.new ≡ self.old) }
     {
         if !self.is_open() {
@@ -158,7 +163,8 @@ impl PortEnd {
 
     /// So many messages were lost before they were offered: 0, or 44.
     pub fn lose(&mut self, alloc: Global, lost: u64) -> u32
-        ensures does { self.old.opened ≡ true → PortGoes self.old self.new (λ old new. (result ≡ 0) × (new ≡ with_losses lost old)) }
+        ensures does { self.old.opened ≡ true
+            → PortGoes self.old self.new (λ old new. (result ≡ 0) × (new ≡ with_losses lost old)) }
         ensures closed { self.old.opened ≡ false → (result ≡ 44) × (self.new ≡ self.old) }
     {
         if !self.is_open() {
@@ -172,7 +178,8 @@ impl PortEnd {
 
     /// How it is: 0, or 44.
     pub fn state(&mut self, alloc: Global, out: &mut PortOut) -> u32
-        ensures does { self.old.opened ≡ true → PortGoes self.old self.new (λ old new. (result ≡ 0) × (new ≡ old) × (out.new ≡ port_out old)) }
+        ensures does { self.old.opened ≡ true
+            → PortGoes self.old self.new (λ old new. (result ≡ 0) × (new ≡ old) × (out.new ≡ port_out old)) }
         ensures closed { self.old.opened ≡ false → (result ≡ 44) × (self.new ≡ self.old) × (out.new ≡ out.old) }
     {
         if !self.is_open() {

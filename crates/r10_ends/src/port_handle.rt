@@ -5,11 +5,12 @@ ghost use Rattle.r10_port.specs.Ends.{Sending};
 ghost use Rattle.r10_ends.specs.Owning.{IsThere};
 
 use crate::loose::Loose;
-use crate::sender::Sender;
+use crate::sender::PortSender;
 use std::alloc::Global;
 use std::marker::Model;
 
-/// An end of a lane, or none: a pointer that the caller keeps, and never reads. Only a call of this library makes one that is an end.
+/// An end of a lane, or none: a pointer that the caller keeps, and never reads. Only a call of this library makes one that is an
+/// end.
 #[repr(C)]
 #[derive(Drop)]
 pub struct PortHandle {
@@ -21,7 +22,7 @@ pub struct PortHandle {
 impl Model for PortHandle {
     ghost use Rattle.std.specs.Box.Ownership.{box_owns};
     ghost use Rattle.std.specs.contracts.impls.GlobalAllocator.TheImpl.{ghosts};
-    ghost use Rattle.r10_ends.specs.contracts.sender.Sender.{the_row};
+    ghost use Rattle.r10_ends.specs.contracts.sender.PortSender.{the_row};
     ghost use Rattle.r10_ends.specs.Owning.{owns_some};
 
     ghost also_owns = { λ h. owns_some (box_owns (ghosts.dealloc_token h.alloc) the_row h.at) h.held };
@@ -29,25 +30,25 @@ impl Model for PortHandle {
 
 impl PortHandle {
     /// Takes what it holds, and leaves none.
-    pub(crate) fn take(&mut self, alloc: Global) -> Box<Sender>
+    pub(crate) fn take(&mut self, alloc: Global) -> Box<PortSender>
         requires { IsThere self.old.held }
         ensures taken { self.old.held ≡ Some result.value }
         ensures left { self.new.held ≡ None }
     {
         std::mem::replace(self, PortHandle::none(alloc))
-            .untied()
+            .into_loose()
             .into_box()
     }
 
     /// Holds this from now on.
-    pub(crate) fn put(&mut self, held: Box<Sender>)
+    pub(crate) fn put(&mut self, held: Box<PortSender>)
         ensures { self.new.held ≡ Some held.value }
     {
-        *self = PortHandle::tied(Loose::of(held));
+        *self = PortHandle::from_loose(Loose::of(held));
     }
 
     // The pointer and the right to it, from a loose box into a handle.
-    fn tied(loose: Loose<Sender, Global>) -> PortHandle
+    fn from_loose(loose: Loose<PortSender, Global>) -> PortHandle
         ensures { result.held ≡ Some loose.value }
     {
         let Loose { at, alloc } = loose;
@@ -58,13 +59,13 @@ impl PortHandle {
     }
 
     // The same, back.
-    fn untied(self) -> Loose<Sender, Global>
+    fn into_loose(self) -> Loose<PortSender, Global>
         requires { IsThere self.held }
         ensures { self.held ≡ Some result.value }
     {
         let PortHandle { at, alloc } = self;
         Loose {
-            at: at as *mut Sender,
+            at: at as *mut PortSender,
             alloc,
         }
     }

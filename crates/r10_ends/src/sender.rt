@@ -18,12 +18,12 @@ pub(crate) const OUT_OF_MEMORY: u32 = 30;
 
 /// The sending end of a channel's lane, and what the channel is set to.
 #[derive(Drop)]
-pub struct Sender {
+pub struct PortSender {
     pub(crate) port: Port,
     pub(crate) spec: ChannelSpec,
 }
 
-impl Model for Sender {
+impl Model for PortSender {
     ghost use Rattle.std.specs.Prelude.{◌≡◌};
     ghost use Rattle.r10_port.specs.Ends.{Sending};
 
@@ -46,7 +46,8 @@ fn number_of(answer: Result<(), Refusal>) -> u32
 
 /// Why a message is refused whose count has more than 48 bits: by the first rule that it breaks.
 fn out_of_range(spec: &ChannelSpec, message: &Message) -> Refusal
-    ensures { (last : Option ℕ) (count : ℕ) → 2 ^ 48 ≤ count → first_broken (taking_checks spec.now last count message.now) ≡ Some result }
+    ensures { (last : Option ℕ) (count : ℕ) → 2 ^ 48 ≤ count
+        → first_broken (taking_checks spec.now last count message.now) ≡ Some result }
 {
     match spec.check(message) {
         Ok(()) => Refusal::CountRange,
@@ -54,7 +55,7 @@ fn out_of_range(spec: &ChannelSpec, message: &Message) -> Refusal
     }
 }
 
-impl Sender {
+impl PortSender {
     /// Offers a message: 0, or 7 to 12.
     fn offer(&mut self, count: u64, message: Message) -> u32
         ensures { OffersByPort self.old count message result self.new }

@@ -21,8 +21,8 @@ use Rattle.std.specs.contracts.alloc.Global as heap
 use Rattle.std.proofs.alloc.Global.TheLaws as heap_laws
 use Rattle.std.specs.contracts.impls.GlobalAllocator.TheImpl.{ghosts}
 use Rattle.r10_ffi.proofs.Words.{both, al}
-use Rattle.r10_ffi.specs.declared.held.Held.{Held}
-use Rattle.r10_ffi.specs.contracts.held.Held.{the_row as R}
+use Rattle.r10_ffi.specs.declared.held.LentRecorder.{LentRecorder}
+use Rattle.r10_ffi.specs.contracts.held.LentRecorder.{the_row as R}
 use Rattle.r10_ffi.specs.contracts.handle.Handle as handle
 
 abbrev pub Z : RattleType
@@ -32,13 +32,13 @@ abbrev pub H : RattleType
 H = handle.the_row
 
 module _ {M : Type 1} {𝓤 : Ura M} {𝓛 : Logic 𝓤} {K : Type 0} {Γ : List (Item 𝓤)} {G : Goal 𝓤 𝓛.H} where
-  pub handle_in : K → (b o : ℕ) (h : Val) (a : Z.Denot) (x : Held)
+  pub handle_in : K → (b o : ℕ) (h : Val) (a : Z.Denot) (x : LentRecorder)
       → Step K 𝓛 (‵ (H.own_val (record { at = block_ptr b o; alloc = a; held = Some x }) (both (vptr b o) h ∷ [])) ∷ Γ) G (‵ (box_owns (ghosts.dealloc_token a) R (block_ptr b o) x) ∷ ‵ (Z.own_val a (h ∷ [])) ∷ Γ) G
   handle_in t b o h a x = step (λ s. let v : Val = both (vptr b o) h in
       nothing t $ move t (2 ∷ 0 ∷ []) $ fjoin t $ feq_i t (List Val) (vptr b o ∷ []) (vptr b o ∷ []) refl $ fjoin t $ feq_i t (List Val) (v ∷ []) (v ∷ []) refl $ fjoin t $
       fpack t (Valss (RawPtr ∷ Z ∷ [])) (within (shape handle.the_type) (block_ptr b o, ((heap.the_field).into a, tt)) (v ∷ [])) (vptr b o ∷ [], (h ∷ [], tt)) $ fjoin t $ s)
 
-  pub handle_out : K → (p : Ptr) (a : Z.Denot) (x : Held) (vs : List Val)
+  pub handle_out : K → (p : Ptr) (a : Z.Denot) (x : LentRecorder) (vs : List Val)
       → ((b o : ℕ) (h : Val) → p ≡ block_ptr b o → vs ≡ both (vptr b o) h ∷ [] → Good (layout Z) h → Seq K 𝓛 (‵ (box_owns (ghosts.dealloc_token a) R (block_ptr b o) x) ∷ ‵ (Z.own_val a (h ∷ [])) ∷ Γ) G)
       → Seq K 𝓛 (‵ (H.own_val (record { at = p; alloc = a; held = Some x }) vs) ∷ Γ) G
   handle_out t p a x vs k =

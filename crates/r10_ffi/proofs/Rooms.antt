@@ -11,10 +11,10 @@ use Rattle.r10_region.specs.RegionDisk.{region_disk}
 use Rattle.r10_region.specs.declared.orders.Orders.{Orders as OrdersValue}
 use Rattle.r10_region.specs.declared.region.Region.{Region}
 use Rattle.r10_ffi.specs.Calls.{WritesHeld}
-use Rattle.r10_ffi.specs.declared.held.Held.{Held}
+use Rattle.r10_ffi.specs.declared.held.LentRecorder.{LentRecorder}
 
 -- memory for room was refused
-pub refused : (old : Held) (orders : OrdersValue) (has : Bool) (event : EventValue) (tells : ReplyValue → Type 0) → MakesRoom has old.orders orders → has ≡ false → tells (Refused OutOfMemory)
+pub refused : (old : LentRecorder) (orders : OrdersValue) (has : Bool) (event : EventValue) (tells : ReplyValue → Type 0) → MakesRoom has old.orders orders → has ≡ false → tells (Refused OutOfMemory)
     → WritesHeld 30 old (record old { orders = orders }) (λ before new. DoesEvent region_disk before event tells new)
 refused old orders has event tells room none says = record {
   has = has;
@@ -25,7 +25,7 @@ refused old orders has event tells room none says = record {
 }
 
 -- there was room
-pub wrote : (old new : Held) (answer : ℕ) (has : Bool) (is : DeskValue Region → DeskValue Region → Type 0) → MakesRoom has old.orders new.orders → has ≡ true → is old.desk new.desk
+pub wrote : (old new : LentRecorder) (answer : ℕ) (has : Bool) (is : DeskValue Region → DeskValue Region → Type 0) → MakesRoom has old.orders new.orders → has ≡ true → is old.desk new.desk
     → new.accepted ≡ old.accepted → WritesHeld answer old new is
 wrote old new answer has is room some does same = record {
   has = has;

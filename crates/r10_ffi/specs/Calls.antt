@@ -14,7 +14,7 @@ use Rattle.r10_region.specs.Orders.{IsOtherEnd, MakesRoom}
 use Rattle.r10_region.specs.Queue.{queue_room, places_known}
 use Rattle.r10_region.specs.RegionDisk.{region_disk, lent_to, asked}
 use Rattle.r10_region.specs.declared.region.Region.{Region}
-use Rattle.r10_ffi.specs.declared.held.Held.{Held}
+use Rattle.r10_ffi.specs.declared.held.LentRecorder.{LentRecorder}
 use Rattle.r10_ffi.specs.declared.recorder.Recorder.{Recorder}
 use Rattle.r10_ends.specs.Owning.{Between}
 
@@ -25,7 +25,7 @@ abbrev pub IsClosed : Recorder → Type 0
 IsClosed r = r.opened ≡ false
 
 -- it is open then, and between what it held and what it holds it is so; and of no channel a message was accepted
-abbrev pub Goes : Recorder → Recorder → (Held → Held → Type 0) → Type 0
+abbrev pub Goes : Recorder → Recorder → (LentRecorder → LentRecorder → Type 0) → Type 0
 Goes before behind is = IsOpen behind × Between before.handle.held behind.handle.held (λ old new. is old new × (new.accepted ≡ old.accepted))
 
 -- between the recorder before and behind it is so, and its disk has still to do what it had, and what the call adds
@@ -44,7 +44,7 @@ Accounts answer place before_out out before behind = Goes before behind
     × (new.orders ≡ old.orders))
 
 -- A call that may write. There was room for its operations, or memory for them was refused before it did anything: then the answer is 30, and nothing was done.
-pub record WritesHeld (answer : ℕ) (old new : Held) (is : DeskValue Region → DeskValue Region → Type 0) : Type 0 where
+pub record WritesHeld (answer : ℕ) (old new : LentRecorder) (is : DeskValue Region → DeskValue Region → Type 0) : Type 0 where
   pub has : Bool
   pub room : MakesRoom has old.orders new.orders
   pub does : is old.desk new.desk
@@ -60,7 +60,7 @@ HasNothingYet desk = (desk.fault ≡ no_fault) × (desk.hand ≡ Done)
 
 -- A recorder by the script over memory that held this, of whose disk nothing was asked yet, and of whose channels no message was accepted; and beside it the other end of its disk's queue,
 -- out of which nothing was handed yet. So many operations may wait in it, and it is known that there is a place for each.
-pub record OpensOver (text : List ℕ) (image : Image) (room : ℕ) (h : Held) : Type 0 where
+pub record OpensOver (text : List ℕ) (image : Image) (room : ℕ) (h : LentRecorder) : Type 0 where
   pub medium : Region
   pub lent : lent_to medium ≡ image
   pub none_yet : asked medium ≡ []
@@ -72,12 +72,12 @@ pub record OpensOver (text : List ℕ) (image : Image) (room : ℕ) (h : Held) :
   pub accepted : h.accepted.items ≡ map not_yet h.desk.world.recorder.kept.config.channels
   pub empty : HasNothingYet h.desk
 
-abbrev pub IsOpened : List ℕ → Image → ℕ → Option Held → Type 0
+abbrev pub IsOpened : List ℕ → Image → ℕ → Option LentRecorder → Type 0
 IsOpened text image room None = ⊥
 IsOpened text image room (Some h) = OpensOver text image room h
 
 -- A recorder by the script over a medium which it finds without files. What a stop leaves of it is what was lent, with the directory of a medium without files in it.
-pub record FormatsHeld (text : List ℕ) (image : Image) (h : Held) : Type 0 where
+pub record FormatsHeld (text : List ℕ) (image : Image) (h : LentRecorder) : Type 0 where
   pub medium : Region
   pub formats : FormatsByScript text (region_disk medium)
   pub over : FormatsOver text image (region_disk medium)
@@ -85,6 +85,6 @@ pub record FormatsHeld (text : List ℕ) (image : Image) (h : Held) : Type 0 whe
   pub accepted : h.accepted.items ≡ map not_yet h.desk.world.recorder.kept.config.channels
   pub empty : HasNothingYet h.desk
 
-abbrev pub IsFormattedRegion : List ℕ → Image → Option Held → Type 0
+abbrev pub IsFormattedRegion : List ℕ → Image → Option LentRecorder → Type 0
 IsFormattedRegion text image None = ⊥
 IsFormattedRegion text image (Some h) = FormatsHeld text image h

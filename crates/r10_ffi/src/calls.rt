@@ -19,7 +19,7 @@ ghost use Rattle.r10_ffi.specs.Calls.{Accounts, Does, DoesWriting, Goes, IsClose
 ghost use Rattle.r10_ffi.specs.Civil.{parts_of};
 
 use crate::civil::{Civil, parts_of};
-use crate::held::Held;
+use crate::held::LentRecorder;
 use crate::recorder::Recorder;
 use r10_calls::{
     AccountOut, ChannelOut, EntryOut, FaultOut, FileOut, ScriptOut, StatusOut, count_accepted,
@@ -64,7 +64,8 @@ pub extern "C" fn r10_check_script(
     r10_calls::check_script(alloc, script, out, text)
 }
 
-/// Writes the directory of a medium without files into its memory, and opens a recorder over it, which is not mounted: 0, or 28, 30, 40, 41, 45.
+/// Writes the directory of a medium without files into its memory, and opens a recorder over it, which is not mounted: 0, or 28,
+/// 30, 40, 41, 45.
 #[unsafe(no_mangle)]
 pub extern "C" fn r10_format(
     alloc: Global,
@@ -93,7 +94,7 @@ pub extern "C" fn r10_format(
         Ok(opened) => opened,
         Err(number) => return number,
     };
-    let held = Held {
+    let held = LentRecorder {
         desk,
         orders,
         accepted,
@@ -107,7 +108,8 @@ pub extern "C" fn r10_format(
     }
 }
 
-/// Opens a recorder, which is not mounted, and of whose operations as many as `room` may wait before more memory is asked for: 0, or 30, 40, 41, 45.
+/// Opens a recorder, which is not mounted, and of whose operations as many as `room` may wait before more memory is asked for: 0,
+/// or 30, 40, 41, 45.
 #[unsafe(no_mangle)]
 pub extern "C" fn r10_open(
     alloc: Global,
@@ -132,7 +134,7 @@ pub extern "C" fn r10_open(
         Ok(opened) => opened,
         Err(number) => return number,
     };
-    let held = Held {
+    let held = LentRecorder {
         desk,
         orders,
         accepted,
@@ -146,7 +148,8 @@ pub extern "C" fn r10_open(
     }
 }
 
-/// Hands out the next operation that the device has to do, or says that there is none: 0, or 42 where fewer than 512 bytes were lent, 44.
+/// Hands out the next operation that the device has to do, or says that there is none: 0, or 42 where fewer than 512 bytes were
+/// lent, 44.
 #[unsafe(no_mangle)]
 pub extern "C" fn r10_order(
     alloc: Global,
@@ -154,9 +157,12 @@ pub extern "C" fn r10_order(
     out: &mut OrderOut,
     bytes: &mut [u8],
 ) -> u32
-    ensures hands { 512 ≤ length bytes.old → IsOpen recorder.old → Goes recorder.old recorder.new (λ old new. (result ≡ 0) × (new.desk ≡ old.desk) × HandsOrderOut old.orders new.orders out.new bytes.old bytes.new) }
-    ensures room { length bytes.old < 512 → IsOpen recorder.old → (result ≡ 42) × (recorder.new ≡ recorder.old) × (out.new ≡ out.old) × (bytes.new ≡ bytes.old) }
-    ensures closed { IsClosed recorder.old → (result ≡ 44) × (recorder.new ≡ recorder.old) × (out.new ≡ out.old) × (bytes.new ≡ bytes.old) }
+    ensures hands { 512 ≤ length bytes.old → IsOpen recorder.old → Goes recorder.old recorder.new
+        (λ old new. (result ≡ 0) × (new.desk ≡ old.desk) × HandsOrderOut old.orders new.orders out.new bytes.old bytes.new) }
+    ensures room { length bytes.old < 512 → IsOpen recorder.old
+        → (result ≡ 42) × (recorder.new ≡ recorder.old) × (out.new ≡ out.old) × (bytes.new ≡ bytes.old) }
+    ensures closed { IsClosed recorder.old
+        → (result ≡ 44) × (recorder.new ≡ recorder.old) × (out.new ≡ out.old) × (bytes.new ≡ bytes.old) }
 {
     if !recorder.is_open() {
         return CLOSED;
@@ -170,7 +176,8 @@ pub extern "C" fn r10_order(
     0
 }
 
-/// Hands out the next operations that the device may do at once, or says that there are none: 0, or 42 where fewer than 512 bytes were lent, 44.
+/// Hands out the next operations that the device may do at once, or says that there are none: 0, or 42 where fewer than 512 bytes
+/// were lent, 44.
 #[unsafe(no_mangle)]
 pub extern "C" fn r10_orders(
     alloc: Global,
@@ -178,9 +185,12 @@ pub extern "C" fn r10_orders(
     out: &mut RunOut,
     bytes: &mut [u8],
 ) -> u32
-    ensures hands { 512 ≤ length bytes.old → IsOpen recorder.old → Goes recorder.old recorder.new (λ old new. (result ≡ 0) × (new.desk ≡ old.desk) × HandsRunOut old.orders new.orders out.new bytes.old bytes.new) }
-    ensures room { length bytes.old < 512 → IsOpen recorder.old → (result ≡ 42) × (recorder.new ≡ recorder.old) × (out.new ≡ out.old) × (bytes.new ≡ bytes.old) }
-    ensures closed { IsClosed recorder.old → (result ≡ 44) × (recorder.new ≡ recorder.old) × (out.new ≡ out.old) × (bytes.new ≡ bytes.old) }
+    ensures hands { 512 ≤ length bytes.old → IsOpen recorder.old → Goes recorder.old recorder.new
+        (λ old new. (result ≡ 0) × (new.desk ≡ old.desk) × HandsRunOut old.orders new.orders out.new bytes.old bytes.new) }
+    ensures room { length bytes.old < 512 → IsOpen recorder.old
+        → (result ≡ 42) × (recorder.new ≡ recorder.old) × (out.new ≡ out.old) × (bytes.new ≡ bytes.old) }
+    ensures closed { IsClosed recorder.old
+        → (result ≡ 44) × (recorder.new ≡ recorder.old) × (out.new ≡ out.old) × (bytes.new ≡ bytes.old) }
 {
     if !recorder.is_open() {
         return CLOSED;
@@ -197,7 +207,8 @@ pub extern "C" fn r10_orders(
 /// How many operations wait. 0, or 44.
 #[unsafe(no_mangle)]
 pub extern "C" fn r10_queue(alloc: Global, recorder: &mut Recorder, out: &mut QueueOut) -> u32
-    ensures counts { IsOpen recorder.old → Goes recorder.old recorder.new (λ old new. (result ≡ 0) × (new.desk ≡ old.desk) × CountsQueue old.orders new.orders out.new) }
+    ensures counts { IsOpen recorder.old → Goes recorder.old recorder.new
+        (λ old new. (result ≡ 0) × (new.desk ≡ old.desk) × CountsQueue old.orders new.orders out.new) }
     ensures closed { IsClosed recorder.old → (result ≡ 44) × (recorder.new ≡ recorder.old) × (out.new ≡ out.old) }
 {
     if !recorder.is_open() {
@@ -212,7 +223,8 @@ pub extern "C" fn r10_queue(alloc: Global, recorder: &mut Recorder, out: &mut Qu
 /// The program's disk failed: from now on each write and each sync of the recorder fails. 0, or 44.
 #[unsafe(no_mangle)]
 pub extern "C" fn r10_disk_failed(alloc: Global, recorder: &mut Recorder) -> u32
-    ensures told { IsOpen recorder.old → Goes recorder.old recorder.new (λ old new. (result ≡ 0) × (new.desk ≡ old.desk) × HasTold old.orders new.orders) }
+    ensures told { IsOpen recorder.old
+        → Goes recorder.old recorder.new (λ old new. (result ≡ 0) × (new.desk ≡ old.desk) × HasTold old.orders new.orders) }
     ensures closed { IsClosed recorder.old → (result ≡ 44) × (recorder.new ≡ recorder.old) }
 {
     if !recorder.is_open() {
@@ -224,7 +236,8 @@ pub extern "C" fn r10_disk_failed(alloc: Global, recorder: &mut Recorder) -> u32
     0
 }
 
-/// Closes a recorder: its memory is given back, the region's to its caller. What was not committed is lost. A closed one stays closed.
+/// Closes a recorder: its memory is given back, the region's to its caller. What was not committed is lost. A closed one stays
+/// closed.
 #[unsafe(no_mangle)]
 pub extern "C" fn r10_close(alloc: Global, recorder: &mut Recorder)
     ensures closes { IsClosed recorder.new }
@@ -240,7 +253,8 @@ pub extern "C" fn r10_close(alloc: Global, recorder: &mut Recorder)
 /// Begins to use the medium. 0, or 1, 3, 26, 28, 30.
 #[unsafe(no_mangle)]
 pub extern "C" fn r10_mount(alloc: Global, recorder: &mut Recorder) -> u32
-    ensures does { IsOpen recorder.old → DoesWriting recorder.old recorder.new result (λ old new. DoesEvent region_disk old events.Mount (λ reply. result ≡ number_of reply) new) }
+    ensures does { IsOpen recorder.old → DoesWriting recorder.old recorder.new result
+        (λ old new. DoesEvent region_disk old events.Mount (λ reply. result ≡ number_of reply) new) }
     ensures closed { IsClosed recorder.old → (result ≡ 44) × (recorder.new ≡ recorder.old) }
 {
     if !recorder.is_open() {
@@ -255,7 +269,8 @@ pub extern "C" fn r10_mount(alloc: Global, recorder: &mut Recorder) -> u32
 /// Ends the use of the medium. 0, or 1, 2, 4, 28, 30.
 #[unsafe(no_mangle)]
 pub extern "C" fn r10_dismount(alloc: Global, recorder: &mut Recorder) -> u32
-    ensures does { IsOpen recorder.old → DoesWriting recorder.old recorder.new result (λ old new. DoesEvent region_disk old events.Dismount (λ reply. result ≡ number_of reply) new) }
+    ensures does { IsOpen recorder.old → DoesWriting recorder.old recorder.new result
+        (λ old new. DoesEvent region_disk old events.Dismount (λ reply. result ≡ number_of reply) new) }
     ensures closed { IsClosed recorder.old → (result ≡ 44) × (recorder.new ≡ recorder.old) }
 {
     if !recorder.is_open() {
@@ -270,7 +285,8 @@ pub extern "C" fn r10_dismount(alloc: Global, recorder: &mut Recorder) -> u32
 /// The clock: a count and the civil time at it. 0, or 1, 2, 10, 11, 13, 25, 28, 30.
 #[unsafe(no_mangle)]
 pub extern "C" fn r10_tick(alloc: Global, recorder: &mut Recorder, count: u64, civil: &Civil) -> u32
-    ensures does { IsOpen recorder.old → DoesWriting recorder.old recorder.new result (λ old new. DoesEvent region_disk old (events.Tick count (parts_of civil.now)) (λ reply. result ≡ number_of reply) new) }
+    ensures does { IsOpen recorder.old → DoesWriting recorder.old recorder.new result
+        (λ old new. DoesEvent region_disk old (events.Tick count (parts_of civil.now)) (λ reply. result ≡ number_of reply) new) }
     ensures closed { IsClosed recorder.old → (result ≡ 44) × (recorder.new ≡ recorder.old) }
 {
     if !recorder.is_open() {
@@ -290,7 +306,8 @@ pub extern "C" fn r10_start(
     name: &[u8],
     setup: &[u8],
 ) -> u32
-    ensures does { IsOpen recorder.old → DoesWriting recorder.old recorder.new result (λ old new. DoesEvent region_disk old (events.Start name.now setup.now) (λ reply. result ≡ number_of reply) new) }
+    ensures does { IsOpen recorder.old → DoesWriting recorder.old recorder.new result
+        (λ old new. DoesEvent region_disk old (events.Start name.now setup.now) (λ reply. result ≡ number_of reply) new) }
     ensures closed { IsClosed recorder.old → (result ≡ 44) × (recorder.new ≡ recorder.old) }
 {
     if !recorder.is_open() {
@@ -313,7 +330,8 @@ pub extern "C" fn r10_offer_uart(
     sub: u16,
     bytes: &[u8],
 ) -> u32
-    ensures does { IsOpen recorder.old → Offers result channel recorder.old recorder.new (λ old new. DoesEvent region_disk old (events.Offer channel count (messages.Uart parity sub bytes.now)) (λ reply. result ≡ number_of reply) new) }
+    ensures does { IsOpen recorder.old → Offers result channel recorder.old recorder.new (λ old new. DoesEvent region_disk old
+        (events.Offer channel count (messages.Uart parity sub bytes.now)) (λ reply. result ≡ number_of reply) new) }
     ensures closed { IsClosed recorder.old → (result ≡ 44) × (recorder.new ≡ recorder.old) }
 {
     if !recorder.is_open() {
@@ -338,7 +356,8 @@ pub extern "C" fn r10_offer_1553(
     gap: u16,
     words: &[u16],
 ) -> u32
-    ensures does { IsOpen recorder.old → Offers result channel recorder.old recorder.new (λ old new. DoesEvent region_disk old (events.Offer channel count (messages.Bus1553 status gap words.now)) (λ reply. result ≡ number_of reply) new) }
+    ensures does { IsOpen recorder.old → Offers result channel recorder.old recorder.new (λ old new. DoesEvent region_disk old
+        (events.Offer channel count (messages.Bus1553 status gap words.now)) (λ reply. result ≡ number_of reply) new) }
     ensures closed { IsClosed recorder.old → (result ≡ 44) × (recorder.new ≡ recorder.old) }
 {
     if !recorder.is_open() {
@@ -365,7 +384,8 @@ pub extern "C" fn r10_offer_arinc(
     high: bool,
     word: u32,
 ) -> u32
-    ensures does { IsOpen recorder.old → Offers result channel recorder.old recorder.new (λ old new. DoesEvent region_disk old (events.Offer channel count (messages.Arinc bus format parity high word)) (λ reply. result ≡ number_of reply) new) }
+    ensures does { IsOpen recorder.old → Offers result channel recorder.old recorder.new (λ old new. DoesEvent region_disk old
+        (events.Offer channel count (messages.Arinc bus format parity high word)) (λ reply. result ≡ number_of reply) new) }
     ensures closed { IsClosed recorder.old → (result ≡ 44) × (recorder.new ≡ recorder.old) }
 {
     if !recorder.is_open() {
@@ -390,7 +410,8 @@ pub extern "C" fn r10_offer_discrete(
     count: u64,
     states: u32,
 ) -> u32
-    ensures does { IsOpen recorder.old → Offers result channel recorder.old recorder.new (λ old new. DoesEvent region_disk old (events.Offer channel count (messages.Discrete states)) (λ reply. result ≡ number_of reply) new) }
+    ensures does { IsOpen recorder.old → Offers result channel recorder.old recorder.new (λ old new. DoesEvent region_disk old
+        (events.Offer channel count (messages.Discrete states)) (λ reply. result ≡ number_of reply) new) }
     ensures closed { IsClosed recorder.old → (result ≡ 44) × (recorder.new ≡ recorder.old) }
 {
     if !recorder.is_open() {
@@ -416,7 +437,8 @@ pub extern "C" fn r10_offer_message(
     sub: u16,
     bytes: &[u8],
 ) -> u32
-    ensures does { IsOpen recorder.old → Offers result channel recorder.old recorder.new (λ old new. DoesEvent region_disk old (events.Offer channel count (messages.Message data_error format sub bytes.now)) (λ reply. result ≡ number_of reply) new) }
+    ensures does { IsOpen recorder.old → Offers result channel recorder.old recorder.new (λ old new. DoesEvent region_disk old
+        (events.Offer channel count (messages.Message data_error format sub bytes.now)) (λ reply. result ≡ number_of reply) new) }
     ensures closed { IsClosed recorder.old → (result ≡ 44) × (recorder.new ≡ recorder.old) }
 {
     if !recorder.is_open() {
@@ -435,7 +457,8 @@ pub extern "C" fn r10_offer_message(
 /// So many messages of a channel were lost before they were offered. 0, or 6, 30.
 #[unsafe(no_mangle)]
 pub extern "C" fn r10_lost(alloc: Global, recorder: &mut Recorder, channel: u16, count: u64) -> u32
-    ensures does { IsOpen recorder.old → Does recorder.old recorder.new (λ old new. DoesEvent region_disk old (events.Lose channel count) (λ reply. result ≡ number_of reply) new) }
+    ensures does { IsOpen recorder.old → Does recorder.old recorder.new
+        (λ old new. DoesEvent region_disk old (events.Lose channel count) (λ reply. result ≡ number_of reply) new) }
     ensures closed { IsClosed recorder.old → (result ≡ 44) × (recorder.new ≡ recorder.old) }
 {
     if !recorder.is_open() {
@@ -456,7 +479,8 @@ pub extern "C" fn r10_pump(
     most: usize,
     moved: &mut usize,
 ) -> u32
-    ensures does { IsOpen recorder.old → DoesWriting recorder.old recorder.new result (λ old new. DoesEvent region_disk old (events.Pump channel most) (λ reply. (result ≡ number_of reply) × (moved.new ≡ moved_in reply moved.old)) new) }
+    ensures does { IsOpen recorder.old → DoesWriting recorder.old recorder.new result (λ old new. DoesEvent region_disk old
+        (events.Pump channel most) (λ reply. (result ≡ number_of reply) × (moved.new ≡ moved_in reply moved.old)) new) }
     ensures closed { IsClosed recorder.old → (result ≡ 44) × (recorder.new ≡ recorder.old) × (moved.new ≡ moved.old) }
 {
     if !recorder.is_open() {
@@ -471,7 +495,8 @@ pub extern "C" fn r10_pump(
 /// A recording event. 0, or 1, 2, 5, 10, 11, 17, 25, 28, 30.
 #[unsafe(no_mangle)]
 pub extern "C" fn r10_event(alloc: Global, recorder: &mut Recorder, number: u16, count: u64) -> u32
-    ensures does { IsOpen recorder.old → DoesWriting recorder.old recorder.new result (λ old new. DoesEvent region_disk old (events.Event number count) (λ reply. result ≡ number_of reply) new) }
+    ensures does { IsOpen recorder.old → DoesWriting recorder.old recorder.new result
+        (λ old new. DoesEvent region_disk old (events.Event number count) (λ reply. result ≡ number_of reply) new) }
     ensures closed { IsClosed recorder.old → (result ≡ 44) × (recorder.new ≡ recorder.old) }
 {
     if !recorder.is_open() {
@@ -486,7 +511,8 @@ pub extern "C" fn r10_event(alloc: Global, recorder: &mut Recorder, number: u16,
 /// Shows on the medium all that the file has. 0, or 1, 2, 5, 28, 30.
 #[unsafe(no_mangle)]
 pub extern "C" fn r10_commit(alloc: Global, recorder: &mut Recorder) -> u32
-    ensures does { IsOpen recorder.old → DoesWriting recorder.old recorder.new result (λ old new. DoesEvent region_disk old events.Commit (λ reply. result ≡ number_of reply) new) }
+    ensures does { IsOpen recorder.old → DoesWriting recorder.old recorder.new result
+        (λ old new. DoesEvent region_disk old events.Commit (λ reply. result ≡ number_of reply) new) }
     ensures closed { IsClosed recorder.old → (result ≡ 44) × (recorder.new ≡ recorder.old) }
 {
     if !recorder.is_open() {
@@ -506,8 +532,11 @@ pub extern "C" fn r10_stop(
     taken: &mut usize,
     left: &mut usize,
 ) -> u32
-    ensures does { IsOpen recorder.old → DoesWriting recorder.old recorder.new result (λ old new. DoesEvent region_disk old events.Stop (λ reply. (result ≡ number_of reply) × (taken.new ≡ taken_out reply taken.old) × (left.new ≡ left_out reply left.old)) new) }
-    ensures closed { IsClosed recorder.old → (result ≡ 44) × (recorder.new ≡ recorder.old) × (taken.new ≡ taken.old) × (left.new ≡ left.old) }
+    ensures does { IsOpen recorder.old → DoesWriting recorder.old recorder.new result
+        (λ old new. DoesEvent region_disk old events.Stop (λ reply. (result ≡ number_of reply)
+        × (taken.new ≡ taken_out reply taken.old) × (left.new ≡ left_out reply left.old)) new) }
+    ensures closed { IsClosed recorder.old
+        → (result ≡ 44) × (recorder.new ≡ recorder.old) × (taken.new ≡ taken.old) × (left.new ≡ left.old) }
 {
     if !recorder.is_open() {
         return CLOSED;
@@ -521,7 +550,8 @@ pub extern "C" fn r10_stop(
 /// Closes the last file, which was left open. 0, or 1, 2, 4, 19, 25, 27, 28, 30.
 #[unsafe(no_mangle)]
 pub extern "C" fn r10_seal(alloc: Global, recorder: &mut Recorder) -> u32
-    ensures does { IsOpen recorder.old → DoesWriting recorder.old recorder.new result (λ old new. DoesEvent region_disk old events.Seal (λ reply. result ≡ number_of reply) new) }
+    ensures does { IsOpen recorder.old → DoesWriting recorder.old recorder.new result
+        (λ old new. DoesEvent region_disk old events.Seal (λ reply. result ≡ number_of reply) new) }
     ensures closed { IsClosed recorder.old → (result ≡ 44) × (recorder.new ≡ recorder.old) }
 {
     if !recorder.is_open() {
@@ -536,7 +566,8 @@ pub extern "C" fn r10_seal(alloc: Global, recorder: &mut Recorder) -> u32
 /// Takes all files from the medium. 0, or 1, 2, 4, 20, 28, 30.
 #[unsafe(no_mangle)]
 pub extern "C" fn r10_erase(alloc: Global, recorder: &mut Recorder) -> u32
-    ensures does { IsOpen recorder.old → DoesWriting recorder.old recorder.new result (λ old new. DoesEvent region_disk old events.Erase (λ reply. result ≡ number_of reply) new) }
+    ensures does { IsOpen recorder.old → DoesWriting recorder.old recorder.new result
+        (λ old new. DoesEvent region_disk old events.Erase (λ reply. result ≡ number_of reply) new) }
     ensures closed { IsClosed recorder.old → (result ≡ 44) × (recorder.new ≡ recorder.old) }
 {
     if !recorder.is_open() {
@@ -551,7 +582,8 @@ pub extern "C" fn r10_erase(alloc: Global, recorder: &mut Recorder) -> u32
 /// How many files the medium has. 0, or 1, 2, 30.
 #[unsafe(no_mangle)]
 pub extern "C" fn r10_files(alloc: Global, recorder: &mut Recorder, count: &mut usize) -> u32
-    ensures does { IsOpen recorder.old → Does recorder.old recorder.new (λ old new. DoesEvent region_disk old events.Files (λ reply. (result ≡ number_of reply) × (count.new ≡ files_in reply count.old)) new) }
+    ensures does { IsOpen recorder.old → Does recorder.old recorder.new (λ old new. DoesEvent region_disk old events.Files
+        (λ reply. (result ≡ number_of reply) × (count.new ≡ files_in reply count.old)) new) }
     ensures closed { IsClosed recorder.old → (result ≡ 44) × (recorder.new ≡ recorder.old) × (count.new ≡ count.old) }
 {
     if !recorder.is_open() {
@@ -572,8 +604,11 @@ pub extern "C" fn r10_file(
     out: &mut FileOut,
     name: &mut [u8],
 ) -> u32
-    ensures does { IsOpen recorder.old → Does recorder.old recorder.new (λ old new. DoesEvent region_disk old events.Files (λ reply. (result ≡ file_place reply number) × (out.new ≡ file_in reply number out.old) × (name.new ≡ name_in reply number name.old)) new) }
-    ensures closed { IsClosed recorder.old → (result ≡ 44) × (recorder.new ≡ recorder.old) × (out.new ≡ out.old) × (name.new ≡ name.old) }
+    ensures does { IsOpen recorder.old → Does recorder.old recorder.new
+        (λ old new. DoesEvent region_disk old events.Files (λ reply. (result ≡ file_place reply number)
+        × (out.new ≡ file_in reply number out.old) × (name.new ≡ name_in reply number name.old)) new) }
+    ensures closed { IsClosed recorder.old
+        → (result ≡ 44) × (recorder.new ≡ recorder.old) × (out.new ≡ out.old) × (name.new ≡ name.old) }
 {
     if !recorder.is_open() {
         return CLOSED;
@@ -587,7 +622,8 @@ pub extern "C" fn r10_file(
 /// How the recorder is. 0, or 30.
 #[unsafe(no_mangle)]
 pub extern "C" fn r10_status(alloc: Global, recorder: &mut Recorder, out: &mut StatusOut) -> u32
-    ensures does { IsOpen recorder.old → Does recorder.old recorder.new (λ old new. DoesEvent region_disk old events.Status (λ reply. (result ≡ number_of reply) × (out.new ≡ status_given reply out.old)) new) }
+    ensures does { IsOpen recorder.old → Does recorder.old recorder.new (λ old new. DoesEvent region_disk old events.Status
+        (λ reply. (result ≡ number_of reply) × (out.new ≡ status_given reply out.old)) new) }
     ensures closed { IsClosed recorder.old → (result ≡ 44) × (recorder.new ≡ recorder.old) × (out.new ≡ out.old) }
 {
     if !recorder.is_open() {
@@ -607,7 +643,8 @@ pub extern "C" fn r10_channel(
     place: usize,
     out: &mut ChannelOut,
 ) -> u32
-    ensures does { IsOpen recorder.old → Does recorder.old recorder.new (λ old new. DoesEvent region_disk old events.Status (λ reply. (result ≡ lane_place reply place) × (out.new ≡ channel_given reply place out.old)) new) }
+    ensures does { IsOpen recorder.old → Does recorder.old recorder.new (λ old new. DoesEvent region_disk old events.Status
+        (λ reply. (result ≡ lane_place reply place) × (out.new ≡ channel_given reply place out.old)) new) }
     ensures closed { IsClosed recorder.old → (result ≡ 44) × (recorder.new ≡ recorder.old) × (out.new ≡ out.old) }
 {
     if !recorder.is_open() {
@@ -651,7 +688,8 @@ pub extern "C" fn r10_cursor(
     to: u64,
     id: &mut usize,
 ) -> u32
-    ensures does { IsOpen recorder.old → Does recorder.old recorder.new (λ old new. DoesEvent region_disk old (events.Cursor file channels.now from to) (λ reply. (result ≡ number_of reply) × (id.new ≡ cursor_in reply id.old)) new) }
+    ensures does { IsOpen recorder.old → Does recorder.old recorder.new (λ old new. DoesEvent region_disk old
+        (events.Cursor file channels.now from to) (λ reply. (result ≡ number_of reply) × (id.new ≡ cursor_in reply id.old)) new) }
     ensures closed { IsClosed recorder.old → (result ≡ 44) × (recorder.new ≡ recorder.old) × (id.new ≡ id.old) }
 {
     if !recorder.is_open() {
@@ -671,7 +709,8 @@ pub extern "C" fn r10_advance(
     id: usize,
     queued: &mut usize,
 ) -> u32
-    ensures does { IsOpen recorder.old → Does recorder.old recorder.new (λ old new. DoesEvent region_disk old (events.Advance id) (λ reply. (result ≡ number_of reply) × (queued.new ≡ queued_in reply queued.old)) new) }
+    ensures does { IsOpen recorder.old → Does recorder.old recorder.new (λ old new. DoesEvent region_disk old (events.Advance id)
+        (λ reply. (result ≡ number_of reply) × (queued.new ≡ queued_in reply queued.old)) new) }
     ensures closed { IsClosed recorder.old → (result ≡ 44) × (recorder.new ≡ recorder.old) × (queued.new ≡ queued.old) }
 {
     if !recorder.is_open() {
@@ -694,10 +733,14 @@ pub extern "C" fn r10_next(
     bytes: &mut [u8],
     words: &mut [u16],
 ) -> u32
-    ensures does { 65_535 ≤ length bytes.old → 36 ≤ length words.old → IsOpen recorder.old → Does recorder.old recorder.new (λ old new. DoesEvent region_disk old (events.Next id) (λ reply. (result ≡ number_of reply) × (lent there.new out.new bytes.new words.new ≡ next_out reply (lent there.old out.old bytes.old words.old))) new) }
-    ensures room { (length bytes.old < 65_535) ⊎ (length words.old < 36) → IsOpen recorder.old → Goes recorder.old recorder.new (λ old new. (result ≡ 42) × (new.desk ≡ old.desk) × (new.orders ≡ old.orders)
+    ensures does { 65_535 ≤ length bytes.old → 36 ≤ length words.old → IsOpen recorder.old
+        → Does recorder.old recorder.new (λ old new. DoesEvent region_disk old (events.Next id) (λ reply. (result ≡ number_of reply)
+        × (lent there.new out.new bytes.new words.new ≡ next_out reply (lent there.old out.old bytes.old words.old))) new) }
+    ensures room { (length bytes.old < 65_535) ⊎ (length words.old < 36) → IsOpen recorder.old
+        → Goes recorder.old recorder.new (λ old new. (result ≡ 42) × (new.desk ≡ old.desk) × (new.orders ≡ old.orders)
         × (lent there.new out.new bytes.new words.new ≡ lent there.old out.old bytes.old words.old)) }
-    ensures closed { IsClosed recorder.old → (result ≡ 44) × (recorder.new ≡ recorder.old) × (there.new ≡ there.old) × (out.new ≡ out.old) × (bytes.new ≡ bytes.old) × (words.new ≡ words.old) }
+    ensures closed { IsClosed recorder.old → (result ≡ 44) × (recorder.new ≡ recorder.old) × (there.new ≡ there.old)
+        × (out.new ≡ out.old) × (bytes.new ≡ bytes.old) × (words.new ≡ words.old) }
 {
     if !recorder.is_open() {
         return CLOSED;
@@ -717,8 +760,11 @@ pub extern "C" fn r10_take(
     there: &mut bool,
     out: &mut EntryOut,
 ) -> u32
-    ensures takes { IsOpen recorder.old → Does recorder.old recorder.new (λ old new. TakesInHand region_disk old id (λ reply. (result ≡ number_of reply) × (there.new ≡ is_next_in reply there.old) × (out.new ≡ next_fields reply out.old)) new) }
-    ensures closed { IsClosed recorder.old → (result ≡ 44) × (recorder.new ≡ recorder.old) × (there.new ≡ there.old) × (out.new ≡ out.old) }
+    ensures takes { IsOpen recorder.old
+        → Does recorder.old recorder.new (λ old new. TakesInHand region_disk old id (λ reply. (result ≡ number_of reply)
+        × (there.new ≡ is_next_in reply there.old) × (out.new ≡ next_fields reply out.old)) new) }
+    ensures closed { IsClosed recorder.old
+        → (result ≡ 44) × (recorder.new ≡ recorder.old) × (there.new ≡ there.old) × (out.new ≡ out.old) }
 {
     if !recorder.is_open() {
         return CLOSED;
@@ -729,7 +775,8 @@ pub extern "C" fn r10_take(
     answer
 }
 
-/// Copies the bytes or words of the entry in hand. 0, or 42 where there is less room than it has of them, 43 where there is none in hand, 44.
+/// Copies the bytes or words of the entry in hand. 0, or 42 where there is less room than it has of them, 43 where there is none in
+/// hand, 44.
 #[unsafe(no_mangle)]
 pub extern "C" fn r10_taken(
     alloc: Global,
@@ -738,12 +785,16 @@ pub extern "C" fn r10_taken(
     words: &mut [u16],
 ) -> u32
     ensures stays { IsOpen recorder.old → Does recorder.old recorder.new (λ old new. new ≡ old) }
-    ensures none { IsOpen recorder.old → Goes recorder.old recorder.new (λ old new. entry_in old.desk.hand ≡ None → (result ≡ 43) × (bytes.new ≡ bytes.old) × (words.new ≡ words.old)) }
-    ensures copies { IsOpen recorder.old → Goes recorder.old recorder.new (λ old new. (e : Entry) → entry_in old.desk.hand ≡ Some e → length (out_bytes e) ≤ length bytes.old → length (words_of e) ≤ length words.old
+    ensures none { IsOpen recorder.old → Goes recorder.old recorder.new
+        (λ old new. entry_in old.desk.hand ≡ None → (result ≡ 43) × (bytes.new ≡ bytes.old) × (words.new ≡ words.old)) }
+    ensures copies { IsOpen recorder.old → Goes recorder.old recorder.new (λ old new. (e : Entry)
+        → entry_in old.desk.hand ≡ Some e → length (out_bytes e) ≤ length bytes.old → length (words_of e) ≤ length words.old
         → (result ≡ 0) × (bytes.new ≡ copied (out_bytes e) bytes.old) × (words.new ≡ copied (words_of e) words.old)) }
-    ensures room { IsOpen recorder.old → Goes recorder.old recorder.new (λ old new. (e : Entry) → entry_in old.desk.hand ≡ Some e → (length bytes.old < length (out_bytes e)) ⊎ (length words.old < length (words_of e))
+    ensures room { IsOpen recorder.old → Goes recorder.old recorder.new (λ old new. (e : Entry)
+        → entry_in old.desk.hand ≡ Some e → (length bytes.old < length (out_bytes e)) ⊎ (length words.old < length (words_of e))
         → (result ≡ 42) × (bytes.new ≡ bytes.old) × (words.new ≡ words.old)) }
-    ensures closed { IsClosed recorder.old → (result ≡ 44) × (recorder.new ≡ recorder.old) × (bytes.new ≡ bytes.old) × (words.new ≡ words.old) }
+    ensures closed { IsClosed recorder.old
+        → (result ≡ 44) × (recorder.new ≡ recorder.old) × (bytes.new ≡ bytes.old) × (words.new ≡ words.old) }
 {
     if !recorder.is_open() {
         return CLOSED;
@@ -757,7 +808,8 @@ pub extern "C" fn r10_taken(
 /// What the last refusal carried, of those that carry something. 0, or 44.
 #[unsafe(no_mangle)]
 pub extern "C" fn r10_fault(alloc: Global, recorder: &mut Recorder, out: &mut FaultOut) -> u32
-    ensures gives { IsOpen recorder.old → Goes recorder.old recorder.new (λ old new. (result ≡ 0) × (new.desk ≡ old.desk) × (new.orders ≡ old.orders) × (out.new ≡ old.desk.fault)) }
+    ensures gives { IsOpen recorder.old → Goes recorder.old recorder.new
+        (λ old new. (result ≡ 0) × (new.desk ≡ old.desk) × (new.orders ≡ old.orders) × (out.new ≡ old.desk.fault)) }
     ensures closed { IsClosed recorder.old → (result ≡ 44) × (recorder.new ≡ recorder.old) × (out.new ≡ out.old) }
 {
     if !recorder.is_open() {
@@ -772,7 +824,8 @@ pub extern "C" fn r10_fault(alloc: Global, recorder: &mut Recorder, out: &mut Fa
 /// Closes a cursor. 0, or 21, 30.
 #[unsafe(no_mangle)]
 pub extern "C" fn r10_close_cursor(alloc: Global, recorder: &mut Recorder, id: usize) -> u32
-    ensures does { IsOpen recorder.old → Does recorder.old recorder.new (λ old new. DoesEvent region_disk old (events.Close id) (λ reply. result ≡ number_of reply) new) }
+    ensures does { IsOpen recorder.old → Does recorder.old recorder.new
+        (λ old new. DoesEvent region_disk old (events.Close id) (λ reply. result ≡ number_of reply) new) }
     ensures closed { IsClosed recorder.old → (result ≡ 44) × (recorder.new ≡ recorder.old) }
 {
     if !recorder.is_open() {
@@ -798,10 +851,15 @@ pub extern "C" fn r10_find(
     bytes: &mut [u8],
     words: &mut [u16],
 ) -> u32
-    ensures does { 65_535 ≤ length bytes.old → 36 ≤ length words.old → IsOpen recorder.old → Does recorder.old recorder.new (λ old new. DoesEvent region_disk old (events.Find file channel count) (λ reply. (result ≡ number_of reply) × (number.new ≡ place_in reply number.old) × (lent there.new out.new bytes.new words.new ≡ found_in reply (lent there.old out.old bytes.old words.old))) new) }
-    ensures room { (length bytes.old < 65_535) ⊎ (length words.old < 36) → IsOpen recorder.old → Goes recorder.old recorder.new (λ old new. (result ≡ 42) × (new.desk ≡ old.desk) × (new.orders ≡ old.orders)
+    ensures does { 65_535 ≤ length bytes.old → 36 ≤ length words.old → IsOpen recorder.old
+        → Does recorder.old recorder.new (λ old new. DoesEvent region_disk old (events.Find file channel count)
+        (λ reply. (result ≡ number_of reply) × (number.new ≡ place_in reply number.old)
+        × (lent there.new out.new bytes.new words.new ≡ found_in reply (lent there.old out.old bytes.old words.old))) new) }
+    ensures room { (length bytes.old < 65_535) ⊎ (length words.old < 36) → IsOpen recorder.old
+        → Goes recorder.old recorder.new (λ old new. (result ≡ 42) × (new.desk ≡ old.desk) × (new.orders ≡ old.orders)
         × (number.new ≡ number.old) × (lent there.new out.new bytes.new words.new ≡ lent there.old out.old bytes.old words.old)) }
-    ensures closed { IsClosed recorder.old → (result ≡ 44) × (recorder.new ≡ recorder.old) × (there.new ≡ there.old) × (number.new ≡ number.old) × (out.new ≡ out.old) × (bytes.new ≡ bytes.old) × (words.new ≡ words.old) }
+    ensures closed { IsClosed recorder.old → (result ≡ 44) × (recorder.new ≡ recorder.old) × (there.new ≡ there.old)
+        × (number.new ≡ number.old) × (out.new ≡ out.old) × (bytes.new ≡ bytes.old) × (words.new ≡ words.old) }
 {
     if !recorder.is_open() {
         return CLOSED;
@@ -824,8 +882,11 @@ pub extern "C" fn r10_count_at(
     there: &mut bool,
     count: &mut u64,
 ) -> u32
-    ensures does { IsOpen recorder.old → Does recorder.old recorder.new (λ old new. DoesEvent region_disk old (events.CountAt file (parts_of civil.now)) (λ reply. (result ≡ number_of reply) × (there.new ≡ is_count_in reply there.old) × (count.new ≡ count_in reply count.old)) new) }
-    ensures closed { IsClosed recorder.old → (result ≡ 44) × (recorder.new ≡ recorder.old) × (there.new ≡ there.old) × (count.new ≡ count.old) }
+    ensures does { IsOpen recorder.old → Does recorder.old recorder.new
+        (λ old new. DoesEvent region_disk old (events.CountAt file (parts_of civil.now)) (λ reply. (result ≡ number_of reply)
+        × (there.new ≡ is_count_in reply there.old) × (count.new ≡ count_in reply count.old)) new) }
+    ensures closed { IsClosed recorder.old
+        → (result ≡ 44) × (recorder.new ≡ recorder.old) × (there.new ≡ there.old) × (count.new ≡ count.old) }
 {
     if !recorder.is_open() {
         return CLOSED;

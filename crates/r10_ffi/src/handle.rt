@@ -1,10 +1,10 @@
 //! What a caller of another language holds of a recorder.
 
 ghost use Rattle.std.specs.Prelude.{◌≡◌, Option, Some, None};
-ghost use Rattle.r10_ffi.specs.declared.held.Held.{Held};
+ghost use Rattle.r10_ffi.specs.declared.held.LentRecorder.{LentRecorder};
 ghost use Rattle.r10_ends.specs.Owning.{IsThere};
 
-use crate::held::Held;
+use crate::held::LentRecorder;
 use crate::loose::Loose;
 use std::alloc::Global;
 use std::marker::Model;
@@ -15,13 +15,13 @@ use std::marker::Model;
 pub struct Handle {
     at: *mut u8,
     alloc: Global,
-    ghost held: { Option Held },
+    ghost held: { Option LentRecorder },
 }
 
 impl Model for Handle {
     ghost use Rattle.std.specs.Box.Ownership.{box_owns};
     ghost use Rattle.std.specs.contracts.impls.GlobalAllocator.TheImpl.{ghosts};
-    ghost use Rattle.r10_ffi.specs.contracts.held.Held.{the_row};
+    ghost use Rattle.r10_ffi.specs.contracts.held.LentRecorder.{the_row};
     ghost use Rattle.r10_ends.specs.Owning.{owns_some};
 
     ghost also_owns = { λ h. owns_some (box_owns (ghosts.dealloc_token h.alloc) the_row h.at) h.held };
@@ -29,25 +29,25 @@ impl Model for Handle {
 
 impl Handle {
     /// Takes what it holds, and leaves none.
-    pub(crate) fn take(&mut self, alloc: Global) -> Box<Held>
+    pub(crate) fn take(&mut self, alloc: Global) -> Box<LentRecorder>
         requires { IsThere self.old.held }
         ensures taken { self.old.held ≡ Some result.value }
         ensures left { self.new.held ≡ None }
     {
         std::mem::replace(self, Handle::none(alloc))
-            .untied()
+            .into_loose()
             .into_box()
     }
 
     /// Holds this from now on.
-    pub(crate) fn put(&mut self, held: Box<Held>)
+    pub(crate) fn put(&mut self, held: Box<LentRecorder>)
         ensures { self.new.held ≡ Some held.entry.value }
     {
-        *self = Handle::tied(Loose::of(held));
+        *self = Handle::from_loose(Loose::of(held));
     }
 
     // The pointer and the right to it, from a loose box into a handle.
-    fn tied(loose: Loose<Held, Global>) -> Handle
+    fn from_loose(loose: Loose<LentRecorder, Global>) -> Handle
         ensures { result.held ≡ Some loose.entry.value }
     {
         let Loose { at, alloc } = loose;
@@ -58,13 +58,13 @@ impl Handle {
     }
 
     // The same, back.
-    fn untied(self) -> Loose<Held, Global>
+    fn into_loose(self) -> Loose<LentRecorder, Global>
         requires { IsThere self.held }
         ensures { self.held ≡ Some result.value }
     {
         let Handle { at, alloc } = self;
         Loose {
-            at: at as *mut Held,
+            at: at as *mut LentRecorder,
             alloc,
         }
     }

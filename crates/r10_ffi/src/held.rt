@@ -3,9 +3,10 @@
 use r10_calls::{Accepted, Desk};
 use r10_region::{Orders, Region};
 
-/// A recorder over memory that a caller lends, its readers, what its device has still to do, and how many messages of each channel were accepted.
+/// A recorder over memory that a caller lends, its readers, what its device has still to do, and how many messages of each channel
+/// were accepted.
 #[derive(Drop)]
-pub struct Held {
+pub struct LentRecorder {
     pub(crate) desk: Desk<Region>,
     pub(crate) orders: Orders,
     pub(crate) accepted: Vec<Accepted>,

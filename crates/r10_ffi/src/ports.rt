@@ -47,7 +47,8 @@ pub extern "C" fn r10_port_uart(
     sub: u16,
     bytes: &[u8],
 ) -> u32
-    ensures does { port.old.opened ≡ true → PortGoes port.old port.new (λ old new. OffersOrLacks old count (messages.Uart parity sub bytes.now) result new) }
+    ensures does { port.old.opened ≡ true
+        → PortGoes port.old port.new (λ old new. OffersOrLacks old count (messages.Uart parity sub bytes.now) result new) }
     ensures closed { port.old.opened ≡ false → (result ≡ 44) × (port.new ≡ port.old) }
 {
     port.offer_uart(alloc, count, parity, sub, bytes)
@@ -63,7 +64,8 @@ pub extern "C" fn r10_port_1553(
     gap: u16,
     words: &[u16],
 ) -> u32
-    ensures does { port.old.opened ≡ true → PortGoes port.old port.new (λ old new. OffersOrLacks old count (messages.Bus1553 status gap words.now) result new) }
+    ensures does { port.old.opened ≡ true
+        → PortGoes port.old port.new (λ old new. OffersOrLacks old count (messages.Bus1553 status gap words.now) result new) }
     ensures closed { port.old.opened ≡ false → (result ≡ 44) × (port.new ≡ port.old) }
 {
     port.offer_1553(alloc, count, status, gap, words)
@@ -81,7 +83,8 @@ pub extern "C" fn r10_port_arinc(
     high: bool,
     word: u32,
 ) -> u32
-    ensures does { port.old.opened ≡ true → PortGoes port.old port.new (λ old new. OffersByPort old count (messages.Arinc bus format parity high word) result new) }
+    ensures does { port.old.opened ≡ true
+        → PortGoes port.old port.new (λ old new. OffersByPort old count (messages.Arinc bus format parity high word) result new) }
     ensures closed { port.old.opened ≡ false → (result ≡ 44) × (port.new ≡ port.old) }
 {
     port.offer_arinc(alloc, count, bus, format, parity, high, word)
@@ -95,7 +98,8 @@ pub extern "C" fn r10_port_discrete(
     count: u64,
     states: u32,
 ) -> u32
-    ensures does { port.old.opened ≡ true → PortGoes port.old port.new (λ old new. OffersByPort old count (messages.Discrete states) result new) }
+    ensures does { port.old.opened ≡ true
+        → PortGoes port.old port.new (λ old new. OffersByPort old count (messages.Discrete states) result new) }
     ensures closed { port.old.opened ≡ false → (result ≡ 44) × (port.new ≡ port.old) }
 {
     port.offer_discrete(alloc, count, states)
@@ -112,7 +116,8 @@ pub extern "C" fn r10_port_message(
     sub: u16,
     bytes: &[u8],
 ) -> u32
-    ensures does { port.old.opened ≡ true → PortGoes port.old port.new (λ old new. OffersOrLacks old count (messages.Message data_error format sub bytes.now) result new) }
+    ensures does { port.old.opened ≡ true → PortGoes port.old port.new
+        (λ old new. OffersOrLacks old count (messages.Message data_error format sub bytes.now) result new) }
     ensures closed { port.old.opened ≡ false → (result ≡ 44) × (port.new ≡ port.old) }
 {
     port.offer_message(alloc, count, data_error, format, sub, bytes)
@@ -130,7 +135,8 @@ pub extern "C" fn r10_port_lost(alloc: Global, port: &mut PortEnd, count: u64) -
 /// How many messages the port accepted, and how many were lost. 0, or 44.
 #[unsafe(no_mangle)]
 pub extern "C" fn r10_port_state(alloc: Global, port: &mut PortEnd, out: &mut PortOut) -> u32
-    ensures does { port.old.opened ≡ true → PortGoes port.old port.new (λ old new. (result ≡ 0) × (new ≡ old) × (out.new ≡ port_out old)) }
+    ensures does { port.old.opened ≡ true
+        → PortGoes port.old port.new (λ old new. (result ≡ 0) × (new ≡ old) × (out.new ≡ port_out old)) }
     ensures closed { port.old.opened ≡ false → (result ≡ 44) × (port.new ≡ port.old) × (out.new ≡ out.old) }
 {
     port.state(alloc, out)
@@ -164,8 +170,10 @@ pub extern "C" fn r10_carry_one(
     outlet: &mut OutletEnd,
     carried: &mut bool,
 ) -> u32
-    ensures carries { IsOpen recorder.old → outlet.old.opened ≡ true → CarriesInto region_disk recorder.old outlet.old carried.new result recorder.new outlet.new }
-    ensures closed { IsClosed recorder.old ⊎ (outlet.old.opened ≡ false) → (result ≡ 44) × (recorder.new ≡ recorder.old) × (outlet.new ≡ outlet.old) × (carried.new ≡ carried.old) }
+    ensures carries { IsOpen recorder.old → outlet.old.opened ≡ true
+        → CarriesInto region_disk recorder.old outlet.old carried.new result recorder.new outlet.new }
+    ensures closed { IsClosed recorder.old ⊎ (outlet.old.opened ≡ false)
+        → (result ≡ 44) × (recorder.new ≡ recorder.old) × (outlet.new ≡ outlet.old) × (carried.new ≡ carried.old) }
 {
     if !recorder.is_open() || !outlet.is_open() {
         return CLOSED;
@@ -173,7 +181,7 @@ pub extern "C" fn r10_carry_one(
     let mut held = recorder.take(alloc);
     let inside = &mut *held;
     let carry = carry_one(alloc, outlet, &mut inside.desk);
-    count_accepted(&mut inside.accepted, carry.channel, carry.offered());
+    count_accepted(&mut inside.accepted, carry.channel, carry.offer_status());
     recorder.put(held);
     *carried = carry.carried;
     carry.number

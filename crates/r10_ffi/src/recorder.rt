@@ -3,7 +3,7 @@
 ghost use Rattle.std.specs.Prelude.{◌≡◌, is_some};
 
 use crate::handle::Handle;
-use crate::held::Held;
+use crate::held::LentRecorder;
 use std::alloc::Global;
 
 /// A recorder, or none where it is not open. A caller keeps it, zero at first, and never reads it.
@@ -27,7 +27,7 @@ impl Recorder {
 
     /// Takes what it holds, and leaves none.
     #[tactic(auto, using(r10_ends::proofs::There::there))]
-    pub(crate) fn take(&mut self, alloc: Global) -> Box<Held>
+    pub(crate) fn take(&mut self, alloc: Global) -> Box<LentRecorder>
         requires { self.old.opened ≡ true }
         ensures taken { self.old.handle.held ≡ Some result.value }
         ensures left { (self.new.handle.held ≡ None) × (self.new.opened ≡ false) }
@@ -37,7 +37,7 @@ impl Recorder {
     }
 
     /// Holds this from now on.
-    pub(crate) fn put(&mut self, held: Box<Held>)
+    pub(crate) fn put(&mut self, held: Box<LentRecorder>)
         ensures { (self.new.handle.held ≡ Some held.entry.value) × (self.new.opened ≡ true) }
     {
         self.handle.put(held);

@@ -7,15 +7,16 @@ ghost use Rattle.r10_calls.specs.Told.{DoesEvent, number_of};
 ghost use Rattle.r10_region.specs.RegionDisk.{region_disk};
 ghost use Rattle.r10_ffi.specs.Calls.{WritesHeld};
 
-use crate::held::Held;
+use crate::held::LentRecorder;
 use r10_count::Parts;
 use std::alloc::Global;
 
 const OUT_OF_MEMORY: u32 = 30;
 
-impl Held {
+impl LentRecorder {
     pub(crate) fn mount(&mut self, alloc: Global) -> u32
-        ensures { WritesHeld result self.old self.new (λ old new. DoesEvent region_disk old events.Mount (λ reply. result ≡ number_of reply) new) }
+        ensures { WritesHeld result self.old self.new
+            (λ old new. DoesEvent region_disk old events.Mount (λ reply. result ≡ number_of reply) new) }
     {
         if !self.orders.make_room(alloc) {
             return OUT_OF_MEMORY;
@@ -24,7 +25,8 @@ impl Held {
     }
 
     pub(crate) fn dismount(&mut self, alloc: Global) -> u32
-        ensures { WritesHeld result self.old self.new (λ old new. DoesEvent region_disk old events.Dismount (λ reply. result ≡ number_of reply) new) }
+        ensures { WritesHeld result self.old self.new
+            (λ old new. DoesEvent region_disk old events.Dismount (λ reply. result ≡ number_of reply) new) }
     {
         if !self.orders.make_room(alloc) {
             return OUT_OF_MEMORY;
@@ -33,7 +35,8 @@ impl Held {
     }
 
     pub(crate) fn tick(&mut self, alloc: Global, count: u64, parts: Parts) -> u32
-        ensures { WritesHeld result self.old self.new (λ old new. DoesEvent region_disk old (events.Tick count parts) (λ reply. result ≡ number_of reply) new) }
+        ensures { WritesHeld result self.old self.new
+            (λ old new. DoesEvent region_disk old (events.Tick count parts) (λ reply. result ≡ number_of reply) new) }
     {
         if !self.orders.make_room(alloc) {
             return OUT_OF_MEMORY;
@@ -42,7 +45,8 @@ impl Held {
     }
 
     pub(crate) fn start(&mut self, alloc: Global, name: &[u8], setup: &[u8]) -> u32
-        ensures { WritesHeld result self.old self.new (λ old new. DoesEvent region_disk old (events.Start name.now setup.now) (λ reply. result ≡ number_of reply) new) }
+        ensures { WritesHeld result self.old self.new
+            (λ old new. DoesEvent region_disk old (events.Start name.now setup.now) (λ reply. result ≡ number_of reply) new) }
     {
         if !self.orders.make_room(alloc) {
             return OUT_OF_MEMORY;
@@ -57,7 +61,8 @@ impl Held {
         most: usize,
         moved: &mut usize,
     ) -> u32
-        ensures { WritesHeld result self.old self.new (λ old new. DoesEvent region_disk old (events.Pump channel most) (λ reply. (result ≡ number_of reply) × (moved.new ≡ moved_in reply moved.old)) new) }
+        ensures { WritesHeld result self.old self.new (λ old new. DoesEvent region_disk old (events.Pump channel most)
+            (λ reply. (result ≡ number_of reply) × (moved.new ≡ moved_in reply moved.old)) new) }
     {
         if !self.orders.make_room(alloc) {
             return OUT_OF_MEMORY;
@@ -66,7 +71,8 @@ impl Held {
     }
 
     pub(crate) fn event(&mut self, alloc: Global, number: u16, count: u64) -> u32
-        ensures { WritesHeld result self.old self.new (λ old new. DoesEvent region_disk old (events.Event number count) (λ reply. result ≡ number_of reply) new) }
+        ensures { WritesHeld result self.old self.new
+            (λ old new. DoesEvent region_disk old (events.Event number count) (λ reply. result ≡ number_of reply) new) }
     {
         if !self.orders.make_room(alloc) {
             return OUT_OF_MEMORY;
@@ -75,7 +81,8 @@ impl Held {
     }
 
     pub(crate) fn commit(&mut self, alloc: Global) -> u32
-        ensures { WritesHeld result self.old self.new (λ old new. DoesEvent region_disk old events.Commit (λ reply. result ≡ number_of reply) new) }
+        ensures { WritesHeld result self.old self.new
+            (λ old new. DoesEvent region_disk old events.Commit (λ reply. result ≡ number_of reply) new) }
     {
         if !self.orders.make_room(alloc) {
             return OUT_OF_MEMORY;
@@ -84,7 +91,9 @@ impl Held {
     }
 
     pub(crate) fn stop(&mut self, alloc: Global, taken: &mut usize, left: &mut usize) -> u32
-        ensures { WritesHeld result self.old self.new (λ old new. DoesEvent region_disk old events.Stop (λ reply. (result ≡ number_of reply) × (taken.new ≡ taken_out reply taken.old) × (left.new ≡ left_out reply left.old)) new) }
+        ensures { WritesHeld result self.old self.new
+            (λ old new. DoesEvent region_disk old events.Stop (λ reply. (result ≡ number_of reply)
+            × (taken.new ≡ taken_out reply taken.old) × (left.new ≡ left_out reply left.old)) new) }
     {
         if !self.orders.make_room(alloc) {
             return OUT_OF_MEMORY;
@@ -93,7 +102,8 @@ impl Held {
     }
 
     pub(crate) fn seal(&mut self, alloc: Global) -> u32
-        ensures { WritesHeld result self.old self.new (λ old new. DoesEvent region_disk old events.Seal (λ reply. result ≡ number_of reply) new) }
+        ensures { WritesHeld result self.old self.new
+            (λ old new. DoesEvent region_disk old events.Seal (λ reply. result ≡ number_of reply) new) }
     {
         if !self.orders.make_room(alloc) {
             return OUT_OF_MEMORY;
@@ -102,7 +112,8 @@ impl Held {
     }
 
     pub(crate) fn erase(&mut self, alloc: Global) -> u32
-        ensures { WritesHeld result self.old self.new (λ old new. DoesEvent region_disk old events.Erase (λ reply. result ≡ number_of reply) new) }
+        ensures { WritesHeld result self.old self.new
+            (λ old new. DoesEvent region_disk old events.Erase (λ reply. result ≡ number_of reply) new) }
     {
         if !self.orders.make_room(alloc) {
             return OUT_OF_MEMORY;

@@ -5,7 +5,8 @@ ghost use Rattle.std.specs.HashMap.{get, spare};
 ghost use Rattle.r10_body.specs.Content.{type_of};
 ghost use Rattle.r10_body.specs.Files.{on_channel};
 ghost use Rattle.r10_body.specs.Packets.{Packet, packet_entries, file_entries};
-ghost use Rattle.r10_body.specs.Rules.{EachFollows, KeepsChannels, KeepsSequence, KeepsCounts, is_setup_packet, is_time, is_event, is_index, is_report_packet};
+ghost use Rattle.r10_body.specs.Rules.{EachFollows, KeepsChannels, KeepsSequence, KeepsCounts, is_setup_packet};
+ghost use Rattle.r10_body.specs.Rules.{is_time, is_event, is_index, is_report_packet};
 ghost use Rattle.r10_body.specs.declared.gap.Gap.TheVariants.{Whole};
 ghost use Rattle.r10_packet_rules.specs.Facts.{AreFactsOf};
 ghost use Rattle.r10_body.specs.Sequence.{next_sequence, last_count};
@@ -62,16 +63,18 @@ impl ChannelTracks {
     /// Adds a packet.
     pub(crate) fn add(&mut self, facts: &Facts)
         requires { 0 < spare self.old.known }
-        ensures { (packets : List Packet) (p : Packet) → AreKept self.old.known packets → AreFactsOf facts.now p → KeepsChannels packets p → AreKept self.new.known (packets ++ p ∷ []) }
+        ensures { (packets : List Packet) (p : Packet) → AreKept self.old.known packets → AreFactsOf facts.now p
+            → KeepsChannels packets p → AreKept self.new.known (packets ++ p ∷ []) }
     {
-        let track = grown(self.find(facts.channel), facts);
+        let track = track_with(self.find(facts.channel), facts);
         let _ = self.known.insert(facts.channel, track);
     }
 }
 
 /// What is kept of a packet's channel, with the packet.
-fn grown(track: Option<ChannelTrack>, facts: &Facts) -> ChannelTrack
-    ensures { (packets : List Packet) (p : Packet) → IsKeptOfChannel packets facts.now.channel track → AreFactsOf facts.now p → KeepsChannels packets p → IsKeptOfChannel (packets ++ p ∷ []) facts.now.channel (Some result) }
+fn track_with(track: Option<ChannelTrack>, facts: &Facts) -> ChannelTrack
+    ensures { (packets : List Packet) (p : Packet) → IsKeptOfChannel packets facts.now.channel track → AreFactsOf facts.now p
+        → KeepsChannels packets p → IsKeptOfChannel (packets ++ p ∷ []) facts.now.channel (Some result) }
 {
     ChannelTrack {
         data_type: facts.data_type,
@@ -82,7 +85,8 @@ fn grown(track: Option<ChannelTrack>, facts: &Facts) -> ChannelTrack
 
 /// The count of a channel's last entry with a packet more, or 0.
 fn last_with(track: Option<ChannelTrack>, facts: &Facts) -> u64
-    ensures { (packets : List Packet) (p : Packet) → IsKeptOfChannel packets facts.now.channel track → AreFactsOf facts.now p → result ≡ last_count 0 (on_channel p.channel (file_entries packets) ++ packet_entries p) }
+    ensures { (packets : List Packet) (p : Packet) → IsKeptOfChannel packets facts.now.channel track → AreFactsOf facts.now p
+        → result ≡ last_count 0 (on_channel p.channel (file_entries packets) ++ packet_entries p) }
 {
     match facts.counts {
         Some(counts) => counts.last.get(),
@@ -92,7 +96,8 @@ fn last_with(track: Option<ChannelTrack>, facts: &Facts) -> u64
 
 /// The count of a channel's last entry, or 0.
 fn last_of(track: Option<ChannelTrack>) -> u64
-    ensures { (packets : List Packet) (channel : ℕ) → IsKeptOfChannel packets channel track → result ≡ last_count 0 (on_channel channel (file_entries packets)) }
+    ensures { (packets : List Packet) (channel : ℕ) → IsKeptOfChannel packets channel track
+        → result ≡ last_count 0 (on_channel channel (file_entries packets)) }
 {
     match track {
         Some(track) => track.last,
@@ -102,7 +107,8 @@ fn last_of(track: Option<ChannelTrack>) -> u64
 
 /// The sequence number of a channel's next packet.
 pub(crate) fn next_of(track: Option<ChannelTrack>) -> u8
-    ensures { (packets : List Packet) (channel : ℕ) → IsKeptOfChannel packets channel track → result ≡ next_sequence channel packets }
+    ensures { (packets : List Packet) (channel : ℕ) → IsKeptOfChannel packets channel track
+        → result ≡ next_sequence channel packets }
 {
     match track {
         Some(track) => track.sequence,
@@ -112,7 +118,8 @@ pub(crate) fn next_of(track: Option<ChannelTrack>) -> u8
 
 /// Rule 5: whether a packet may be on its channel.
 pub(crate) fn keeps_channels(track: Option<ChannelTrack>, facts: &Facts) -> bool
-    ensures { (packets : List Packet) (p : Packet) → IsKeptOfChannel packets facts.now.channel track → AreFactsOf facts.now p → (IsTrue result ↔ KeepsChannels packets p) }
+    ensures { (packets : List Packet) (p : Packet) → IsKeptOfChannel packets facts.now.channel track → AreFactsOf facts.now p
+        → (IsTrue result ↔ KeepsChannels packets p) }
 {
     is_at_home(facts) && suits_channel(track, facts)
 }
@@ -120,14 +127,16 @@ pub(crate) fn keeps_channels(track: Option<ChannelTrack>, facts: &Facts) -> bool
 /// Whether a packet has the data type of its channel, and a flag only if it has data.
 fn suits_channel(track: Option<ChannelTrack>, facts: &Facts) -> bool
     ensures { (packets : List Packet) (p : Packet) → IsKeptOfChannel packets facts.now.channel track → AreFactsOf facts.now p
-        → (IsTrue result ↔ ((0 < p.channel → HaveType p.channel (type_of p.content) packets) × (IsTrue (is_setup_packet p || is_time p || is_event p || is_index p || is_report_packet p) → p.gap ≡ Whole))) }
+        → (IsTrue result ↔ ((0 < p.channel → HaveType p.channel (type_of p.content) packets)
+        × (IsTrue (is_setup_packet p || is_time p || is_event p || is_index p || is_report_packet p) → p.gap ≡ Whole))) }
 {
     keeps_type(track, facts) && may_have_flag(facts)
 }
 
 /// Whether channel 0 has the packet exactly where it is a setup or an index packet or a loss report.
 fn is_at_home(facts: &Facts) -> bool
-    ensures { (p : Packet) → AreFactsOf facts.now p → (IsTrue result ↔ (IsTrue (is_setup_packet p || is_index p || is_report_packet p) ↔ (p.channel ≡ 0))) }
+    ensures { (p : Packet) → AreFactsOf facts.now p
+        → (IsTrue result ↔ (IsTrue (is_setup_packet p || is_index p || is_report_packet p) ↔ (p.channel ≡ 0))) }
 {
     if is_setup_kind(&facts.kind) || is_index_kind(&facts.kind) || is_report_kind(&facts.kind) {
         facts.channel == 0
@@ -138,7 +147,8 @@ fn is_at_home(facts: &Facts) -> bool
 
 /// Whether a packet has the data type of its channel, where the channel has one.
 fn keeps_type(track: Option<ChannelTrack>, facts: &Facts) -> bool
-    ensures { (packets : List Packet) (p : Packet) → IsKeptOfChannel packets facts.now.channel track → AreFactsOf facts.now p → (IsTrue result ↔ (0 < p.channel → HaveType p.channel (type_of p.content) packets)) }
+    ensures { (packets : List Packet) (p : Packet) → IsKeptOfChannel packets facts.now.channel track → AreFactsOf facts.now p
+        → (IsTrue result ↔ (0 < p.channel → HaveType p.channel (type_of p.content) packets)) }
 {
     match track {
         Some(track) => facts.channel == 0 || track.data_type == facts.data_type,
@@ -148,7 +158,8 @@ fn keeps_type(track: Option<ChannelTrack>, facts: &Facts) -> bool
 
 /// Whether only a packet of data is flagged.
 fn may_have_flag(facts: &Facts) -> bool
-    ensures { (p : Packet) → AreFactsOf facts.now p → (IsTrue result ↔ (IsTrue (is_setup_packet p || is_time p || is_event p || is_index p || is_report_packet p) → p.gap ≡ Whole)) }
+    ensures { (p : Packet) → AreFactsOf facts.now p → (IsTrue result
+        ↔ (IsTrue (is_setup_packet p || is_time p || is_event p || is_index p || is_report_packet p) → p.gap ≡ Whole)) }
 {
     if is_data_kind(&facts.kind) {
         true
@@ -159,14 +170,16 @@ fn may_have_flag(facts: &Facts) -> bool
 
 /// Rule 6: whether a packet has its channel's next sequence number.
 pub(crate) fn keeps_sequence(track: Option<ChannelTrack>, facts: &Facts) -> bool
-    ensures { (packets : List Packet) (p : Packet) → IsKeptOfChannel packets facts.now.channel track → AreFactsOf facts.now p → (IsTrue result ↔ KeepsSequence packets p) }
+    ensures { (packets : List Packet) (p : Packet) → IsKeptOfChannel packets facts.now.channel track → AreFactsOf facts.now p
+        → (IsTrue result ↔ KeepsSequence packets p) }
 {
     facts.sequence == next_of(track)
 }
 
 /// Rule 7: whether a packet's counts go on from those of its channel.
 pub(crate) fn keeps_counts(track: Option<ChannelTrack>, facts: &Facts) -> bool
-    ensures { (packets : List Packet) (p : Packet) → IsKeptOfChannel packets facts.now.channel track → EachFollows [] packets → AreFactsOf facts.now p → (IsTrue result ↔ KeepsCounts packets p) }
+    ensures { (packets : List Packet) (p : Packet) → IsKeptOfChannel packets facts.now.channel track → EachFollows [] packets
+        → AreFactsOf facts.now p → (IsTrue result ↔ KeepsCounts packets p) }
 {
     match facts.counts {
         Some(counts) => goes_on(last_of(track), facts.counter, counts),
@@ -176,7 +189,8 @@ pub(crate) fn keeps_counts(track: Option<ChannelTrack>, facts: &Facts) -> bool
 
 /// Whether counts rise from a count on, begin at their packet's counter, and end within a tenth of a second.
 fn goes_on(last: u64, counter: Count, counts: Spread) -> bool
-    ensures { IsTrue result ↔ ((counter ≡ counts.first) × (last ≤ counts.first) × IsTrue counts.rise × (counts.greatest ≤ counter + 1000000)) }
+    ensures { IsTrue result
+        ↔ ((counter ≡ counts.first) × (last ≤ counts.first) × IsTrue counts.rise × (counts.greatest ≤ counter + 1000000)) }
 {
     let first = counts.first.get();
     counter.get() == first

@@ -1,6 +1,7 @@
 //! What is kept of a file's index, and the rule of index packets.
 
-ghost use Rattle.std.specs.Prelude.{◌≡◌, ◌+◌, ◌-◌, ◌*◌, ◌^◌, ◌<◌, ◌≤◌, ◌↔◌, ◌⊎◌, ◌==◌, ◌∷◌, [], ◌++◌, true, false, cond, List, Some, length, min, count_by, IsTrue, MatchOption, OnOk};
+ghost use Rattle.std.specs.Prelude.{◌≡◌, ◌+◌, ◌-◌, ◌*◌, ◌^◌, ◌<◌, ◌≤◌, ◌↔◌, ◌⊎◌, ◌==◌, ◌∷◌, [], ◌++◌, true, false, cond, List};
+ghost use Rattle.std.specs.Prelude.{Some, length, min, count_by, IsTrue, MatchOption, OnOk};
 ghost use Rattle.r10_count.specs.Count.{IsCount};
 ghost use Rattle.r10_body.specs.Limits.{entries_per_node, full_node};
 ghost use Rattle.r10_body.specs.Packets.{Packet, FitsPacket, packet_body, packet_entries, file_bytes};
@@ -96,7 +97,8 @@ impl IndexTracks {
     /// nodes and the roots have the counter of the last time.
     pub(crate) fn keeps_index(&self, time: u64, facts: &Facts, body: &[u8]) -> bool
         requires { IsCount time }
-        ensures { (packets : List Packet) (p : Packet) → IsIndexed self.now packets → EachFollows [] packets → length (file_bytes packets) < 2 ^ 63 → time ≡ last_time 0 packets
+        ensures { (packets : List Packet) (p : Packet) → IsIndexed self.now packets
+            → EachFollows [] packets → length (file_bytes packets) < 2 ^ 63 → time ≡ last_time 0 packets
             → AreFactsOf facts.now p → FitsPacket p → body.now ≡ packet_body p → (IsTrue result ↔ KeepsIndex packets p) }
     {
         match facts.kind {
@@ -158,7 +160,8 @@ impl IndexTracks {
     /// Adds a packet.
     pub(crate) fn add(&mut self, facts: &Facts)
         requires { length self.old.book.entries < self.old.book.room }
-        ensures { (packets : List Packet) (p : Packet) → IsIndexed self.old packets → AreFactsOf facts.now p → MayFollow packets p → length (file_bytes (packets ++ p ∷ [])) < 2 ^ 63 → IsIndexed self.new (packets ++ p ∷ []) }
+        ensures { (packets : List Packet) (p : Packet) → IsIndexed self.old packets → AreFactsOf facts.now p → MayFollow packets p
+            → length (file_bytes (packets ++ p ∷ [])) < 2 ^ 63 → IsIndexed self.new (packets ++ p ∷ []) }
     {
         let size = facts.length as u64;
         let offset = self.bytes;
@@ -173,11 +176,13 @@ impl IndexTracks {
     /// Adds a node at an offset.
     fn add_node(&mut self, offset: u64)
         ensures start { self.new.start ≡ cond (self.old.pending == 0) offset self.old.start }
-        ensures group { MatchOption self.old.root (self.new.group ≡ min (self.old.group + 1) (2 ^ 64 - 1)) (λ _. self.new.group ≡ self.old.group) }
+        ensures group { MatchOption self.old.root (self.new.group ≡ min (self.old.group + 1) (2 ^ 64 - 1))
+            (λ _. self.new.group ≡ self.old.group) }
         ensures pending { self.new.pending ≡ min (self.old.pending + 1) (2 ^ 64 - 1) }
         ensures nodes { self.new.nodes ≡ min (self.old.nodes + 1) (2 ^ 64 - 1) }
         ensures closed { self.new.closed ≡ false }
-        ensures same { (self.new.book ≡ self.old.book) × (self.new.end ≡ self.old.end) × (self.new.bytes ≡ self.old.bytes) × (self.new.root ≡ self.old.root) }
+        ensures same { (self.new.book ≡ self.old.book) × (self.new.end ≡ self.old.end) × (self.new.bytes ≡ self.old.bytes)
+            × (self.new.root ≡ self.old.root) }
     {
         self.start = first_start(self.pending, self.start, offset);
         self.group = first_group(self.root, self.group);
@@ -198,10 +203,19 @@ impl IndexTracks {
     /// Adds what a node says of a packet, and how many entries it has.
     fn name(&mut self, facts: &Facts, size: u64)
         requires { length self.old.book.entries < self.old.book.room }
-        ensures named { self.new.book.entries ≡ self.old.book.entries ++ record { counter = facts.now.counter; data_type = facts.now.data_type; channel = facts.now.channel; offset = self.old.end } ∷ [] }
-        ensures counted { (packets : List Packet) (p : Packet) → IsBookOf self.old.book packets
-            → record { counter = facts.now.counter; data_type = facts.now.data_type; channel = facts.now.channel; offset = self.old.end } ≡ node_entry_of (length (file_bytes packets)) p
-            → facts.now.entries ≡ length (packet_entries p) → CountsEntriesUpTo self.new.book.counted (packets ++ p ∷ []) }
+        ensures named { self.new.book.entries ≡ self.old.book.entries ++ record {
+          counter = facts.now.counter;
+          data_type = facts.now.data_type;
+          channel = facts.now.channel;
+          offset = self.old.end;
+        } ∷ [] }
+        ensures counted { (packets : List Packet) (p : Packet) → IsBookOf self.old.book packets → record {
+          counter = facts.now.counter;
+          data_type = facts.now.data_type;
+          channel = facts.now.channel;
+          offset = self.old.end;
+        } ≡ node_entry_of (length (file_bytes packets)) p → facts.now.entries ≡ length (packet_entries p)
+            → CountsEntriesUpTo self.new.book.counted (packets ++ p ∷ []) }
         ensures end { self.new.end ≡ min (self.old.end + size) (2 ^ 64 - 1) }
         ensures same { self.new ≡ record self.old { book = self.new.book; end = self.new.end } }
     {

@@ -135,8 +135,8 @@ fn are_roots(bytes: &[u8], at: NodesAt, counter: u64, offset: u64) -> bool
     requires nodes { IsCount at.counter }
     requires own { IsCount counter }
     requires few { at.nodes < 65535 }
-    ensures { at.end + full_node * at.nodes < 2 ^ 64
-        → (IsTrue result ↔ (bytes.now ≡ flat_map root_entry (names at.counter at.end at.nodes) ++ root_entry (root_at counter offset))) }
+    ensures { at.end + full_node * at.nodes < 2 ^ 64 → (IsTrue result
+        ↔ (bytes.now ≡ flat_map root_entry (names at.counter at.end at.nodes) ++ root_entry (root_at counter offset))) }
 {
     match behind_nodes(bytes, at.counter, at.end, at.nodes) {
         Some(rest) => is_own(rest, counter, offset),

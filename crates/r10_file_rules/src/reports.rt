@@ -9,7 +9,7 @@ use r10_indexbody::LossBody;
 use r10_packet_rules::PacketKind;
 
 /// What a packet reports, if it is a report.
-pub(crate) fn reported(kind: &PacketKind) -> Option<LossBody>
+pub(crate) fn report_in(kind: &PacketKind) -> Option<LossBody>
     ensures { (p : Packet) → kind.now ≡ kind_of p.content → result ≡ report_of p }
 {
     match *kind {
@@ -22,7 +22,7 @@ pub(crate) fn reported(kind: &PacketKind) -> Option<LossBody>
 pub(crate) fn keeps_report(kind: &PacketKind) -> bool
     ensures { (p : Packet) → kind.now ≡ kind_of p.content → (IsTrue result ↔ IfSome (report_of p) IsSoundReport) }
 {
-    is_sound(reported(kind))
+    is_sound(report_in(kind))
 }
 
 fn is_sound(report: Option<LossBody>) -> bool

@@ -56,7 +56,8 @@ impl TimeTracks {
 
     /// Rule 4: whether the first packet alone is a setup packet, and the second a time packet.
     pub(crate) fn keeps_start(&self, facts: &Facts) -> bool
-        ensures { (packets : List Packet) (p : Packet) → AreTimes self.now packets → AreFactsOf facts.now p → (IsTrue result ↔ KeepsStart packets p) }
+        ensures { (packets : List Packet) (p : Packet) → AreTimes self.now packets → AreFactsOf facts.now p
+            → (IsTrue result ↔ KeepsStart packets p) }
     {
         match self.packets {
             0 => is_setup_kind(&facts.kind),
@@ -68,14 +69,16 @@ impl TimeTracks {
     /// Rule 9: whether the first time has the counter of the setup packet, and an index packet or a
     /// loss report that of the last time.
     pub(crate) fn keeps_counters(&self, facts: &Facts) -> bool
-        ensures { (packets : List Packet) (p : Packet) → AreTimes self.now packets → AreFactsOf facts.now p → (IsTrue result ↔ KeepsCounters packets p) }
+        ensures { (packets : List Packet) (p : Packet) → AreTimes self.now packets → AreFactsOf facts.now p
+            → (IsTrue result ↔ KeepsCounters packets p) }
     {
         self.is_setup_counter(facts) && self.is_last_counter(facts)
     }
 
     /// Whether the second packet has the counter of the first.
     fn is_setup_counter(&self, facts: &Facts) -> bool
-        ensures { (packets : List Packet) (p : Packet) → AreTimes self.now packets → AreFactsOf facts.now p → (IsTrue result ↔ (length packets ≡ 1 → AllByRecursion (λ q. q.counter ≡ p.counter) packets)) }
+        ensures { (packets : List Packet) (p : Packet) → AreTimes self.now packets → AreFactsOf facts.now p
+            → (IsTrue result ↔ (length packets ≡ 1 → AllByRecursion (λ q. q.counter ≡ p.counter) packets)) }
     {
         if self.packets == 1 {
             self.first == facts.counter.get()
@@ -86,7 +89,8 @@ impl TimeTracks {
 
     /// Whether an index packet or a loss report has the counter of the last time.
     fn is_last_counter(&self, facts: &Facts) -> bool
-        ensures { (packets : List Packet) (p : Packet) → AreTimes self.now packets → AreFactsOf facts.now p → (IsTrue result ↔ (IsTrue (is_index p || is_report_packet p) → p.counter ≡ last_time 0 packets)) }
+        ensures { (packets : List Packet) (p : Packet) → AreTimes self.now packets → AreFactsOf facts.now p
+            → (IsTrue result ↔ (IsTrue (is_index p || is_report_packet p) → p.counter ≡ last_time 0 packets)) }
     {
         if is_index_kind(&facts.kind) || is_report_kind(&facts.kind) {
             facts.counter.get() == self.counter()
@@ -97,7 +101,8 @@ impl TimeTracks {
 
     /// Adds a packet.
     pub(crate) fn add(&mut self, facts: &Facts)
-        ensures { (packets : List Packet) (p : Packet) → AreTimes self.old packets → AreFactsOf facts.now p → length (file_bytes (packets ++ p ∷ [])) < 2 ^ 63 → AreTimes self.new (packets ++ p ∷ []) }
+        ensures { (packets : List Packet) (p : Packet) → AreTimes self.old packets → AreFactsOf facts.now p
+            → length (file_bytes (packets ++ p ∷ [])) < 2 ^ 63 → AreTimes self.new (packets ++ p ∷ []) }
     {
         *self = TimeTracks {
             packets: self.packets.saturating_add(1),
@@ -108,7 +113,8 @@ impl TimeTracks {
 
     /// The counter of the first packet, with a packet more.
     fn first_with(&self, facts: &Facts) -> u64
-        ensures { (packets : List Packet) (p : Packet) → AreTimes self.now packets → AreFactsOf facts.now p → AllByRecursion (λ q. q.counter ≡ result) (take 1 (packets ++ p ∷ [])) }
+        ensures { (packets : List Packet) (p : Packet) → AreTimes self.now packets → AreFactsOf facts.now p
+            → AllByRecursion (λ q. q.counter ≡ result) (take 1 (packets ++ p ∷ [])) }
     {
         if self.packets == 0 {
             facts.counter.get()
@@ -119,7 +125,8 @@ impl TimeTracks {
 
     /// The last time, with a packet more.
     fn last_with(&self, facts: &Facts) -> Option<TimeMark>
-        ensures { (packets : List Packet) (p : Packet) → self.now.last ≡ last_mark None packets → AreFactsOf facts.now p → result ≡ last_mark None (packets ++ p ∷ []) }
+        ensures { (packets : List Packet) (p : Packet) → self.now.last ≡ last_mark None packets → AreFactsOf facts.now p
+            → result ≡ last_mark None (packets ++ p ∷ []) }
     {
         match facts.kind {
             PacketKind::Time { civil } => Some(TimeMark {

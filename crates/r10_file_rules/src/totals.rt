@@ -30,7 +30,8 @@ impl Totals {
 
     /// Adds a packet that may come next behind what the last one reports.
     pub(crate) fn add(&mut self, facts: &Facts, report: Option<LossBody>)
-        ensures { (packets : List Packet) (p : Packet) → AreTotals self.old packets → AreFactsOf facts.now p → MayFollow packets p → report ≡ last_report packets → AreTotals self.new (packets ++ p ∷ []) }
+        ensures { (packets : List Packet) (p : Packet) → AreTotals self.old packets → AreFactsOf facts.now p → MayFollow packets p
+            → report ≡ last_report packets → AreTotals self.new (packets ++ p ∷ []) }
     {
         *self = Totals {
             entries: self.entries.saturating_add(facts.entries as u64),

@@ -24,9 +24,9 @@ fn counts_and_times_are_printed(rt: HostRuntime) -> Result<(), Fail> {
 #[test]
 fn a_list_is_copied(rt: HostRuntime) -> Result<(), Fail> {
     let items = Items::of(vec![in rt.alloc(); 1u8, 2, 3]?);
-    assert!(rt; items.copied(rt.alloc())? == items);
+    assert!(rt; items.duplicate(rt.alloc())? == items);
     let long = Bytes::of(vec![in rt.alloc(); 7u8; 40]?);
-    assert!(rt; long.copied(rt.alloc())? == long);
+    assert!(rt; long.duplicate(rt.alloc())? == long);
     Ok(())
 }
 

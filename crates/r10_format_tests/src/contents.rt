@@ -58,7 +58,7 @@ fn is_copied(alloc: Global, count: Count, message: Message) -> Result<bool, Allo
     let gap = Gap::Lost(3);
     let sample = Sample {
         count,
-        message: message.copied(alloc)?,
+        message: message.duplicate(alloc)?,
         gap,
     };
     let entry = Entry {
@@ -67,8 +67,8 @@ fn is_copied(alloc: Global, count: Count, message: Message) -> Result<bool, Allo
         message,
         gap,
     };
-    let again = sample.copied(alloc)?;
-    Ok(entry.copied(alloc)? == entry && again == sample && again.message == entry.message)
+    let again = sample.duplicate(alloc)?;
+    Ok(entry.duplicate(alloc)? == entry && again == sample && again.message == entry.message)
 }
 
 #[test]

@@ -26,8 +26,8 @@ fn leap_day(rt: &impl Abort) -> Civil {
 }
 
 fn file(n: u16, time: Civil) -> Entry {
-    Entry::begun(b"F", 65 + u64::from(n), time)
-        .sized(196)
+    Entry::of_new_file(b"F", 65 + u64::from(n), time)
+        .with_size(196)
         .closed_at(time)
 }
 

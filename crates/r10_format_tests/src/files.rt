@@ -4,7 +4,7 @@ use r10_blockout::ReadFault;
 use r10_body::FileFault;
 use r10_judge::{Extent, Judgement, judge_file, walk_file};
 use r10_medium::{BlockMedium, Faulty, Memory};
-use r10_packet_rules::Fault;
+use r10_packet_rules::FirstFault;
 use std::alloc::{AllocError, Global};
 use std::process::Abort;
 use std::test::Fail;
@@ -23,7 +23,7 @@ fn judge<M: BlockMedium>(
     medium: &mut M,
     size: usize,
     closed: bool,
-) -> Result<Result<u64, Fault>, ReadFault> {
+) -> Result<Result<u64, FirstFault>, ReadFault> {
     let mut buffer = Vec::new(alloc);
     assert!(rt; size <= 512);
     assert!(rt; 2 <= medium.blocks());
@@ -42,11 +42,11 @@ fn judge<M: BlockMedium>(
 
 #[test]
 fn files_are_judged_where_they_stand(rt: HostRuntime) -> Result<(), Fail> {
-    let missing = Fault {
+    let missing = FirstFault {
         offset: 212,
         fault: FileFault::Rule(8),
     };
-    let cut = Fault {
+    let cut = FirstFault {
         offset: 212,
         fault: FileFault::Truncated,
     };

@@ -7,7 +7,7 @@ use r10_cursor::{Cursor, ReadRefusal, Reader, read_packet};
 use r10_dirblock::{DirBlock, Entries, Entry, encode, pad};
 use r10_dirchain::{Directory, read_chain};
 use r10_medium::{BlockMedium, Memory};
-use r10_packet_rules::Fault;
+use r10_packet_rules::FirstFault;
 use std::alloc::{AllocError, Global};
 use std::process::Abort;
 use std::test::Fail;
@@ -28,7 +28,7 @@ fn time_of(rt: &impl Abort, centi: u16) -> Civil {
 // a directory in block 1 that lists a recording of so many bytes in block 2, closed or not
 fn listing(rt: &impl Abort, size: u64, closed: bool) -> DirBlock {
     let time = time_of(rt, 78);
-    let open = Entry::begun(b"F", 2, time).sized(size);
+    let open = Entry::of_new_file(b"F", 2, time).with_size(size);
     let entry = if closed { open.closed_at(time) } else { open };
     let mut entries = Entries::new();
     entries.push(entry);
@@ -42,7 +42,7 @@ fn listing(rt: &impl Abort, size: u64, closed: bool) -> DirBlock {
 }
 
 // a medium with this directory and the recording
-fn recorded(
+fn recorded_image(
     rt: &impl Abort,
     alloc: Global,
     bytes: &[u8],
@@ -65,7 +65,7 @@ fn recorded(
 
 #[test]
 fn a_message_is_found_by_the_number_of_its_file(rt: HostRuntime) -> Result<(), Fail> {
-    let (mut medium, directory) = recorded(&rt, rt.alloc(), &FIRST, true)?;
+    let (mut medium, directory) = recorded_image(&rt, rt.alloc(), &FIRST, true)?;
     let mut reader = Reader::new(rt.alloc());
     let count = Count::of(1001).ok_or("no count")?;
     assert!(rt; medium.blocks() == 3);
@@ -80,7 +80,7 @@ fn a_message_is_found_by_the_number_of_its_file(rt: HostRuntime) -> Result<(), F
 
 #[test]
 fn a_message_tells_how_many_were_lost_before_it(rt: HostRuntime) -> Result<(), Fail> {
-    let (mut medium, directory) = recorded(&rt, rt.alloc(), &with_loss(), false)?;
+    let (mut medium, directory) = recorded_image(&rt, rt.alloc(), &with_loss(), false)?;
     let mut reader = Reader::new(rt.alloc());
     let count = Count::of(1011).ok_or("no count")?;
     assert!(rt; medium.blocks() == 3);
@@ -95,7 +95,7 @@ fn a_message_tells_how_many_were_lost_before_it(rt: HostRuntime) -> Result<(), F
 
 #[test]
 fn a_file_is_checked_under_its_entry(rt: HostRuntime) -> Result<(), Fail> {
-    let bad = ReadRefusal::BadFile(Fault {
+    let bad = ReadRefusal::BadFile(FirstFault {
         offset: 124,
         fault: FileFault::Rule(8),
     });
@@ -105,7 +105,7 @@ fn a_file_is_checked_under_its_entry(rt: HostRuntime) -> Result<(), Fail> {
         (false, 0, Err(bad)),
         (true, 1, Err(missing)),
     ] {
-        let (mut medium, directory) = recorded(&rt, rt.alloc(), &FIRST, closed)?;
+        let (mut medium, directory) = recorded_image(&rt, rt.alloc(), &FIRST, closed)?;
         let mut reader = Reader::new(rt.alloc());
         reader.clear();
         assert!(rt; medium.blocks() == 3);
@@ -119,7 +119,7 @@ fn a_file_is_checked_under_its_entry(rt: HostRuntime) -> Result<(), Fail> {
 
 #[test]
 fn a_count_is_told_by_a_time_of_the_file(rt: HostRuntime) -> Result<(), Fail> {
-    let (mut medium, directory) = recorded(&rt, rt.alloc(), &FIRST, true)?;
+    let (mut medium, directory) = recorded_image(&rt, rt.alloc(), &FIRST, true)?;
     let mut reader = Reader::new(rt.alloc());
     let civil = time_of(&rt, 80);
     assert!(rt; medium.blocks() == 3);
@@ -133,7 +133,7 @@ fn a_count_is_told_by_a_time_of_the_file(rt: HostRuntime) -> Result<(), Fail> {
 
 #[test]
 fn an_instalment_is_taken_once(rt: HostRuntime) -> Result<(), Fail> {
-    let (mut medium, directory) = recorded(&rt, rt.alloc(), &FIRST, true)?;
+    let (mut medium, directory) = recorded_image(&rt, rt.alloc(), &FIRST, true)?;
     let mut reader = Reader::new(rt.alloc());
     let from = Count::of(1001).ok_or("no count")?;
     let to = Count::of(1010).ok_or("no count")?;
@@ -141,7 +141,7 @@ fn an_instalment_is_taken_once(rt: HostRuntime) -> Result<(), Fail> {
     let mut cursor = Cursor::new(rt.alloc(), 0, 7, channels, from, to);
     assert!(rt; medium.blocks() == 3);
     let first = reader.advance(rt.alloc(), &mut medium, &directory, None, &mut cursor);
-    let left = cursor.left();
+    let left = cursor.queue_len();
     let given = cursor.next().map(|entry| entry.count.get());
     assert!(rt; medium.blocks() == 3);
     let second = reader.advance(rt.alloc(), &mut medium, &directory, None, &mut cursor);
@@ -154,7 +154,7 @@ fn an_instalment_is_taken_once(rt: HostRuntime) -> Result<(), Fail> {
 }
 
 // a medium that has the recording from block 0 on
-fn unlisted(alloc: Global) -> Result<Memory, AllocError> {
+fn unlisted_medium(alloc: Global) -> Result<Memory, AllocError> {
     let mut block = [0; 512];
     block[..272].copy_from_slice(&FIRST);
     Memory::of_image(alloc, &block)
@@ -162,7 +162,7 @@ fn unlisted(alloc: Global) -> Result<Memory, AllocError> {
 
 #[test]
 fn a_packet_is_read(rt: HostRuntime) -> Result<(), Fail> {
-    let mut medium = unlisted(rt.alloc())?;
+    let mut medium = unlisted_medium(rt.alloc())?;
     let mut buffer = Vec::new(rt.alloc());
     let counts = match read_packet(rt.alloc(), &mut medium, 0, 68, None, &mut buffer) {
         Ok(entries) => [0, 1, 2].map(|n| entries.get(n).map(|entry| entry.count.get())),

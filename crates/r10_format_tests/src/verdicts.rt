@@ -5,7 +5,7 @@ use r10_checker::{Verdict, check_file, check_medium, find_fault};
 use r10_dirblock::{DirBlock, Entries, Entry, encode, pad};
 use r10_judge::Judge;
 use r10_medium::{BlockMedium, Faulty, Memory};
-use r10_packet_rules::Fault;
+use r10_packet_rules::FirstFault;
 use std::alloc::{AllocError, Global};
 use std::process::Abort;
 use std::test::Fail;
@@ -68,7 +68,7 @@ fn medium(rt: &impl Abort, alloc: Global, files: &[Entry; 3]) -> Result<Memory, 
 }
 
 // the length of each name with its verdict
-fn told<M: BlockMedium>(
+fn verdicts_of<M: BlockMedium>(
     alloc: Global,
     medium: &mut M,
 ) -> Result<[Option<(usize, Verdict)>; 4], Refusal> {
@@ -90,7 +90,7 @@ fn each_file_has_its_verdict(rt: HostRuntime) -> Result<(), Fail> {
         Some((1, faulty)),
         None,
     ];
-    assert_eq!(rt; told(rt.alloc(), &mut medium), Ok(wanted));
+    assert_eq!(rt; verdicts_of(rt.alloc(), &mut medium), Ok(wanted));
     Ok(())
 }
 
@@ -99,7 +99,7 @@ fn a_file_outside_is_told_by_its_block(rt: HostRuntime) -> Result<(), Fail> {
     let files = [file(0, 272, true), file(2, 1, true), file(0, 212, false)];
     let mut medium = medium(&rt, rt.alloc(), &files)?;
     assert_eq!(rt;
-        told(rt.alloc(), &mut medium),
+        verdicts_of(rt.alloc(), &mut medium),
         Err(Refusal::BadDirectory(1))
     );
     Ok(())
@@ -109,7 +109,7 @@ fn a_file_outside_is_told_by_its_block(rt: HostRuntime) -> Result<(), Fail> {
 fn a_failing_medium_has_no_verdicts(rt: HostRuntime) -> Result<(), Fail> {
     let files = [file(0, 272, true), file(0, 212, false), file(0, 1, true)];
     let mut medium = Faulty::new(medium(&rt, rt.alloc(), &files)?, 2);
-    assert_eq!(rt; told(rt.alloc(), &mut medium), Err(Refusal::Medium));
+    assert_eq!(rt; verdicts_of(rt.alloc(), &mut medium), Err(Refusal::Medium));
     Ok(())
 }
 
@@ -118,7 +118,7 @@ fn an_unclosed_file_has_no_index(rt: HostRuntime) -> Result<(), Fail> {
     let found = find_fault(rt.alloc(), &FIRST, false)?;
     let offset = 124;
     let fault = FileFault::Rule(8);
-    assert!(rt; found == Some(Fault { offset, fault }));
+    assert!(rt; found == Some(FirstFault { offset, fault }));
     Ok(())
 }
 
@@ -128,7 +128,7 @@ fn a_setup_alone_lacks_a_time(rt: HostRuntime) -> Result<(), Fail> {
     judge.take(&FIRST[..32])?;
     let offset = 32;
     let fault = FileFault::Rule(4);
-    assert!(rt; judge.end() == Some(Fault { offset, fault }));
+    assert!(rt; judge.end() == Some(FirstFault { offset, fault }));
     Ok(())
 }
 
@@ -148,7 +148,7 @@ fn a_report_is_answered(rt: HostRuntime) -> Result<(), Fail> {
     let offset = 124;
     let fault = FileFault::Rule(11);
     assert!(rt; find_fault(alloc, &bytes, false)?.is_none());
-    assert!(rt; find_fault(alloc, &cut, false)? == Some(Fault { offset, fault }));
+    assert!(rt; find_fault(alloc, &cut, false)? == Some(FirstFault { offset, fault }));
     assert!(rt; check_file(alloc, &bytes)? == Verdict::Strict);
     assert!(rt; check_file(alloc, &cut)? == Verdict::Lenient { opaque: 0 });
     Ok(())

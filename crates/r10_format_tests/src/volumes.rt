@@ -7,7 +7,7 @@ use std::process::Abort;
 use std::test::Fail;
 
 // A medium of eight blocks, two of them reserved for a directory, without files.
-fn formatted(rt: &impl Abort, alloc: Global) -> Result<Memory, Fail> {
+fn formatted_medium(rt: &impl Abort, alloc: Global) -> Result<Memory, Fail> {
     let mut medium = Memory::new(alloc, 8)?;
     assert!(rt; medium.blocks() == 8);
     format(&mut medium, 2, b"VOL")?;
@@ -16,7 +16,7 @@ fn formatted(rt: &impl Abort, alloc: Global) -> Result<Memory, Fail> {
 
 #[test]
 fn a_directory_without_files(rt: HostRuntime) -> Result<(), Fail> {
-    let mut medium = formatted(&rt, rt.alloc())?;
+    let mut medium = formatted_medium(&rt, rt.alloc())?;
     let directory = mount(rt.alloc(), &mut medium, 2)?;
     let infos = list(rt.alloc(), &directory)?;
     let told = (infos.len(), count(&directory), next_block(&directory, 2));
@@ -27,7 +27,7 @@ fn a_directory_without_files(rt: HostRuntime) -> Result<(), Fail> {
 
 #[test]
 fn in_use_and_left(rt: HostRuntime) -> Result<(), Fail> {
-    let mut medium = formatted(&rt, rt.alloc())?;
+    let mut medium = formatted_medium(&rt, rt.alloc())?;
     let mut block = [0; 512];
     let mut shutdown = [1; 2];
     let mut directory = mount(rt.alloc(), &mut medium, 2)?;

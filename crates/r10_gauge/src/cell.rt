@@ -1,5 +1,5 @@
 // The cell, its rule, and the kinds of step.
-use crate::kind::Kind;
+use crate::kind::GaugeKind;
 use atomic_table::{Join, Split};
 use crossbeam_utils::atomic::seq_cell::{Pass, RuledSeqCell};
 use crossbeam_utils::rule::{Outcome, Protocol};
@@ -7,8 +7,8 @@ use r10_body::Glance;
 use std::collections::LinkedList;
 use std::marker::PhantomData;
 
-/// What a seat knows: what was published up to its last step, whether it is the one that publishes, and what a seat that it met had seen. No value of
-/// it is made.
+/// What a seat knows: what was published up to its last step, whether it is the one that publishes, and what a seat that it met had
+/// seen. No value of it is made.
 pub(crate) struct SeatKnows {
     pub(crate) writes: bool,
     pub(crate) seen: LinkedList<Glance>,
@@ -17,11 +17,11 @@ pub(crate) struct SeatKnows {
 
 /// The rule: what is published is one growing list of this kind, which begins with what each seat has seen, and the words are its
 /// last triple.
-pub(crate) struct OneList<K: Kind> {
+pub(crate) struct OneList<K: GaugeKind> {
     of: PhantomData<K>,
 }
 
-impl<K: Kind> Protocol<[u64; 3], SeatKnows> for OneList<K> {
+impl<K: GaugeKind> Protocol<[u64; 3], SeatKnows> for OneList<K> {
     ghost use Rattle.r10_gauge.specs.Seats.{KeepsOneList, making_seat};
 
     ghost holds = { KeepsOneList K.keeps };
@@ -39,11 +39,11 @@ impl Outcome<[u64; 3], SeatKnows> for Publishing {
 }
 
 /// A step that looks.
-pub(crate) struct Glancing<K: Kind> {
+pub(crate) struct Glancing<K: GaugeKind> {
     of: PhantomData<K>,
 }
 
-impl<K: Kind> Outcome<[u64; 3], SeatKnows> for Glancing<K> {
+impl<K: GaugeKind> Outcome<[u64; 3], SeatKnows> for Glancing<K> {
     ghost use Rattle.r10_gauge.specs.Seats.{SawAll};
 
     ghost then = { SawAll K.keeps };

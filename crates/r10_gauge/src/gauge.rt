@@ -5,7 +5,7 @@ ghost use mathlib.Core.List.{IsPrefix};
 ghost use Rattle.r10_gauge.specs.Published.{triple, nothing_published, commits_of};
 
 use crate::cell::{Cell, Comparing, Meeting, Publishing, Seat, Splitting};
-use crate::kind::{Commits, Kind, Level, Levels};
+use crate::kind::{Commits, GaugeKind, Level, Levels};
 use crate::pass::Pass;
 use crate::watch::Watch;
 use r10_body::Glance;
@@ -15,13 +15,13 @@ use std::sync::{Arc, Wait};
 
 /// The publishing end of a gauge. Contracts see which gauge it is, and all that was published at it.
 #[derive(Drop)]
-pub struct Gauge<K: Kind = Commits> {
+pub struct Gauge<K: GaugeKind = Commits> {
     cell: Arc<Cell<K>, Global>,
     seat: Seat,
     last: Glance,
 }
 
-impl<K: Kind> Model for Gauge<K> {
+impl<K: GaugeKind> Model for Gauge<K> {
     ghost use Rattle.std.specs.Prelude.{◌≡◌, ◌<◌, length};
     ghost use Rattle.std.specs.Arc.{arc_value};
     ghost use Rattle.crossbeam_utils.specs.Seq.{cell_view};
@@ -40,9 +40,9 @@ impl<K: Kind> Model for Gauge<K> {
         × K.keeps (cell_view g.seat).seen };
 }
 
-impl<K: Kind> Gauge<K> {
-    /// A gauge at which nothing was published but three zeros, the end at which threads look, and the first pass, which has seen them.
-    /// This takes all the memory that the gauge ever takes.
+impl<K: GaugeKind> Gauge<K> {
+    /// A gauge at which nothing was published but three zeros, the end at which threads look, and the first pass, which has seen
+    /// them. This takes all the memory that the gauge ever takes.
     pub fn new(alloc: Global) -> Result<(Gauge<K>, Watch<K>, Pass<K>), AllocError>
         ensures gauge { IfOk result (λ r. r.0.published ≡ nothing_published) }
         ensures pass { IfOk result (λ r. r.2.seen ≡ nothing_published) }
@@ -99,7 +99,8 @@ impl Gauge<Commits> {
     /// 1 up to `u64::MAX`, where it stays. This takes no memory.
     pub fn publish<R: Wait>(&mut self, rt: &R, file: u64, bytes: u64)
         ensures same { self.new.cell ≡ self.old.cell }
-        ensures grows { self.new.published ≡ self.old.published ++ triple (min (length self.old.published) (2 ^ 64 - 1)) file bytes ∷ [] }
+        ensures grows { self.new.published
+            ≡ self.old.published ++ triple (min (length self.old.published) (2 ^ 64 - 1)) file bytes ∷ [] }
     {
         let commits = self.last.commits.saturating_add(1);
         self.put(

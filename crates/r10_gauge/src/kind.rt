@@ -5,7 +5,7 @@ ghost use Rattle.std.specs.Prelude.{◌≡◌};
 use r10_body::Glance;
 
 /// A kind of gauge: what is known of all that is published at one, the three zeros of its making first.
-pub trait Kind {
+pub trait GaugeKind {
     ghost use Rattle.std.specs.Prelude.{List};
     ghost use Rattle.r10_body.specs.declared.refusal.Glance.{Glance as Triple};
     ghost use Rattle.r10_gauge.specs.Published.{nothing_published};
@@ -21,7 +21,7 @@ pub trait Kind {
 #[derive(Clone, Copy, Debug)]
 pub struct Commits;
 
-impl Kind for Commits {
+impl GaugeKind for Commits {
     ghost use Rattle.r10_gauge.specs.Published.{AreNumbered};
     ghost use Rattle.r10_gauge.specs.Laws.{zeros_are_numbered};
 
@@ -34,7 +34,7 @@ impl Kind for Commits {
 #[derive(Clone, Copy, Debug)]
 pub struct Levels;
 
-impl Kind for Levels {
+impl GaugeKind for Levels {
     ghost use Rattle.std.specs.Prelude.{⊤};
 
     ghost keeps = { λ published. ⊤ };

@@ -9,6 +9,6 @@ mod pass;
 mod watch;
 
 pub use gauge::Gauge;
-pub use kind::{Commits, Kind, Level, Levels};
+pub use kind::{Commits, GaugeKind, Level, Levels};
 pub use pass::Pass;
 pub use watch::Watch;

@@ -4,19 +4,19 @@ ghost use Rattle.std.specs.Prelude.{◌≡◌};
 ghost use Rattle.r10_gauge.specs.Published.{last_triple, commits_of};
 
 use crate::cell::Seat;
-use crate::kind::{Commits, Kind};
+use crate::kind::{Commits, GaugeKind};
 use r10_body::Glance;
 use std::marker::{Model, PhantomData};
 
 /// What a thread has seen of what is published, with the last of it. Contracts see at which gauge, and all that was seen.
 #[derive(Drop)]
-pub struct Pass<K: Kind = Commits> {
+pub struct Pass<K: GaugeKind = Commits> {
     pub(crate) seat: Seat,
     pub(crate) last: Glance,
     pub(crate) of: PhantomData<K>,
 }
 
-impl<K: Kind> Model for Pass<K> {
+impl<K: GaugeKind> Model for Pass<K> {
     ghost use Rattle.std.specs.Prelude.{◌≡◌, ◌<◌, length};
     ghost use Rattle.crossbeam_utils.specs.Seq.{cell_view};
     ghost use Rattle.r10_gauge.specs.Published.{LookingEnd, last_triple};

@@ -5,7 +5,7 @@ ghost use mathlib.Core.List.{IsPrefix};
 ghost use Rattle.r10_gauge.specs.Published.{last_triple};
 
 use crate::cell::{Cell, Glancing, Splitting};
-use crate::kind::{Commits, Kind};
+use crate::kind::{Commits, GaugeKind};
 use crate::pass::Pass;
 use r10_body::Glance;
 use std::alloc::Global;
@@ -14,11 +14,11 @@ use std::sync::{Arc, Wait};
 
 /// The end of a gauge at which threads look, beside the lock that keeps the publishing end. Contracts see which gauge it is.
 #[derive(Drop)]
-pub struct Watch<K: Kind = Commits> {
+pub struct Watch<K: GaugeKind = Commits> {
     pub(crate) cell: Arc<Cell<K>, Global>,
 }
 
-impl<K: Kind> Model for Watch<K> {
+impl<K: GaugeKind> Model for Watch<K> {
     ghost use Rattle.std.specs.Arc.{arc_value};
     ghost use Rattle.atomic_table.specs.Seated.{TableId, table_id_coded};
 
@@ -29,9 +29,9 @@ impl<K: Kind> Model for Watch<K> {
     ghost view = { λ w. (arc_value w.cell).table.shared.table_id };
 }
 
-impl<K: Kind> Watch<K> {
-    /// The last triple of all that is published at this moment. What the pass had seen is a beginning of that list, and the pass has now
-    /// seen all of it. This takes no memory and asks for no lock of a recorder.
+impl<K: GaugeKind> Watch<K> {
+    /// The last triple of all that is published at this moment. What the pass had seen is a beginning of that list, and the pass
+    /// has now seen all of it. This takes no memory and asks for no lock of a recorder.
     pub fn glance<R: Wait>(&self, rt: &R, pass: &mut Pass<K>) -> Glance
         requires { pass.old.cell ≡ self.now }
         ensures same { pass.new.cell ≡ pass.old.cell }

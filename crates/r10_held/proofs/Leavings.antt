@@ -18,7 +18,7 @@ use Rattle.r10_dirchain.specs.declared.chain.ChainBlock.{ChainBlock}
 use Rattle.r10_machine.specs.Config.{Config}
 use Rattle.r10_machine.specs.Machine.{Tick}
 use Rattle.r10_machine.specs.declared.event.Event.TheVariants as events
-use Rattle.r10_refinement.specs.Kept.{Kept, Work, mode_of, unmounted, idle, recording, failed, Open}
+use Rattle.r10_refinement.specs.Kept.{Kept, Work, mode_of, unmounted, idle, recording, failed, OpenState}
 use Rattle.r10_medium.specs.Disk.{Disk, Image}
 
 -- ---- what is told of the last file
@@ -201,7 +201,7 @@ where_idle (idle chain) holds is then = then chain refl is
 where_idle (recording chain o) holds is then = absurd is
 where_idle failed holds is then = absurd is
 
-where_recording : (work : Work) (holds : List ChainBlock → Open → Type 0) {P : Type 0} → WhereRecording work holds → ((chain : List ChainBlock) (o : Open) → work ≡ recording chain o → holds chain o → P) → P
+where_recording : (work : Work) (holds : List ChainBlock → OpenState → Type 0) {P : Type 0} → WhereRecording work holds → ((chain : List ChainBlock) (o : OpenState) → work ≡ recording chain o → holds chain o → P) → P
 where_recording unmounted holds is then = absurd is
 where_recording (idle chain) holds is then = absurd is
 where_recording (recording chain o) holds is then = then chain o refl is
@@ -246,7 +246,7 @@ seal_settles k later old new able is rest = record { numbers = record { numbers 
 pub start_stays : (name setup : List ℕ) (k later : Kept) (old new : Disk) → StartEffect name setup k old later new → (later.taken ≡ k.taken) × (later.erased ≡ k.erased)
 start_stays name setup k later old new is = where_idle k.work _ is (λ chain at there. where_recording later.work _ there (λ made o then does. by chain made o k.tick does))
   where
-    by : (chain made : List ChainBlock) (o : Open) (t : Option Tick) → IsSomeAnd t (λ (tick : Tick). StartEffectAt name setup tick chain o k old later new) → (later.taken ≡ k.taken) × (later.erased ≡ k.erased)
+    by : (chain made : List ChainBlock) (o : OpenState) (t : Option Tick) → IsSomeAnd t (λ (tick : Tick). StartEffectAt name setup tick chain o k old later new) → (later.taken ≡ k.taken) × (later.erased ≡ k.erased)
     by chain made o (Some tick) does = (ap (λ (x : Kept). x.taken) does.effect.kept, ap (λ (x : Kept). x.erased) does.effect.kept)
     by chain made o None does = absurd does
 

@@ -8,7 +8,8 @@ ghost use Rattle.r10_control.specs.Refused.{RefusesCall};
 ghost use Rattle.r10_count.specs.Count.{IsCount};
 ghost use Rattle.r10_cursor.specs.Standing.{fresh_slot};
 ghost use Rattle.r10_machine.specs.declared.event.Event.TheVariants as events;
-ghost use Rattle.r10_held.specs.Auditing.{AreAbsentOrRead, GoOn, IsAbsentOrRead, IsAuditRefusal, IsFirstRefused, IsNext, MayReadOn, at_place, audit_refusal, is_absence as told_absence};
+ghost use Rattle.r10_held.specs.Auditing.{AreAbsentOrRead, GoOn, IsAbsentOrRead, IsAuditRefusal, IsFirstRefused, IsNext, MayReadOn};
+ghost use Rattle.r10_held.specs.Auditing.{at_place, audit_refusal, is_absence as told_absence};
 ghost use Rattle.r10_held.specs.Transcripts.{Agrees, AllAgree, beginning};
 
 use crate::transcript::{Instalment, Transcript};
@@ -20,17 +21,20 @@ use r10_machine::order_is_unique;
 use r10_medium::BlockMedium;
 use std::alloc::Global;
 
-/// Whether each of several transcripts agrees with the recorder's files, as they stand. Refused as `audit` of the first that doesn't agree: Failed,
-/// BadFile, Medium, OutOfMemory.
+/// Whether each of several transcripts agrees with the recorder's files, as they stand. Refused as `audit` of the first that
+/// doesn't agree: Failed, BadFile, Medium, OutOfMemory.
 pub fn audit_all<M: BlockMedium, L: LaneOut>(
     alloc: Global,
     recorder: &mut Recorder<M, L>,
     transcripts: &[Transcript],
 ) -> Result<bool, Refusal>
-    ensures agrees { IfOk result (λ yes. IsTrue yes ↔ AllAgree recorder.old.kept.work (M.disk recorder.old.medium).blocks transcripts.now) }
+    ensures agrees { IfOk result
+        (λ yes. IsTrue yes ↔ AllAgree recorder.old.kept.work (M.disk recorder.old.medium).blocks transcripts.now) }
     ensures there { OnOk result (AreAbsentOrRead recorder.old.kept.work (M.disk recorder.old.medium).blocks transcripts.now) }
     ensures passed { OnOk result (audit_refusal recorder.old.kept ≡ None) }
-    ensures refused { IfErr result (RefusesCall M.disk (audit_refusal recorder.old.kept) (IsFirstRefused recorder.old.kept.work (M.disk recorder.old.medium).blocks transcripts.now) recorder.old.kept recorder.new.kept recorder.old.medium recorder.new.medium) }
+    ensures refused { IfErr result (RefusesCall M.disk (audit_refusal recorder.old.kept)
+        (IsFirstRefused recorder.old.kept.work (M.disk recorder.old.medium).blocks transcripts.now) recorder.old.kept
+        recorder.new.kept recorder.old.medium recorder.new.medium) }
     ensures reads { OnlyReads M.disk recorder.old recorder.new result }
 {
     if let Err(refusal) = check_works(recorder) {
@@ -62,18 +66,22 @@ fn check_works<M: BlockMedium, L: LaneOut>(recorder: &Recorder<M, L>) -> Result<
     }
 }
 
-/// Whether a transcript agrees with the recorder's files, as they stand: its file is there, its instalments follow on one another, and each has the
-/// entries that were wanted of the packets between its places, in order. It reads from the first place to the last. Refused: Failed,
-/// BadFile with the file's first fault, Medium, OutOfMemory. Where no file has the number, or nothing is mounted, it doesn't agree.
+/// Whether a transcript agrees with the recorder's files, as they stand: its file is there, its instalments follow on one another,
+/// and each has the entries that were wanted of the packets between its places, in order. It reads from the first place to the
+/// last. Refused: Failed, BadFile with the file's first fault, Medium, OutOfMemory. Where no file has the number, or nothing is
+/// mounted, it doesn't agree.
 pub fn audit<M: BlockMedium, L: LaneOut>(
     alloc: Global,
     recorder: &mut Recorder<M, L>,
     transcript: &Transcript,
 ) -> Result<bool, Refusal>
-    ensures agrees { IfOk result (λ yes. IsTrue yes ↔ Agrees recorder.old.kept.work (M.disk recorder.old.medium).blocks transcript.now) }
+    ensures agrees { IfOk result
+        (λ yes. IsTrue yes ↔ Agrees recorder.old.kept.work (M.disk recorder.old.medium).blocks transcript.now) }
     ensures there { OnOk result (IsAbsentOrRead recorder.old.kept.work (M.disk recorder.old.medium).blocks transcript.now.file) }
     ensures passed { OnOk result (audit_refusal recorder.old.kept ≡ None) }
-    ensures refused { IfErr result (RefusesCall M.disk (audit_refusal recorder.old.kept) (IsAuditRefusal recorder.old.kept.work (M.disk recorder.old.medium).blocks transcript.now.file) recorder.old.kept recorder.new.kept recorder.old.medium recorder.new.medium) }
+    ensures refused { IfErr result (RefusesCall M.disk (audit_refusal recorder.old.kept)
+        (IsAuditRefusal recorder.old.kept.work (M.disk recorder.old.medium).blocks transcript.now.file) recorder.old.kept
+        recorder.new.kept recorder.old.medium recorder.new.medium) }
     ensures reads { OnlyReads M.disk recorder.old recorder.new result }
 {
     match read_again(alloc, recorder, transcript) {
@@ -101,10 +109,15 @@ fn read_again<M: BlockMedium, L: LaneOut>(
     recorder: &mut Recorder<M, L>,
     transcript: &Transcript,
 ) -> Result<bool, Refusal>
-    ensures agrees { IfOk result (λ yes. IsTrue yes ↔ Agrees recorder.old.kept.work (M.disk recorder.old.medium).blocks transcript.now) }
+    ensures agrees { IfOk result
+        (λ yes. IsTrue yes ↔ Agrees recorder.old.kept.work (M.disk recorder.old.medium).blocks transcript.now) }
     ensures there { OnOk result (IsReadAt recorder.old.kept.work (M.disk recorder.old.medium).blocks transcript.now.file) }
-    ensures passed { OnOk result (recorder_refusal recorder.old.kept (events.Cursor transcript.now.file transcript.now.channels transcript.now.first transcript.now.last) ≡ None) }
-    ensures refused { IfErr result (RefusesCall M.disk (recorder_refusal recorder.old.kept (events.Cursor transcript.now.file transcript.now.channels transcript.now.first transcript.now.last)) (IsReadFileRefusal recorder.old.kept.work (M.disk recorder.old.medium).blocks transcript.now.file) recorder.old.kept recorder.new.kept recorder.old.medium recorder.new.medium) }
+    ensures passed { OnOk result (recorder_refusal recorder.old.kept
+        (events.Cursor transcript.now.file transcript.now.channels transcript.now.first transcript.now.last) ≡ None) }
+    ensures refused { IfErr result (RefusesCall M.disk (recorder_refusal recorder.old.kept
+        (events.Cursor transcript.now.file transcript.now.channels transcript.now.first transcript.now.last))
+        (IsReadFileRefusal recorder.old.kept.work (M.disk recorder.old.medium).blocks transcript.now.file) recorder.old.kept
+        recorder.new.kept recorder.old.medium recorder.new.medium) }
     ensures counts { IsCount transcript.now.first × IsCount transcript.now.last }
     ensures reads { OnlyReads M.disk recorder.old recorder.new result }
 {
@@ -128,11 +141,16 @@ fn open_again<M: BlockMedium, L: LaneOut>(
     recorder: &mut Recorder<M, L>,
     transcript: &Transcript,
 ) -> Result<Cursor, Refusal>
-    ensures passed { OnOk result (recorder_refusal recorder.old.kept (events.Cursor transcript.now.file transcript.now.channels transcript.now.first transcript.now.last) ≡ None) }
-    ensures opened { IfOk result (λ c. c ≡ fresh_slot recorder.old.kept.generation transcript.now.channels transcript.now.file transcript.now.first transcript.now.last) }
+    ensures passed { OnOk result (recorder_refusal recorder.old.kept
+        (events.Cursor transcript.now.file transcript.now.channels transcript.now.first transcript.now.last) ≡ None) }
+    ensures opened { IfOk result (λ c. c ≡ fresh_slot recorder.old.kept.generation transcript.now.channels transcript.now.file
+        transcript.now.first transcript.now.last) }
     ensures ready { IfOk result (MayReadOn recorder.new.kept) }
     ensures there { OnOk result (IsReadAt recorder.old.kept.work (M.disk recorder.old.medium).blocks transcript.now.file) }
-    ensures refused { IfErr result (RefusesCall M.disk (recorder_refusal recorder.old.kept (events.Cursor transcript.now.file transcript.now.channels transcript.now.first transcript.now.last)) (IsReadFileRefusal recorder.old.kept.work (M.disk recorder.old.medium).blocks transcript.now.file) recorder.old.kept recorder.new.kept recorder.old.medium recorder.new.medium) }
+    ensures refused { IfErr result (RefusesCall M.disk (recorder_refusal recorder.old.kept
+        (events.Cursor transcript.now.file transcript.now.channels transcript.now.first transcript.now.last))
+        (IsReadFileRefusal recorder.old.kept.work (M.disk recorder.old.medium).blocks transcript.now.file) recorder.old.kept
+        recorder.new.kept recorder.old.medium recorder.new.medium) }
     ensures counts { IsCount transcript.now.first × IsCount transcript.now.last }
     ensures reads { OnlyReads M.disk recorder.old recorder.new result }
 {
@@ -145,7 +163,7 @@ fn open_again<M: BlockMedium, L: LaneOut>(
     if let Err(refusal) = recorder.check_file(transcript.file, first, last) {
         return Err(refusal);
     }
-    let Ok(channels) = transcript.channels.copied(alloc) else {
+    let Ok(channels) = transcript.channels.duplicate(alloc) else {
         return Err(Refusal::OutOfMemory);
     };
     Ok(Cursor::new(
@@ -176,10 +194,14 @@ fn pass_over<M: BlockMedium, L: LaneOut>(
     place: usize,
 ) -> Result<(), Refusal>
     requires { MayReadOn recorder.old.kept cursor.old }
-    ensures covers { (packets : List StrictPacket) → ShowsAt recorder.old.kept.work (M.disk recorder.old.medium).blocks cursor.old.file packets → OnOk result (cursor.new ≡ at_place (length (take (max place cursor.old.reading.covered) packets)) cursor.old) }
+    ensures covers { (packets : List StrictPacket)
+        → ShowsAt recorder.old.kept.work (M.disk recorder.old.medium).blocks cursor.old.file packets
+        → OnOk result (cursor.new ≡ at_place (length (take (max place cursor.old.reading.covered) packets)) cursor.old) }
     ensures ready { OnOk result (MayReadOn recorder.new.kept cursor.new) }
     ensures file { cursor.new.file ≡ cursor.old.file }
-    ensures refused { IfErr result (RefusesCall M.disk None (IsReadFileRefusal recorder.old.kept.work (M.disk recorder.old.medium).blocks cursor.old.file) recorder.old.kept recorder.new.kept recorder.old.medium recorder.new.medium) }
+    ensures refused { IfErr result
+        (RefusesCall M.disk None (IsReadFileRefusal recorder.old.kept.work (M.disk recorder.old.medium).blocks cursor.old.file)
+        recorder.old.kept recorder.new.kept recorder.old.medium recorder.new.medium) }
     ensures reads { OnlyReads M.disk recorder.old recorder.new result }
 {
     match recorder.advance_to(cursor, place) {
@@ -200,9 +222,13 @@ fn read_instalments<M: BlockMedium, L: LaneOut>(
     instalments: &[Instalment],
 ) -> Result<bool, Refusal>
     requires { MayReadOn recorder.old.kept cursor.old }
-    ensures same { (packets : List StrictPacket) → ShowsAt recorder.old.kept.work (M.disk recorder.old.medium).blocks cursor.old.file packets → cursor.old.reading.covered ≤ length packets
-        → IfOk result (λ yes. IsTrue yes ↔ GoOn packets cursor.old.reading.channels cursor.old.reading.from cursor.old.reading.to cursor.old.reading.covered instalments.now) }
-    ensures refused { IfErr result (RefusesCall M.disk None (IsReadFileRefusal recorder.old.kept.work (M.disk recorder.old.medium).blocks cursor.old.file) recorder.old.kept recorder.new.kept recorder.old.medium recorder.new.medium) }
+    ensures same { (packets : List StrictPacket)
+        → ShowsAt recorder.old.kept.work (M.disk recorder.old.medium).blocks cursor.old.file packets
+        → cursor.old.reading.covered ≤ length packets → IfOk result (λ yes. IsTrue yes ↔ GoOn packets cursor.old.reading.channels
+        cursor.old.reading.from cursor.old.reading.to cursor.old.reading.covered instalments.now) }
+    ensures refused { IfErr result
+        (RefusesCall M.disk None (IsReadFileRefusal recorder.old.kept.work (M.disk recorder.old.medium).blocks cursor.old.file)
+        recorder.old.kept recorder.new.kept recorder.old.medium recorder.new.medium) }
     ensures reads { OnlyReads M.disk recorder.old recorder.new result }
 {
     for place in 0..instalments.len() {
@@ -223,13 +249,19 @@ fn read_instalment<M: BlockMedium, L: LaneOut>(
     instalment: &Instalment,
 ) -> Result<bool, Refusal>
     requires { MayReadOn recorder.old.kept cursor.old }
-    ensures same { (packets : List StrictPacket) → ShowsAt recorder.old.kept.work (M.disk recorder.old.medium).blocks cursor.old.file packets → cursor.old.reading.covered ≤ length packets
-        → IfOk result (λ yes. IsTrue yes ↔ IsNext packets cursor.old.reading.channels cursor.old.reading.from cursor.old.reading.to cursor.old.reading.covered instalment.now) }
-    ensures covers { (packets : List StrictPacket) → ShowsAt recorder.old.kept.work (M.disk recorder.old.medium).blocks cursor.old.file packets → cursor.old.reading.covered ≤ length packets
+    ensures same { (packets : List StrictPacket)
+        → ShowsAt recorder.old.kept.work (M.disk recorder.old.medium).blocks cursor.old.file packets
+        → cursor.old.reading.covered ≤ length packets → IfOk result (λ yes. IsTrue yes ↔ IsNext packets cursor.old.reading.channels
+        cursor.old.reading.from cursor.old.reading.to cursor.old.reading.covered instalment.now) }
+    ensures covers { (packets : List StrictPacket)
+        → ShowsAt recorder.old.kept.work (M.disk recorder.old.medium).blocks cursor.old.file packets
+        → cursor.old.reading.covered ≤ length packets
         → IfOk result (λ yes. IsTrue yes → cursor.new ≡ at_place instalment.now.to cursor.old) }
     ensures ready { OnOk result (MayReadOn recorder.new.kept cursor.new) }
     ensures file { cursor.new.file ≡ cursor.old.file }
-    ensures refused { IfErr result (RefusesCall M.disk None (IsReadFileRefusal recorder.old.kept.work (M.disk recorder.old.medium).blocks cursor.old.file) recorder.old.kept recorder.new.kept recorder.old.medium recorder.new.medium) }
+    ensures refused { IfErr result
+        (RefusesCall M.disk None (IsReadFileRefusal recorder.old.kept.work (M.disk recorder.old.medium).blocks cursor.old.file)
+        recorder.old.kept recorder.new.kept recorder.old.medium recorder.new.medium) }
     ensures reads { OnlyReads M.disk recorder.old recorder.new result }
 {
     // For the proof: entries have one order.

@@ -88,5 +88,6 @@ impl<M: BlockMedium, N: Rings> Held<M, N> {
 
 /// A law: of a recorder as it is made, over lanes that received nothing, all that is taken is accounted for.
 pub fn new_recorders_account_for_their_lanes<M: BlockMedium, N: Rings>()
-    ensures { (r : RecorderState M Receiving) → IsNew M.disk outlet_spec outlet_received r → AreNamed N.rings r.lanes → LanesAccounted M.disk N.rings r }
+    ensures { (r : RecorderState M Receiving) → IsNew M.disk outlet_spec outlet_received r → AreNamed N.rings r.lanes
+        → LanesAccounted M.disk N.rings r }
 {}

@@ -1,6 +1,6 @@
-//! What a lock keeps of a recorder that threads share, and the lock: whoever gets it knows that each channel's lane has received what
-//! erases took, and then what the recorder's own files have of the channel. Beside it stand readers, which never read less than they have
-//! seen published, and what they wrote down, with its audit.
+//! What a lock keeps of a recorder that threads share, and the lock: whoever gets it knows that each channel's lane has received
+//! what erases took, and then what the recorder's own files have of the channel. Beside it stand readers, which never read less
+//! than they have seen published, and what they wrote down, with its audit.
 #![tactic(auto)]
 
 mod auditing;

@@ -97,9 +97,11 @@ impl Player {
         held: &mut Held<M, N>,
     ) -> Result<usize, Refusal>
         ensures at_least { OnOk result (commits_of self.old.pass.seen ≤ commits_of held.old.published) }
-        ensures behind { commits_of held.old.published < commits_of self.old.pass.seen → (result ≡ Err (refusals.Behind (last_triple self.old.pass.seen))) × (self.new ≡ self.old) × (held.new ≡ held.old) }
+        ensures behind { commits_of held.old.published < commits_of self.old.pass.seen
+            → (result ≡ Err (refusals.Behind (last_triple self.old.pass.seen))) × (self.new ≡ self.old) × (held.new ≡ held.old) }
         ensures only_behind { IfErr result (SaysBehind (commits_of held.old.published < commits_of self.old.pass.seen)) }
-        ensures advances { commits_of self.old.pass.seen ≤ commits_of held.old.published → AdvancesRecorder M.disk held.old.recorder held.new.recorder self.old.cursor self.new.cursor result }
+        ensures advances { commits_of self.old.pass.seen ≤ commits_of held.old.published
+            → AdvancesRecorder M.disk held.old.recorder held.new.recorder self.old.cursor self.new.cursor result }
         ensures pass { self.new.pass ≡ self.old.pass }
         ensures gauge { StaysPublished held.old held.new }
     {
@@ -122,7 +124,8 @@ impl Player {
     /// The first of what it has yet to give, which it then has given. None where nothing is left. This takes no memory.
     pub fn next(&mut self) -> Option<Entry>
         ensures given { result ≡ slice_get self.old.cursor.reading.queue 0 }
-        ensures left { self.new.cursor ≡ record self.old.cursor { reading = record self.old.cursor.reading { queue = drop 1 self.old.cursor.reading.queue } } }
+        ensures left { self.new.cursor
+            ≡ record self.old.cursor { reading = record self.old.cursor.reading { queue = drop 1 self.old.cursor.reading.queue } } }
         ensures pass { self.new.pass ≡ self.old.pass }
     {
         self.cursor.next()

@@ -34,7 +34,9 @@ pub(crate) fn publish_if_done<T, M: BlockMedium, L: LaneOut, N: Rings, R: Wait>(
     gauge: &mut Publisher<N>,
 )
     ensures same { gauge.new.cell ≡ gauge.old.cell }
-    ensures grows { MatchResult answer.now (λ _. gauge.new.published ≡ gauge.old.published ++ next_triple gauge.old.published recorder.now.kept.work ∷ []) (λ _. gauge.new.published ≡ gauge.old.published) }
+    ensures grows { MatchResult answer.now
+        (λ _. gauge.new.published ≡ gauge.old.published ++ next_triple gauge.old.published recorder.now.kept.work ∷ [])
+        (λ _. gauge.new.published ≡ gauge.old.published) }
 {
     if answer.is_ok() {
         publish(rt, recorder, gauge);

@@ -49,7 +49,8 @@ impl<N: Rings> Publisher<N> {
     /// Publishes, as `Gauge::publish`.
     pub(crate) fn publish<R: Wait>(&mut self, rt: &R, file: u64, bytes: u64)
         ensures same { self.new.cell ≡ self.old.cell }
-        ensures grows { self.new.published ≡ self.old.published ++ triple (min (length self.old.published) (2 ^ 64 - 1)) file bytes ∷ [] }
+        ensures grows { self.new.published
+            ≡ self.old.published ++ triple (min (length self.old.published) (2 ^ 64 - 1)) file bytes ∷ [] }
     {
         self.gauge.publish(rt, file, bytes);
     }

@@ -7,8 +7,8 @@ use r10_count::{Count, Items};
 use r10_cursor::Cursor;
 use std::alloc::{AllocError, Global};
 
-/// What an advance gave: of the packets of a file from one place up to another, those of its index not counted, the entries that were wanted, in
-/// the order of a replay.
+/// What an advance gave: of the packets of a file from one place up to another, those of its index not counted, the entries that
+/// were wanted, in the order of a replay.
 #[derive(Debug, Drop)]
 pub struct Instalment {
     pub from: usize,
@@ -33,7 +33,8 @@ impl Transcript {
     /// A transcript of what a cursor will give, without an instalment yet.
     pub fn of(alloc: Global, cursor: &Cursor) -> Result<Transcript, AllocError>
         ensures file { IfOk result (λ t. t.file ≡ cursor.now.file) }
-        ensures wanted { IfOk result (λ t. (t.channels ≡ cursor.now.reading.channels) × (t.first ≡ cursor.now.reading.from) × (t.last ≡ cursor.now.reading.to)) }
+        ensures wanted { IfOk result (λ t. (t.channels ≡ cursor.now.reading.channels) × (t.first ≡ cursor.now.reading.from)
+            × (t.last ≡ cursor.now.reading.to)) }
         ensures empty { IfOk result (λ t. t.instalments.items ≡ []) }
     {
         let channels = Items::of(Vec::from_slice(alloc, cursor.channels())?);

@@ -24,7 +24,8 @@ pub fn write_formatted<W: Write + Drop>(
     writer: &mut BufWriter<W>,
 ) -> Result<(), StreamFault>
     requires { first_broken (format_rules blocks directory volume.now) ≡ None }
-    ensures image { OnOk result (Appends (writer_contents W.contents writer.old) (writer_contents W.contents writer.new) (concat (formatted_image blocks volume.now))) }
+    ensures image { OnOk result (Appends (writer_contents W.contents writer.old) (writer_contents W.contents writer.new)
+        (concat (formatted_image blocks volume.now))) }
     ensures sent { OnOk result (writer_buffer writer.new ≡ []) }
     ensures fault { IfErr result IsWriteFault }
 {
@@ -39,7 +40,8 @@ pub fn write_formatted<W: Write + Drop>(
 fn write_blocks<W: Write>(blocks: usize, volume: &[u8], writer: &mut W) -> Result<(), StreamFault>
     requires blocks { 2 ≤ blocks }
     requires volume { length volume.now ≤ 32 }
-    ensures image { OnOk result (Appends (W.contents writer.old) (W.contents writer.new) (concat (formatted_image blocks volume.now))) }
+    ensures image { OnOk result
+        (Appends (W.contents writer.old) (W.contents writer.new) (concat (formatted_image blocks volume.now))) }
     ensures fault { IfErr result IsWriteFault }
 {
     match write_zeros(1, writer) {

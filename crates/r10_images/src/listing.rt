@@ -35,7 +35,8 @@ pub fn list_files<R: Read, W: Write + Drop>(
     reader: &mut R,
     writer: &mut BufWriter<W>,
 ) -> Result<Outcome, StreamFault>
-    ensures lists { IfOk result (λ outcome. IfSome (R.remaining reader.old) (λ input. ListsFiles (image_blocks input) outcome (writer_contents W.contents writer.old) (writer_contents W.contents writer.new))) }
+    ensures lists { IfOk result (λ outcome. IfSome (R.remaining reader.old) (λ input. ListsFiles (image_blocks input) outcome
+        (writer_contents W.contents writer.old) (writer_contents W.contents writer.new))) }
     ensures sent { OnOk result (writer_buffer writer.new ≡ []) }
     ensures fault { IfErr result IsListFault }
 {
@@ -59,7 +60,8 @@ fn list_medium<M: BlockMedium, W: Write>(
     medium: &mut M,
     writer: &mut W,
 ) -> Result<Outcome, StreamFault>
-    ensures lists { IfOk result (λ outcome. ListsFiles (M.disk medium.old).blocks outcome (W.contents writer.old) (W.contents writer.new)) }
+    ensures lists { IfOk result
+        (λ outcome. ListsFiles (M.disk medium.old).blocks outcome (W.contents writer.old) (W.contents writer.new)) }
     ensures fault { IfErr result (IsMediumFault (M.disk medium.old).failures (M.disk medium.new).failures) }
     ensures told { IfErr result IsListFault }
 {

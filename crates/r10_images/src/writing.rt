@@ -13,13 +13,14 @@ use r10_medium::BlockMedium;
 use std::io;
 use std::io::{BufWriter, ErrorKind, Write};
 
-/// Writes the blocks of a medium one after the other. The medium is only read. No more than a block of it is held beside it, and the writer's
-/// buffer is flushed.
+/// Writes the blocks of a medium one after the other. The medium is only read. No more than a block of it is held beside it, and
+/// the writer's buffer is flushed.
 pub fn write_image<M: BlockMedium, W: Write + Drop>(
     medium: &mut M,
     writer: &mut BufWriter<W>,
 ) -> Result<(), StreamFault>
-    ensures image { OnOk result (Appends (writer_contents W.contents writer.old) (writer_contents W.contents writer.new) (concat (M.disk medium.old).blocks)) }
+    ensures image { OnOk result (Appends (writer_contents W.contents writer.old) (writer_contents W.contents writer.new)
+        (concat (M.disk medium.old).blocks)) }
     ensures sent { OnOk result (writer_buffer writer.new ≡ []) }
     ensures fault { IfErr result (IsImageFault (M.disk medium.old).failures (M.disk medium.new).failures) }
     ensures same { Unchanged (M.disk medium.old) (M.disk medium.new) }

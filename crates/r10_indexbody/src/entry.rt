@@ -81,7 +81,7 @@ impl BodyEntry for NodeEntry {
         20
     }
 
-    fn told(front: &[u8]) -> Option<usize> {
+    fn entry_length(front: &[u8]) -> Option<usize> {
         let _ = front;
         Some(20)
     }
@@ -151,7 +151,7 @@ impl BodyEntry for RootEntry {
         16
     }
 
-    fn told(front: &[u8]) -> Option<usize> {
+    fn entry_length(front: &[u8]) -> Option<usize> {
         let _ = front;
         Some(16)
     }

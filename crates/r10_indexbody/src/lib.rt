@@ -1,5 +1,5 @@
-//! Index packets and loss reports, which a file has beside its messages: a body is written as exactly the bytes of its fields, and read
-//! as exactly the fields that this recorder writes so, as another recorder's index, or as no body.
+//! Index packets and loss reports, which a file has beside its messages: a body is written as exactly the bytes of its fields, and
+//! read as exactly the fields that this recorder writes so, as another recorder's index, or as no body.
 #![tactic(auto)]
 
 mod entry;

@@ -34,7 +34,8 @@ impl NodeBody {
     /// recorder may have written them.
     pub fn decode(alloc: Global, body: &[u8]) -> Result<Reading<NodeBody>, AllocError>
         ensures found { IfOk result (ReadsBody (λ read. IsNode read.entries body.now) (IsForeignNode body.now)) }
-        ensures only { (entries : List NodeEntryValue) → IsNode entries body.now → IfOk result (λ reading. reading ≡ Strict (record { entries = entries })) }
+        ensures only { (entries : List NodeEntryValue) → IsNode entries body.now
+            → IfOk result (λ reading. reading ≡ Strict (record { entries = entries })) }
     {
         match read_body(alloc, 0, 0, body)? {
             Reading::Strict(entries) => Ok(Reading::Strict(NodeBody { entries })),

@@ -34,7 +34,8 @@ impl RootBody {
     /// recorder may have written them.
     pub fn decode(alloc: Global, body: &[u8]) -> Result<Reading<RootBody>, AllocError>
         ensures found { IfOk result (ReadsBody (λ read. IsRoot read.entries body.now) (IsForeignRoot body.now)) }
-        ensures only { (entries : List RootEntryValue) → IsRoot entries body.now → IfOk result (λ reading. reading ≡ Strict (record { entries = entries })) }
+        ensures only { (entries : List RootEntryValue) → IsRoot entries body.now
+            → IfOk result (λ reading. reading ≡ Strict (record { entries = entries })) }
     {
         match read_body(alloc, 0, 0, body)? {
             Reading::Strict(entries) => Ok(Reading::Strict(RootBody { entries })),

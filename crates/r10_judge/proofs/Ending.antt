@@ -17,7 +17,7 @@ use Rattle.r10_body.specs.declared.fault.FileFault.TheVariants.{Rule}
 use Rattle.r10_packet_rules.proofs.Fronts.{range_front, stays}
 use Rattle.r10_packet_rules.proofs.Ways.{first_again, packet_long}
 use Rattle.r10_packet_rules.proofs.Written.{packet_foreign}
-use Rattle.r10_packet_rules.specs.declared.file.Fault.{Fault}
+use Rattle.r10_packet_rules.specs.declared.file.FirstFault.{FirstFault}
 use Rattle.r10_file_rules.specs.declared.tracks.Tracks.{Tracks}
 use Rattle.r10_judge.specs.Judged.{KeepRules, KeepsRulesSoFar, BreaksAt, SaysClosed, MayMiss, unanswered_at}
 use Rattle.r10_judge.proofs.Answering.{no_report, quiet_at_end, report_answered_on}
@@ -81,8 +81,8 @@ breaks_less before packet more closed n foreign (broken_rules.reports p loss rea
 -- ---- the end
 
 -- a packet breaks a rule
-pub broken_at_fault : (closed : Bool) (at : Fault) (bytes : List ℕ) → BreaksAt closed at bytes → IsAtFault bytes closed at.offset at.fault
-broken_at_fault closed at bytes b = subst (λ (f : Fault). IsAtFault bytes closed f.offset f.fault) (sym b.at_is) (record {
+pub broken_at_fault : (closed : Bool) (at : FirstFault) (bytes : List ℕ) → BreaksAt closed at bytes → IsAtFault bytes closed at.offset at.fault
+broken_at_fault closed at bytes b = subst (λ (f : FirstFault). IsAtFault bytes closed f.offset f.fault) (sym b.at_is) (record {
   packets = b.packets;
   rest = b.packet ++ b.more;
   bytes_are = b.bytes_are;

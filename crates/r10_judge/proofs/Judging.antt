@@ -14,7 +14,7 @@ use Rattle.r10_body.specs.Faults.{IsAnswered, IsReportAnswered, ReadsPacket, Bre
 use Rattle.r10_body.specs.Faults as broken_rules
 use Rattle.r10_body.specs.declared.fault.FileFault.TheVariants.{Rule}
 use Rattle.std.specs.Prelude.{count_by}
-use Rattle.r10_packet_rules.specs.declared.file.Fault.{Fault}
+use Rattle.r10_packet_rules.specs.declared.file.FirstFault.{FirstFault}
 use Rattle.r10_packet_rules.proofs.Ways.{packet_long}
 use Rattle.r10_packet_rules.proofs.Written.{packet_foreign}
 use Rattle.r10_body.proofs.OneMeaning.{one_list}
@@ -151,7 +151,7 @@ first_of_index closed before p (Some n) index open_file first = by (cases_lt n 8
 -- ---- a packet more
 
 -- behind the one that breaks a rule
-pub breaks_on : (closed : Bool) (at : Fault) (bytes more : List ℕ) → BreaksAt closed at bytes → BreaksAt closed at (bytes ++ more)
+pub breaks_on : (closed : Bool) (at : FirstFault) (bytes more : List ℕ) → BreaksAt closed at bytes → BreaksAt closed at (bytes ++ more)
 breaks_on closed at bytes more b =
     let further : (later : List ℕ) → b.packet ++ ((b.more ++ more) ++ later) ≡ b.packet ++ (b.more ++ (more ++ later)) = λ later. ap (λ (l : List ℕ). b.packet ++ l) (append_assoc b.more more later) in
     record {
@@ -169,10 +169,10 @@ breaks_on closed at bytes more b =
     }
 
 -- what is broken where the bytes end
-pub broken_here : (closed : Bool) (at : Fault) (bytes : List ℕ) (b : BreaksAt closed at bytes) → BreaksRule b.packets (b.packet ++ b.more) closed b.number
+pub broken_here : (closed : Bool) (at : FirstFault) (bytes : List ℕ) (b : BreaksAt closed at bytes) → BreaksRule b.packets (b.packet ++ b.more) closed b.number
 broken_here closed at bytes b = subst (λ (l : List ℕ). BreaksRule b.packets (b.packet ++ l) closed b.number) (append-nil b.more) (b.broken [])
 
-pub least_here : (closed : Bool) (at : Fault) (bytes : List ℕ) (b : BreaksAt closed at bytes) (m : ℕ) → BreaksRule b.packets (b.packet ++ b.more) closed m → b.number ≤ m
+pub least_here : (closed : Bool) (at : FirstFault) (bytes : List ℕ) (b : BreaksAt closed at bytes) (m : ℕ) → BreaksRule b.packets (b.packet ++ b.more) closed m → b.number ≤ m
 least_here closed at bytes b m breaks = b.least [] m (subst (λ (l : List ℕ). BreaksRule b.packets (b.packet ++ l) closed m) (sym (append-nil b.more)) breaks)
 
 -- it breaks a rule
@@ -346,7 +346,7 @@ strict_is_whole bytes packets are each (text, entries, closed, (others, they, sa
     subst IsFile (one_list others packets say.file.each each (sym they ∙ are)) say.file
 
 -- no strict file has a packet that breaks a rule
-pub broken_is_none : (at : Fault) (bytes : List ℕ) → BreaksAt true at bytes → IsStrict bytes → ⊥
+pub broken_is_none : (at : FirstFault) (bytes : List ℕ) → BreaksAt true at bytes → IsStrict bytes → ⊥
 broken_is_none at bytes b (text, entries, closed, (all, they, say)) =
     let rest : List ℕ = b.packet ++ b.more in
     let next = next_packet b.packets all rest b.keep.strict say.file.each (sym they ∙ b.bytes_are) (omega (arith, length-append b.packet b.more, packet_long b.packet b.foreign)) in
@@ -362,23 +362,23 @@ broken_is_none at bytes b (text, entries, closed, (all, they, say)) =
 
 -- ---- what stands
 
-pub at_none : (o : Option Fault) (closed : Bool) (tracks : Tracks) (bytes : List ℕ) → o ≡ None → StandsAt o closed tracks bytes → KeepsRulesSoFar closed tracks bytes
+pub at_none : (o : Option FirstFault) (closed : Bool) (tracks : Tracks) (bytes : List ℕ) → o ≡ None → StandsAt o closed tracks bytes → KeepsRulesSoFar closed tracks bytes
 at_none o closed tracks bytes is stands = subst (λ x. StandsAt x closed tracks bytes) is stands
 
-pub at_some : (o : Option Fault) (at : Fault) (closed : Bool) (tracks : Tracks) (bytes : List ℕ) → o ≡ Some at → StandsAt o closed tracks bytes → BreaksAt closed at bytes
+pub at_some : (o : Option FirstFault) (at : FirstFault) (closed : Bool) (tracks : Tracks) (bytes : List ℕ) → o ≡ Some at → StandsAt o closed tracks bytes → BreaksAt closed at bytes
 at_some o at closed tracks bytes is stands = subst (λ x. StandsAt x closed tracks bytes) is stands
 
-pub none_stands : (o : Option Fault) (closed : Bool) (tracks : Tracks) (bytes : List ℕ) → o ≡ None → KeepsRulesSoFar closed tracks bytes → StandsAt o closed tracks bytes
+pub none_stands : (o : Option FirstFault) (closed : Bool) (tracks : Tracks) (bytes : List ℕ) → o ≡ None → KeepsRulesSoFar closed tracks bytes → StandsAt o closed tracks bytes
 none_stands o closed tracks bytes is goes = subst (λ x. StandsAt x closed tracks bytes) (sym is) goes
 
-pub some_stands : (o : Option Fault) (at : Fault) (closed kept : Bool) (tracks : Tracks) (bytes : List ℕ) → o ≡ Some at → kept ≡ closed → BreaksAt closed at bytes → StandsAt o kept tracks bytes
+pub some_stands : (o : Option FirstFault) (at : FirstFault) (closed kept : Bool) (tracks : Tracks) (bytes : List ℕ) → o ≡ Some at → kept ≡ closed → BreaksAt closed at bytes → StandsAt o kept tracks bytes
 some_stands o at closed kept tracks bytes is same b = subst (λ x. StandsAt x kept tracks bytes) (sym is) (subst (λ k. BreaksAt k at bytes) (sym same) b)
 
-pub still_broken : (o : Option Fault) (closed : Bool) (tracks : Tracks) (before packet : List ℕ) → is_some o ≡ true → StandsAt o closed tracks before → StandsAt o closed tracks (before ++ packet)
+pub still_broken : (o : Option FirstFault) (closed : Bool) (tracks : Tracks) (before packet : List ℕ) → is_some o ≡ true → StandsAt o closed tracks before → StandsAt o closed tracks (before ++ packet)
 still_broken None closed tracks before packet some stands = cc
 still_broken (Some at) closed tracks before packet some stands = breaks_on closed at before packet stands
 
-pub not_some : (o : Option Fault) → is_some o ≡ false → o ≡ None
+pub not_some : (o : Option FirstFault) → is_some o ≡ false → o ≡ None
 not_some None none = refl
 not_some (Some at) none = cc
 

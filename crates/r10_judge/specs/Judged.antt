@@ -8,7 +8,7 @@ use Rattle.r10_body.specs.Faults.{BreaksRule, IsReportAnswered, IsWrongHere}
 use Rattle.r10_body.specs.declared.entry.Entry.{Entry}
 use Rattle.r10_body.specs.declared.fault.FileFault.{FileFault}
 use Rattle.r10_body.specs.declared.fault.FileFault.TheVariants.{Rule}
-use Rattle.r10_packet_rules.specs.declared.file.Fault.{Fault}
+use Rattle.r10_packet_rules.specs.declared.file.FirstFault.{FirstFault}
 use Rattle.r10_file_rules.specs.Broken.{Breaks}
 pub use Rattle.r10_file_rules.specs.Tracks.{IsTracked}
 use Rattle.r10_file_rules.specs.declared.tracks.Tracks.{Tracks}
@@ -27,7 +27,7 @@ pub record KeepsRulesSoFar (closed : Bool) (tracks : Tracks) (bytes : List ℕ) 
   pub tracked : IsTracked tracks packets
 
 -- behind packets that keep the rules a packet of any recorder breaks one, whatever stands behind these bytes, and of those that it breaks this is the least
-pub record BreaksAt (closed : Bool) (at : Fault) (bytes : List ℕ) : Type 0 where
+pub record BreaksAt (closed : Bool) (at : FirstFault) (bytes : List ℕ) : Type 0 where
   pub packets : List Packet
   pub packet : List ℕ
   pub more : List ℕ
@@ -41,7 +41,7 @@ pub record BreaksAt (closed : Bool) (at : Fault) (bytes : List ℕ) : Type 0 whe
   pub least : (later : List ℕ) (m : ℕ) → BreaksRule packets (packet ++ (more ++ later)) closed m → number ≤ m
 
 -- where a judge stands behind these bytes of packets
-abbrev pub StandsAt : Option Fault → Bool → Tracks → List ℕ → Type 0
+abbrev pub StandsAt : Option FirstFault → Bool → Tracks → List ℕ → Type 0
 StandsAt None closed tracks bytes = KeepsRulesSoFar closed tracks bytes
 StandsAt (Some at) closed tracks bytes = BreaksAt closed at bytes
 
@@ -64,11 +64,11 @@ abbrev pub BreaksRuleOfFileFirst : Bool → List Packet → Packet → Option �
 BreaksRuleOfFileFirst closed before p None = MayFollow before p × (closed ≡ false → is_index p ≡ false)
 BreaksRuleOfFileFirst closed before p (Some n) = BreaksIn closed before p n × ((m : ℕ) → BreaksIn closed before p m → n ≤ m)
 
-abbrev pub stopped_at : List Packet → ℕ → Fault
+abbrev pub stopped_at : List Packet → ℕ → FirstFault
 stopped_at packets n = record { offset = length (file_bytes packets); fault = Rule n }
 
 -- where a report stands that stands last, and is not answered
-abbrev pub unanswered_at : List Packet → Fault
+abbrev pub unanswered_at : List Packet → FirstFault
 unanswered_at packets = record { offset = length (file_bytes packets) - 44; fault = Rule 11 }
 
 -- the least rule that an index packet of an unclosed file breaks, where these are those that it breaks beside

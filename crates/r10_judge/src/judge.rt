@@ -1,6 +1,7 @@
 //! Whether a file keeps the rules, packet by packet.
 
-ghost use Rattle.std.specs.Prelude.{◌≡◌, ◌↔◌, ◌⊎◌, ◌+◌, ◌<◌, ◌≤◌, ◌^◌, ◌++◌, ℕ, Bool, List, [], length, take, true, false, IsTrue, IfOk, IfErr, MatchOption, MatchResult, OnOk, OnErr, Ok, None, Some, is_some};
+ghost use Rattle.std.specs.Prelude.{◌≡◌, ◌↔◌, ◌⊎◌, ◌+◌, ◌<◌, ◌≤◌, ◌^◌, ◌++◌, ℕ, Bool, List, [], length, take, true, false, IsTrue};
+ghost use Rattle.std.specs.Prelude.{IfOk, IfErr, MatchOption, MatchResult, OnOk, OnErr, Ok, None, Some, is_some};
 ghost use Rattle.r10_packet.specs.Framing.{framing_fault, body_at};
 ghost use Rattle.r10_body.specs.Faults.{HasFault, IsAnswered, IsAtFault, IsReportAnswered};
 ghost use Rattle.r10_body.specs.Files.{IsStrict};
@@ -8,7 +9,8 @@ ghost use Rattle.r10_body.specs.Foreign.{IsForeignPacket};
 ghost use Rattle.r10_body.specs.Packets.{Packet, FitsPacket, packet_body, packet_bytes};
 ghost use Rattle.r10_body.specs.Rules.{EndsIndex, EndsReports, IsGapTold, KeepsChecksums, last_report};
 ghost use Rattle.r10_body.specs.Rules.{is_index as is_index_packet};
-ghost use Rattle.r10_judge.specs.Judged.{TracksJudged, KeepsRulesSoFar, BreaksRuleOfFileFirst, TracksStrictFile, MayMiss, SaysClosed, TellsAnswer, least_of_index, stopped_at, unanswered_at};
+ghost use Rattle.r10_judge.specs.Judged.{TracksJudged, KeepsRulesSoFar, BreaksRuleOfFileFirst, TracksStrictFile, MayMiss};
+ghost use Rattle.r10_judge.specs.Judged.{SaysClosed, TellsAnswer, least_of_index, stopped_at, unanswered_at};
 ghost use Rattle.r10_packet_rules.specs.Facts.{AreFactsOf, kind_of};
 ghost use Rattle.r10_packet_rules.specs.Strict.{FindsPacket};
 ghost use Rattle.r10_packet_rules.specs.Tracks.{IsFirst};
@@ -18,7 +20,7 @@ use r10_body::FileFault;
 use r10_file_rules::Tracks;
 use r10_indexbody::LossBody;
 use r10_packet_rules::{
-    AnyPacket, Facts, Fault, ForeignPacket, PacketKind, StrictReading, read_any, read_checked,
+    AnyPacket, Facts, FirstFault, ForeignPacket, PacketKind, StrictReading, read_any, read_checked,
     read_foreign,
 };
 use std::alloc::{AllocError, Global};
@@ -32,7 +34,7 @@ pub struct Judge {
     /// Whether the file's directory entry is closed.
     closed: bool,
     /// Where a packet first breaks a rule, if one does.
-    broken: Option<Fault>,
+    broken: Option<FirstFault>,
 }
 
 impl Judge {
@@ -50,7 +52,8 @@ impl Judge {
 
     /// Takes the next packet, whoever wrote it. Where memory is refused, it isn't taken.
     pub fn take(&mut self, packet: &[u8]) -> Result<(), AllocError>
-        ensures taken { (before : List ℕ) → TracksJudged self.old before → IsForeignPacket packet.now → length (before ++ packet.now) < 2 ^ 63 → OnOk result (TracksJudged self.new (before ++ packet.now)) }
+        ensures taken { (before : List ℕ) → TracksJudged self.old before → IsForeignPacket packet.now
+            → length (before ++ packet.now) < 2 ^ 63 → OnOk result (TracksJudged self.new (before ++ packet.now)) }
         ensures kept { (before : List ℕ) → TracksJudged self.old before → OnErr result (TracksJudged self.new before) }
         ensures closed { self.new.closed ≡ self.old.closed }
     {
@@ -64,7 +67,8 @@ impl Judge {
     /// Takes the next packet, whoever wrote it, of which this is what its strict reading finds. Where memory is refused, it
     /// isn't taken.
     fn take_read(&mut self, reading: &StrictReading, packet: &[u8]) -> Result<(), AllocError>
-        ensures taken { (before : List ℕ) → TracksJudged self.old before → IsForeignPacket packet.now → FindsPacket packet.now reading.now → length (before ++ packet.now) < 2 ^ 63
+        ensures taken { (before : List ℕ) → TracksJudged self.old before → IsForeignPacket packet.now
+            → FindsPacket packet.now reading.now → length (before ++ packet.now) < 2 ^ 63
             → OnOk result (TracksJudged self.new (before ++ packet.now)) }
         ensures kept { (before : List ℕ) → TracksJudged self.old before → OnErr result (TracksJudged self.new before) }
         ensures closed { self.new.closed ≡ self.old.closed }
@@ -92,7 +96,8 @@ impl Judge {
         bytes: &[u8],
     ) -> Result<Result<ForeignPacket, FileFault>, AllocError>
         ensures found { IfOk result (λ r. IfOk r (IsFirst bytes.now)) }
-        ensures taken { IfOk result (λ r. IfOk r (λ packet. (before : List ℕ) → TracksJudged self.old before → length (before ++ take packet.length bytes.now) < 2 ^ 63
+        ensures taken { IfOk result (λ r. IfOk r
+            (λ packet. (before : List ℕ) → TracksJudged self.old before → length (before ++ take packet.length bytes.now) < 2 ^ 63
             → TracksJudged self.new (before ++ take packet.length bytes.now))) }
         ensures fault { IfOk result (λ r. IfErr r (HasFault bytes.now)) }
         ensures kept { IfOk result (λ r. OnErr r (self.new ≡ self.old)) }
@@ -115,8 +120,10 @@ impl Judge {
     ) -> Result<Result<ForeignPacket, FileFault>, AllocError>
         requires { any.now.packet.length ≤ length bytes.now }
         ensures packet { IfOk result (λ r. r ≡ Ok any.now.packet) }
-        ensures taken { IsFirst bytes.now any.now.packet → FindsPacket (take any.now.packet.length bytes.now) any.now.reading → IfOk result (λ _. (before : List ℕ) → TracksJudged self.old before
-            → length (before ++ take any.now.packet.length bytes.now) < 2 ^ 63 → TracksJudged self.new (before ++ take any.now.packet.length bytes.now)) }
+        ensures taken { IsFirst bytes.now any.now.packet → FindsPacket (take any.now.packet.length bytes.now) any.now.reading
+            → IfOk result (λ _. (before : List ℕ) → TracksJudged self.old before
+            → length (before ++ take any.now.packet.length bytes.now) < 2 ^ 63
+            → TracksJudged self.new (before ++ take any.now.packet.length bytes.now)) }
         ensures closed { self.new.closed ≡ self.old.closed }
     {
         self.take_read(&any.reading, &bytes[..any.packet.length])?;
@@ -143,8 +150,9 @@ impl Judge {
 
     /// Where and how the file that ends here is at fault under its directory entry; `None` where it is a
     /// strict file with that closing.
-    pub fn end(&self) -> Option<Fault>
-        ensures { (bytes : List ℕ) → TracksJudged self.now bytes → MatchOption result (SaysClosed bytes self.now.closed) (λ at. IsAtFault bytes self.now.closed at.offset at.fault) }
+    pub fn end(&self) -> Option<FirstFault>
+        ensures { (bytes : List ℕ) → TracksJudged self.now bytes
+            → MatchOption result (SaysClosed bytes self.now.closed) (λ at. IsAtFault bytes self.now.closed at.offset at.fault) }
     {
         match self.first_broken() {
             Some(at) => Some(at),
@@ -154,8 +162,9 @@ impl Judge {
 
     /// What is kept of the packets of a strict file with the closing of its directory entry; else where and
     /// how the file is at fault that ends here.
-    pub fn finish(self) -> Result<Tracks, Fault>
-        ensures { (bytes : List ℕ) → TracksJudged self bytes → MatchResult result (λ tracks. TracksStrictFile self.closed tracks bytes) (λ at. IsAtFault bytes self.closed at.offset at.fault) }
+    pub fn finish(self) -> Result<Tracks, FirstFault>
+        ensures { (bytes : List ℕ) → TracksJudged self bytes → MatchResult result
+            (λ tracks. TracksStrictFile self.closed tracks bytes) (λ at. IsAtFault bytes self.closed at.offset at.fault) }
     {
         match self.first_broken() {
             Some(at) => Err(at),
@@ -164,8 +173,9 @@ impl Judge {
     }
 
     /// What is kept of packets that keep the rules, or the fault of the file that ends behind them.
-    fn finish_packets(self) -> Result<Tracks, Fault>
-        ensures { (bytes : List ℕ) → KeepsRulesSoFar self.closed self.tracks bytes → MatchResult result (λ tracks. TracksStrictFile self.closed tracks bytes) (λ at. IsAtFault bytes self.closed at.offset at.fault) }
+    fn finish_packets(self) -> Result<Tracks, FirstFault>
+        ensures { (bytes : List ℕ) → KeepsRulesSoFar self.closed self.tracks bytes → MatchResult result
+            (λ tracks. TracksStrictFile self.closed tracks bytes) (λ at. IsAtFault bytes self.closed at.offset at.fault) }
     {
         match self.end_of_packets() {
             Some(missing) => Err(missing),
@@ -186,8 +196,9 @@ impl Judge {
 
     /// Where and how the file is at fault whose next packet has this fault of framing, checksum or body: there, or
     /// where a packet before it breaks a rule. It is told whether that packet answers the report that stands last.
-    pub fn fault_behind(&self, fault: FileFault, answered: bool) -> Fault
-        ensures { (before rest : List ℕ) → TracksJudged self.now before → (0 < length rest) ⊎ (length before ≡ 0) → HasFault rest fault → TellsAnswer answered self.now.tracks rest
+    pub fn fault_behind(&self, fault: FileFault, answered: bool) -> FirstFault
+        ensures { (before rest : List ℕ) → TracksJudged self.now before → (0 < length rest) ⊎ (length before ≡ 0)
+            → HasFault rest fault → TellsAnswer answered self.now.tracks rest
             → IsAtFault (before ++ rest) self.now.closed result.offset result.fault }
     {
         match self.first_broken() {
@@ -197,49 +208,52 @@ impl Judge {
     }
 
     /// The fault of a file whose packets keep the rules and whose next packet has this fault.
-    fn next_fault(&self, fault: FileFault, answered: bool) -> Fault
-        ensures { (before rest : List ℕ) → KeepsRulesSoFar self.now.closed self.now.tracks before → (0 < length rest) ⊎ (length before ≡ 0) → HasFault rest fault → TellsAnswer answered self.now.tracks rest
+    fn next_fault(&self, fault: FileFault, answered: bool) -> FirstFault
+        ensures { (before rest : List ℕ) → KeepsRulesSoFar self.now.closed self.now.tracks before
+            → (0 < length rest) ⊎ (length before ≡ 0) → HasFault rest fault → TellsAnswer answered self.now.tracks rest
             → IsAtFault (before ++ rest) self.now.closed result.offset result.fault }
     {
         if !answered {
             return self.unanswered();
         }
         let offset = self.tracks.bytes();
-        Fault { offset, fault }
+        FirstFault { offset, fault }
     }
 
     /// The fault of a report that stands last and isn't answered.
-    fn unanswered(&self) -> Fault
+    fn unanswered(&self) -> FirstFault
         ensures { (packets : List Packet) → IsTracked self.now.tracks packets → result ≡ unanswered_at packets }
     {
         let offset = self.tracks.bytes().saturating_sub(44);
         let fault = FileFault::Rule(11);
-        Fault { offset, fault }
+        FirstFault { offset, fault }
     }
 
-    fn first_broken(&self) -> Option<Fault>
+    fn first_broken(&self) -> Option<FirstFault>
         ensures { result ≡ self.now.broken }
     {
         self.broken
     }
 
     /// The fault of a file whose packets keep the rules.
-    fn end_of_packets(&self) -> Option<Fault>
-        ensures { (bytes : List ℕ) → KeepsRulesSoFar self.now.closed self.now.tracks bytes → MatchOption result (SaysClosed bytes self.now.closed) (λ at. IsAtFault bytes self.now.closed at.offset at.fault) }
+    fn end_of_packets(&self) -> Option<FirstFault>
+        ensures { (bytes : List ℕ) → KeepsRulesSoFar self.now.closed self.now.tracks bytes
+            → MatchOption result (SaysClosed bytes self.now.closed) (λ at. IsAtFault bytes self.now.closed at.offset at.fault) }
     {
         if self.tracks.report().is_some() {
             return Some(self.unanswered());
         }
         let offset = self.tracks.bytes();
         match self.missing() {
-            Some(fault) => Some(Fault { offset, fault }),
+            Some(fault) => Some(FirstFault { offset, fault }),
             None => None,
         }
     }
 
     /// What is missing behind packets that keep the rules: a first packet, a time, or the index.
     fn missing(&self) -> Option<FileFault>
-        ensures { (bytes : List ℕ) (goes : KeepsRulesSoFar self.now.closed self.now.tracks bytes) → MayMiss self.now.closed goes.packets result }
+        ensures { (bytes : List ℕ) (goes : KeepsRulesSoFar self.now.closed self.now.tracks bytes)
+            → MayMiss self.now.closed goes.packets result }
     {
         let packets = self.tracks.packets();
         if packets == 0 {
@@ -253,7 +267,8 @@ impl Judge {
 
     /// That the index is missing, or nodes or a root of it, of a file with setup and time whose directory entry is closed.
     fn missing_index(&self) -> Option<FileFault>
-        ensures { (bytes : List ℕ) (goes : KeepsRulesSoFar self.now.closed self.now.tracks bytes) → 2 ≤ length goes.packets → MayMiss self.now.closed goes.packets result }
+        ensures { (bytes : List ℕ) (goes : KeepsRulesSoFar self.now.closed self.now.tracks bytes) → 2 ≤ length goes.packets
+            → MayMiss self.now.closed goes.packets result }
     {
         if !self.closed {
             return None;
@@ -273,7 +288,8 @@ impl Judge {
 
     /// Whether the packets are two at least, have a whole index or no index packet, and no report stands last.
     fn is_whole(&self) -> bool
-        ensures { (packets : List Packet) → IsTracked self.now.tracks packets → (IsTrue result ↔ ((2 ≤ length packets) × EndsIndex packets × EndsReports packets)) }
+        ensures { (packets : List Packet) → IsTracked self.now.tracks packets
+            → (IsTrue result ↔ ((2 ≤ length packets) × EndsIndex packets × EndsReports packets)) }
     {
         if self.tracks.packets() < 2 {
             return false;
@@ -294,7 +310,8 @@ impl Judge {
     /// Takes the next packet, which keeps the first three rules: it is added, or breaks another one.
     fn take_strict(&mut self, facts: &Facts, body: &[u8]) -> Result<(), AllocError>
         requires { self.old.broken ≡ None }
-        ensures taken { (before : List ℕ) (p : Packet) (goes : KeepsRulesSoFar self.old.closed self.old.tracks before) → KeepsChecksums p → IsGapTold (last_report goes.packets) p → IsReportAnswered goes.packets (packet_bytes p)
+        ensures taken { (before : List ℕ) (p : Packet) (goes : KeepsRulesSoFar self.old.closed self.old.tracks before)
+            → KeepsChecksums p → IsGapTold (last_report goes.packets) p → IsReportAnswered goes.packets (packet_bytes p)
             → AreFactsOf facts.now p → body.now ≡ packet_body p → FitsPacket p
             → length (before ++ packet_bytes p) < 2 ^ 63 → OnOk result (TracksJudged self.new (before ++ packet_bytes p)) }
         ensures kept { (before : List ℕ) → TracksJudged self.old before → OnErr result (TracksJudged self.new before) }
@@ -311,7 +328,8 @@ impl Judge {
 
     /// The least of the rules from 4 on that the next packet breaks.
     fn rule(&self, facts: &Facts, body: &[u8]) -> Option<u8>
-        ensures { (packets : List Packet) (p : Packet) → IsTracked self.now.tracks packets → FitsPacket p → KeepsChecksums p → IsGapTold (last_report packets) p → AreFactsOf facts.now p → body.now ≡ packet_body p
+        ensures { (packets : List Packet) (p : Packet) → IsTracked self.now.tracks packets → FitsPacket p
+            → KeepsChecksums p → IsGapTold (last_report packets) p → AreFactsOf facts.now p → body.now ≡ packet_body p
             → BreaksRuleOfFileFirst self.now.closed packets p result }
     {
         let rule = self.tracks.rule(facts, body);
@@ -328,18 +346,20 @@ impl Judge {
     fn stop(&mut self, rule: u8)
         ensures tracks { self.new.tracks ≡ self.old.tracks }
         ensures closed { self.new.closed ≡ self.old.closed }
-        ensures broken { (packets : List Packet) → IsTracked self.old.tracks packets → self.new.broken ≡ Some (stopped_at packets rule) }
+        ensures broken { (packets : List Packet) → IsTracked self.old.tracks packets
+            → self.new.broken ≡ Some (stopped_at packets rule) }
     {
         let offset = self.tracks.bytes();
         let fault = FileFault::Rule(rule);
-        self.broken = Some(Fault { offset, fault });
+        self.broken = Some(FirstFault { offset, fault });
     }
 
     /// Stops at the report that stands last.
     fn stop_at_report(&mut self)
         ensures tracks { self.new.tracks ≡ self.old.tracks }
         ensures closed { self.new.closed ≡ self.old.closed }
-        ensures broken { (packets : List Packet) → IsTracked self.old.tracks packets → self.new.broken ≡ Some (unanswered_at packets) }
+        ensures broken { (packets : List Packet) → IsTracked self.old.tracks packets
+            → self.new.broken ≡ Some (unanswered_at packets) }
     {
         self.broken = Some(self.unanswered());
     }

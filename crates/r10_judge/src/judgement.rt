@@ -12,7 +12,7 @@ use crate::window::{Walked, walk_bytes, walk_file};
 use r10_blockout::ReadFault;
 use r10_file_rules::Tracks;
 use r10_medium::BlockMedium;
-use r10_packet_rules::Fault;
+use r10_packet_rules::FirstFault;
 use std::alloc::{AllocError, Global};
 
 /// What a file is under its directory entry.
@@ -22,7 +22,7 @@ pub enum Judgement {
     /// the book of its index.
     Strict(Tracks),
     /// The packet at this offset is at fault, the first one that is.
-    Faulty(Fault),
+    Faulty(FirstFault),
 }
 
 /// Judges a file whose directory entry is closed or not, which lies inside the medium: each of its bytes is
@@ -41,7 +41,7 @@ pub fn judge_file<M: BlockMedium>(
     ensures counts { ReadHasCause (M.disk medium.old) (M.disk medium.new) result }
 {
     match walk_file(alloc, medium, extent, closed, buffer) {
-        Ok(walked) => Ok(judged(walked)),
+        Ok(walked) => Ok(judgement_of(walked)),
         Err(fault) => Err(fault),
     }
 }
@@ -51,13 +51,13 @@ pub fn judge_bytes(alloc: Global, bytes: &[u8], closed: bool) -> Result<Judgemen
     ensures { IfOk result (IsJudged bytes.now closed) }
 {
     match walk_bytes(alloc, bytes, closed) {
-        Ok(walked) => Ok(judged(walked)),
+        Ok(walked) => Ok(judgement_of(walked)),
         Err(error) => Err(error),
     }
 }
 
 /// What a file is that was walked.
-fn judged(walked: Walked) -> Judgement
+fn judgement_of(walked: Walked) -> Judgement
     ensures { (bytes : List ℕ) → IsWalked bytes walked → IsJudged bytes walked.walk.judge.closed result }
 {
     let Walked {

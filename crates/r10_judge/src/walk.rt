@@ -44,10 +44,12 @@ impl Walk {
     /// Takes the packets that stand in bytes, up to the first that is at fault.
     pub(crate) fn take(&mut self, bytes: &[u8]) -> Result<Taken, AllocError>
         requires { (before : List ℕ) × TracksWalked self.old before × (length before + length bytes.now < 2 ^ 63) }
-        ensures stands { IfOk result (λ taken. (before : List ℕ) → TracksWalked self.old before → TracksWalked self.new (before ++ take taken.length bytes.now)) }
+        ensures stands { IfOk result (λ taken. (before : List ℕ) → TracksWalked self.old before
+            → TracksWalked self.new (before ++ take taken.length bytes.now)) }
         ensures inside { IfOk result (λ taken. taken.length ≤ length bytes.now) }
         ensures ends { IfOk result (λ taken. EndsWithFault taken.fault (drop taken.length bytes.now)) }
-        ensures answered { IfOk result (λ taken. IfSome taken.fault (λ _. TellsAnswer taken.answered self.new.judge.tracks (drop taken.length bytes.now))) }
+        ensures answered { IfOk result
+            (λ taken. IfSome taken.fault (λ _. TellsAnswer taken.answered self.new.judge.tracks (drop taken.length bytes.now))) }
         ensures closed { self.new.judge.closed ≡ self.old.judge.closed }
     {
         let mut done = 0;

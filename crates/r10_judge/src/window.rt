@@ -1,6 +1,7 @@
 //! A file's bytes, read window by window.
 
-ghost use Rattle.std.specs.Prelude.{◌≡◌, ◌+◌, ◌-◌, ◌*◌, ◌<◌, ◌≤◌, ◌^◌, ℕ, List, length, take, true, None, Some, IfOk, IfSome, IfNone, ◌⊎◌};
+ghost use Rattle.std.specs.Prelude.{◌≡◌, ◌+◌, ◌-◌, ◌*◌, ◌<◌, ◌≤◌, ◌^◌, ℕ, List, length, take, true, None, Some};
+ghost use Rattle.std.specs.Prelude.{IfOk, IfSome, IfNone, ◌⊎◌};
 ghost use Rattle.r10_medium.specs.Disk.{Unchanged};
 ghost use Rattle.r10_blockout.specs.Bytes.{ReadHasCause};
 ghost use Rattle.r10_body.specs.declared.fault.FileFault.TheVariants as file_faults;
@@ -110,9 +111,11 @@ fn take_window<M: BlockMedium>(
     requires at { at < extent.size }
     requires window { 0 < window }
     requires walked { TracksWalked walk.old (take at (file_at (M.disk medium.old).blocks extent)) }
-    ensures stands { IfOk result (λ taken. TracksWalked walk.new (take (at + taken.length) (file_at (M.disk medium.old).blocks extent))) }
+    ensures stands { IfOk result
+        (λ taken. TracksWalked walk.new (take (at + taken.length) (file_at (M.disk medium.old).blocks extent))) }
     ensures inside { IfOk result (λ taken. at + taken.length ≤ extent.size) }
-    ensures fault { IfOk result (λ taken. IfSome taken.fault (IsFaultTold (file_at (M.disk medium.old).blocks extent) (at + taken.length) taken.answered walk.new.judge.tracks)) }
+    ensures fault { IfOk result (λ taken. IfSome taken.fault
+        (IsFaultTold (file_at (M.disk medium.old).blocks extent) (at + taken.length) taken.answered walk.new.judge.tracks)) }
     ensures cut { IfOk result (λ taken. taken.length ≡ 0 → taken.fault ≡ None → window < extent.size - at) }
     ensures closed { walk.new.judge.closed ≡ walk.old.judge.closed }
     ensures same { Unchanged (M.disk medium.old) (M.disk medium.new) }

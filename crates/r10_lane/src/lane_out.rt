@@ -1,6 +1,7 @@
 //! The end of a lane from which samples are taken.
 
-ghost use Rattle.std.specs.Prelude.{◌≡◌, ◌≤◌, ◌++◌, ℕ, List, [], ◌∷◌, length, slice_get, Option, Some, None, IfSome, MatchOption, option_copied};
+ghost use Rattle.std.specs.Prelude.{◌≡◌, ◌≤◌, ◌++◌, ℕ, List, [], ◌∷◌, length, slice_get, Option, Some};
+ghost use Rattle.std.specs.Prelude.{None, IfSome, MatchOption, option_copied};
 ghost use Rattle.std.specs.Borrow.{sem};
 ghost use Rattle.std.specs.Io.BufRead.{Rests};
 ghost use Rattle.r10_count.specs.Count.{IsCount};
@@ -45,7 +46,8 @@ pub trait LaneOut {
 
     /// The first sample, which stays. The next `take`, and each `front` before it, give the same one.
     fn front(&mut self) -> Option<&Sample>
-        ensures* after { sem 𝓛 (Rests Self.row self.entry (λ new. took self.old [] new × ((first : SampleValue) → shows self.old first → shows new first) × IfSome result (λ first. shows new first.now))) }
+        ensures* after { sem 𝓛 (Rests Self.row self.entry (λ new. took self.old [] new
+            × ((first : SampleValue) → shows self.old first → shows new first) × IfSome result (λ first. shows new first.now))) }
         ensures shown { (first : SampleValue) → shows self.old first → option_copied result ≡ Some first }
         ensures quiet { IfSome (quiet self.old) (λ waiting. option_copied result ≡ slice_get waiting 0) };
 
@@ -81,5 +83,6 @@ pub trait LaneOut {
     ghost gives: { (a b : Self) (xs : List SampleValue) → took a xs b → Gives (spec_of a) (reached a) xs (reached b) };
 
     /// What is taken from a quiet lane is the front of what waits, and the rest waits on.
-    ghost stays_quiet: { (a b : Self) (xs waiting : List SampleValue) → took a xs b → quiet a ≡ Some waiting → (rest : List SampleValue) × (quiet b ≡ Some rest) × (waiting ≡ xs ++ rest) };
+    ghost stays_quiet: { (a b : Self) (xs waiting : List SampleValue) → took a xs b → quiet a ≡ Some waiting
+        → (rest : List SampleValue) × (quiet b ≡ Some rest) × (waiting ≡ xs ++ rest) };
 }

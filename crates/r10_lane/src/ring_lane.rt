@@ -149,7 +149,8 @@ fn last_in(last: Option<Count>) -> u64
 impl LaneOut for RingLane {
     ghost use Rattle.std.specs.Prelude.{◌≡◌, Some, slice_get};
     ghost use Rattle.r10_lane.specs.Lanes.{TookWaiting, reached};
-    ghost use Rattle.r10_lane.specs.Laws.{lane_took_joins, lane_took_nothing, lane_took_stays, lane_took_keeps_spec, lane_took_rises, lane_took_gives, lane_took_stays_quiet};
+    ghost use Rattle.r10_lane.specs.Laws.{lane_took_joins, lane_took_nothing, lane_took_stays, lane_took_keeps_spec};
+    ghost use Rattle.r10_lane.specs.Laws.{lane_took_rises, lane_took_gives, lane_took_stays_quiet};
 
     ghost spec_of = { λ lane. lane.spec };
 

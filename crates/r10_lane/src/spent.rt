@@ -31,7 +31,8 @@ impl Spent {
 
 impl LaneOut for Spent {
     ghost use Rattle.std.specs.Prelude.{◌≡◌, [], Some};
-    ghost use Rattle.r10_lane.specs.Spending.{GaveNothing, all_counts, gave_gives, gave_joins, gave_nothing, gave_keeps_spec, gave_rises, gave_stays, gave_stays_quiet};
+    ghost use Rattle.r10_lane.specs.Spending.{GaveNothing, all_counts, gave_gives, gave_joins, gave_nothing, gave_keeps_spec};
+    ghost use Rattle.r10_lane.specs.Spending.{gave_rises, gave_stays, gave_stays_quiet};
 
     ghost spec_of = { λ lane. lane };
 

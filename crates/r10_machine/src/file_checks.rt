@@ -11,7 +11,8 @@ use r10_count::{Civil, Count, Parts};
 
 /// A file whose name isn't taken, behind a last one that is closed, where there are fewer than so many.
 pub fn check_beside(taken: bool, sealed: bool, files: usize, most: usize) -> Result<(), Refusal>
-    ensures { Tests (first_broken ((not taken, refusals.NameTaken) ∷ (sealed, refusals.Unsealed) ∷ (nat_lt files most, refusals.DirectoryFull) ∷ [])) result }
+    ensures { Tests (first_broken
+        ((not taken, refusals.NameTaken) ∷ (sealed, refusals.Unsealed) ∷ (nat_lt files most, refusals.DirectoryFull) ∷ [])) result }
 {
     if taken {
         return Err(Refusal::NameTaken);
@@ -47,7 +48,8 @@ pub fn check_erase(generation: u64) -> Result<(), Refusal>
 
 /// A count of 48 bits, in one of so many files.
 pub fn check_find(files: usize, file: usize, count: u64) -> Result<Count, Refusal>
-    ensures { MatchResult result (λ c. (c ≡ count) × (first_broken (find_checks files file count) ≡ None)) (λ r. first_broken (find_checks files file count) ≡ Some r) }
+    ensures { MatchResult result (λ c. (c ≡ count) × (first_broken (find_checks files file count) ≡ None))
+        (λ r. first_broken (find_checks files file count) ≡ Some r) }
 {
     let Some(count) = Count::of(count) else {
         return Err(Refusal::CountRange);
@@ -60,7 +62,8 @@ pub fn check_find(files: usize, file: usize, count: u64) -> Result<Count, Refusa
 
 /// A civil time that is there, in one of so many files.
 pub fn check_count_at(files: usize, file: usize, parts: Parts) -> Result<Civil, Refusal>
-    ensures { MatchResult result (λ c. (c ≡ parts) × (first_broken (count_at_checks files file parts) ≡ None)) (λ r. first_broken (count_at_checks files file parts) ≡ Some r) }
+    ensures { MatchResult result (λ c. (c ≡ parts) × (first_broken (count_at_checks files file parts) ≡ None))
+        (λ r. first_broken (count_at_checks files file parts) ≡ Some r) }
 {
     let Some(civil) = Civil::of(parts) else {
         return Err(Refusal::BadCivil);

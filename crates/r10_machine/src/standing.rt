@@ -22,15 +22,17 @@ ghost use Rattle.r10_blockout.specs.Blocks.{bytes_from};
 pub fn files_stand()
     ensures closed { (s : Config) (old new : Image) (files : List File) → IsWhole old → IsWhole new
         → MediumSays s old files → (kept : ℕ) → SameBelow (next_block s files) kept old new → MediumSays s new files }
-    ensures growing { (s : Config) (old new : Image) (files : List File) (f : File) → IsWhole old → IsWhole new → MediumSays s old (files ++ f ∷ [])
-        → (kept : ℕ) → SameBelow f.first_block kept old new → bytes_from new f.first_block f.size ≡ bytes_from old f.first_block f.size → MediumSays s new (files ++ f ∷ []) }
+    ensures growing { (s : Config) (old new : Image) (files : List File) (f : File) → IsWhole old
+        → IsWhole new → MediumSays s old (files ++ f ∷ []) → (kept : ℕ) → SameBelow f.first_block kept old new
+        → bytes_from new f.first_block f.size ≡ bytes_from old f.first_block f.size → MediumSays s new (files ++ f ∷ []) }
 {}
 
 /// Where a directory is written anew in its reserved blocks, and a recorder takes it into use, the
 /// medium says the files that it lists then, where their bytes were there before.
 pub fn directories_turn()
-    ensures { (s : Config) (old new : Image) (chain : List ChainBlock) (changed : List ℕ) (files : List File) → IsWhole old → length old ≡ s.blocks
-        → Turned chain changed old new → All (λ n. n ≤ s.directory) changed → first_broken (mount_rules s.directory s.blocks chain) ≡ None
+    ensures { (s : Config) (old new : Image) (chain : List ChainBlock) (changed : List ℕ) (files : List File)
+        → IsWhole old → length old ≡ s.blocks → Turned chain changed old new
+        → All (λ n. n ≤ s.directory) changed → first_broken (mount_rules s.directory s.blocks chain) ≡ None
         → SaysEach old (listed_files chain) files → MediumSays s new files }
 {}
 
@@ -38,6 +40,7 @@ pub fn directories_turn()
 pub fn files_are_listed()
     ensures more { (image : Image) (entries : List DirectoryEntry) (files : List File) (e : DirectoryEntry) (f : File)
         → SaysEach image entries files → Lists f e → SaysFile image f → SaysEach image (entries ++ e ∷ []) (files ++ f ∷ []) }
-    ensures last { (image : Image) (entries : List DirectoryEntry) (files : List File) (before : File) (e : DirectoryEntry) (f : File)
-        → SaysEach image entries (files ++ before ∷ []) → Lists f e → SaysFile image f → SaysEach image (with_last_entry e entries) (files ++ f ∷ []) }
+    ensures last { (image : Image) (entries : List DirectoryEntry) (files : List File) (before : File)
+        (e : DirectoryEntry) (f : File) → SaysEach image entries (files ++ before ∷ []) → Lists f e → SaysFile image f
+        → SaysEach image (with_last_entry e entries) (files ++ f ∷ []) }
 {}

@@ -13,7 +13,8 @@ pub fn publish<M: BlockMedium>(
     block: &[u8; 512],
 ) -> Result<(), MediumFault>
     requires { n < length (M.disk medium.old).blocks }
-    ensures moments { Leaves (λ image. MayLeave (M.disk medium.old) image ⊎ (image ≡ slice_set (M.disk medium.old).blocks n block.now))
+    ensures moments { Leaves
+        (λ image. MayLeave (M.disk medium.old) image ⊎ (image ≡ slice_set (M.disk medium.old).blocks n block.now))
         (M.disk medium.old) (M.disk medium.new) }
     ensures reads { MayPut n block.now (M.disk medium.old).blocks (M.disk medium.new).blocks }
     ensures written { OnOk result ((M.disk medium.new).blocks ≡ slice_set (M.disk medium.old).blocks n block.now) }

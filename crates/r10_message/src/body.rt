@@ -52,7 +52,8 @@ impl MessageBody {
     /// written them.
     pub fn decode(alloc: Global, body: &[u8]) -> Result<Reading<MessageBody>, AllocError>
         ensures found { IfOk result (ReadsBody (λ read. IsMessage read.entries body.now) (IsForeignMessage body.now)) }
-        ensures only { (entries : List MessageEntryValue) → IsMessage entries body.now → IfOk result (λ reading. reading ≡ Strict (record { entries = entries })) }
+        ensures only { (entries : List MessageEntryValue) → IsMessage entries body.now
+            → IfOk result (λ reading. reading ≡ Strict (record { entries = entries })) }
     {
         match read_body(alloc, 0, 0, body)? {
             Reading::Strict(entries) => Ok(Reading::Strict(MessageBody { entries })),

@@ -5,7 +5,7 @@ ghost use Rattle.r10_count.specs.Bytes.{flag_at};
 ghost use Rattle.r10_count.specs.Append.{Appends};
 ghost use Rattle.r10_message.specs.Message.{FitsMessage, message_entry, message_of, message_word};
 
-use r10_count::{BodyEntry, Bytes, Count, append_text, split_u32, unpadded};
+use r10_count::{BodyEntry, Bytes, Count, append_text, split_u32, strip_padding};
 use std::alloc::{AllocError, Global};
 
 /// A message with its time.
@@ -82,7 +82,7 @@ impl BodyEntry for MessageEntry {
         12
     }
 
-    fn told(front: &[u8]) -> Option<usize> {
+    fn entry_length(front: &[u8]) -> Option<usize> {
         let header = u32::from_le_bytes([front[8], front[9], front[10], front[11]]);
         let size = (header % 0x1_0000) as usize;
         Some(12 + size + size % 2)
@@ -136,7 +136,7 @@ impl BodyEntry for MessageEntry {
         let Some((header, rest)) = split_u32(rest) else {
             return Ok(None);
         };
-        let Some(text) = unpadded(rest, (header % 0x1_0000) as usize) else {
+        let Some(text) = strip_padding(rest, (header % 0x1_0000) as usize) else {
             return Ok(None);
         };
         Ok(Some(MessageEntry {

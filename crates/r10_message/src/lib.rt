@@ -1,5 +1,5 @@
-//! Message data packets: a body is written as exactly the bytes of its messages, and read as exactly the messages that this recorder
-//! writes so, as another recorder's, or as no body.
+//! Message data packets: a body is written as exactly the bytes of its messages, and read as exactly the messages that this
+//! recorder writes so, as another recorder's, or as no body.
 #![tactic(auto)]
 
 mod body;

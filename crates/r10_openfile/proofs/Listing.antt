@@ -28,7 +28,7 @@ use Rattle.r10_dirchain.proofs.Standing.{usable_of}
 use Rattle.r10_dirchain.proofs.Staying.{usable-added}
 use Rattle.r10_dirchain.proofs.Unique.{one_directory}
 use Rattle.r10_dirchain.proofs.Usable.{placed}
-use Rattle.r10_volume.specs.Holding.{HoldsFiles, IsWritten, Open}
+use Rattle.r10_volume.specs.Holding.{HoldsFiles, IsWritten, OpenState}
 use Rattle.r10_volume.proofs.Found.{found_stays}
 use Rattle.r10_body.proofs.Lengths.{file_some}
 use Rattle.r10_machine.specs.Checks.{is_sealed}
@@ -189,7 +189,7 @@ module _ (s : Config) (old : Image) (chain : List ChainBlock) (files : List File
 
   pub begun_holds : (new : Image) → Turned (added e chain) ((last_block chain).number ∷ spare chain) old new → HoldsFiles s new (added e chain) (Some (record { recording = r; shown = length r.out.entries })) (files ++ f ∷ [])
   begun_holds new turned =
-      let o : Open = record { recording = r; shown = length r.out.entries } in
+      let o : OpenState = record { recording = r; shown = length r.out.entries } in
       let keep = directory_keeps s old new ((last_block chain).number ∷ spare chain) files whole held.says turned.others reserved in
       record {
         says = begun_says new turned;

@@ -19,15 +19,18 @@ ghost use Rattle.r10_openfile.specs.Begun.{IsBegun, IsPut};
 
 /// While a file is written behind all others, what the medium says of them stays, and so does their directory.
 pub fn files_in_front_stay()
-    ensures says { (s : Config) (files : List File) (bytes : List ℕ) (old new : Image) → IsWhole old → IsPut (next_block s files) bytes old new → MediumSays s old files → MediumSays s new files }
-    ensures holds { (s : Config) (files : List File) (bytes : List ℕ) (old new : Image) → IsWhole old → IsPut (next_block s files) bytes old new → (chain : List ChainBlock)
+    ensures says { (s : Config) (files : List File) (bytes : List ℕ) (old new : Image) → IsWhole old
+        → IsPut (next_block s files) bytes old new → MediumSays s old files → MediumSays s new files }
+    ensures holds { (s : Config) (files : List File) (bytes : List ℕ) (old new : Image)
+        → IsWhole old → IsPut (next_block s files) bytes old new → (chain : List ChainBlock)
         → HoldsFiles s old chain None files → HoldsFiles s new chain None files }
 {}
 
 /// Once it is listed behind closed files, where the directory has a place for it, it is the one that is written, and
 /// the medium shows all its packets.
 pub fn begun_files_are_held()
-    ensures { (s : Config) (old new : Image) (chain : List ChainBlock) (files : List File) (r : Recording) (f : File) (e : DirectoryEntry) → IsWhole old → HoldsFiles s old chain None files → IsBegun s old files r f
-        → is_sealed files ≡ true → length files < most_files s → Lists f e → Turned (added e chain) ((last_block chain).number ∷ spare chain) old new
+    ensures { (s : Config) (old new : Image) (chain : List ChainBlock) (files : List File) (r : Recording) (f : File)
+        (e : DirectoryEntry) → IsWhole old → HoldsFiles s old chain None files → IsBegun s old files r f → is_sealed files ≡ true
+        → length files < most_files s → Lists f e → Turned (added e chain) ((last_block chain).number ∷ spare chain) old new
         → HoldsFiles s new (added e chain) (Some (record { recording = r; shown = length r.out.entries })) (files ++ f ∷ []) }
 {}

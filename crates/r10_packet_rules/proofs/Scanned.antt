@@ -11,7 +11,7 @@ use Rattle.r10_body.specs.declared.entry.Timed.{Timed}
 use Rattle.r10_packet_rules.specs.Glance.{AreEntries, IsGlimpse}
 use Rattle.r10_packet_rules.specs.Tally.{empty_tally, tally_behind, tally_of, with_message}
 use Rattle.r10_packet_rules.specs.declared.scan.Glimpse.{Glimpse}
-use Rattle.r10_packet_rules.specs.declared.tally.Tally.{Tally}
+use Rattle.r10_packet_rules.specs.declared.tally.EntryTally.{EntryTally}
 
 -- ---- one entry
 
@@ -35,14 +35,14 @@ to_glimpse : {E : Type 0} (form : Form E) (said : E → Timed) (setting count : 
     → (tail : List E) → IsSpelled form (form.count e) tail after → IsSpelled form g.count tail after
 to_glimpse form said setting count bytes after g e is tail s = subst (λ n. IsSpelled form n tail after) (is.same ∙ sym is.count) s
 
-sums_with : {E : Type 0} (form : Form E) (said : E → Timed) (setting count : ℕ) (bytes : List ℕ) (tally : Tally) (g : Glimpse) (e : E)
+sums_with : {E : Type 0} (form : Form E) (said : E → Timed) (setting count : ℕ) (bytes : List ℕ) (tally : EntryTally) (g : Glimpse) (e : E)
     → IsGlimpse form said setting count bytes g e → with_message tally (said e) ≡ tally_behind tally g.count g.cost
 sums_with form said setting count bytes tally g e is = sym (ap (λ n. tally_behind tally n g.cost) is.count ∙ ap (λ n. tally_behind tally (said e).count n) is.cost)
 
 -- ---- all entries
 
 -- what the entries so far come to, and those that the rest is, come to what all do
-pub record Scanned {E : Type 0} (form : Form E) (said : E → Timed) (setting before : ℕ) (bytes : List ℕ) (count : ℕ) (rest : List ℕ) (tally : Tally) : Type 0 where
+pub record Scanned {E : Type 0} (form : Form E) (said : E → Timed) (setting before : ℕ) (bytes : List ℕ) (count : ℕ) (rest : List ℕ) (tally : EntryTally) : Type 0 where
   pub some : (tail : List E) → SuitsAll form setting tail → IsSpelled form count tail rest
       → (all : List E) × AreEntries form setting before all bytes × (tally_of (map said all) ≡ fold with_message tally (map said tail))
   pub only : (all : List E) → AreEntries form setting before all bytes → (tail : List E) × SuitsAll form setting tail × IsSpelled form count tail rest
@@ -70,7 +70,7 @@ scanned_first form said setting before bytes after g e is q opens =
       cheap = omega (arith, is.cheap);
     }
 
-pub scanned_more : {E : Type 0} (form : Form E) (said : E → Timed) (setting before : ℕ) (bytes : List ℕ) (count : ℕ) (rest after : List ℕ) (tally : Tally) (g : Glimpse) (e : E)
+pub scanned_more : {E : Type 0} (form : Form E) (said : E → Timed) (setting before : ℕ) (bytes : List ℕ) (count : ℕ) (rest after : List ℕ) (tally : EntryTally) (g : Glimpse) (e : E)
     → IsGlimpse form said setting count (form.spelled count e) g e → rest ≡ form.spelled count e ++ after
     → Scanned form said setting before bytes count rest tally → Scanned form said setting before bytes g.count after (tally_behind tally g.count g.cost)
 scanned_more form said setting before bytes count rest after tally g e is q so_far =
@@ -91,7 +91,7 @@ scanned_more form said setting before bytes count rest after tally g e is q so_f
     }
 
 -- with one entry or more: while the counts rise, the last one is the greatest
-abbrev pub tally_at : ℕ → ℕ → ℕ → ℕ → ℕ → Bool → Tally
+abbrev pub tally_at : ℕ → ℕ → ℕ → ℕ → ℕ → Bool → EntryTally
 tally_at entries cost first last greatest rise = record { entries = entries; cost = cost; counts = Some (record { first = first; last = last; greatest = greatest; rise = rise }) }
 
 pub record ScannedTo {E : Type 0} (form : Form E) (said : E → Timed) (setting before : ℕ) (bytes : List ℕ) (entries cost first last greatest : ℕ) (rise : Bool) (rest : List ℕ) : Type 0 where
@@ -146,23 +146,23 @@ pub stuck : {E : Type 0} (form : Form E) (setting count : ℕ) (rest : List ℕ)
 stuck form setting count rest [] lt none suits s = omega (arith, ap (λ (t : List ℕ). length t) s.1)
 stuck form setting count rest (d ∷ ds) lt none suits s = none d (spelled_all form (form.count d) ds) s.0.0 suits.0 s.1
 
-pub scanned_stuck : {E : Type 0} (form : Form E) (said : E → Timed) (setting before : ℕ) (bytes : List ℕ) (count : ℕ) (rest : List ℕ) (tally : Tally) → Scanned form said setting before bytes count rest tally
+pub scanned_stuck : {E : Type 0} (form : Form E) (said : E → Timed) (setting before : ℕ) (bytes : List ℕ) (count : ℕ) (rest : List ℕ) (tally : EntryTally) → Scanned form said setting before bytes count rest tally
     → 0 < length rest → ((d : E) (after : List ℕ) → form.Fits count d → form.suits setting d ≡ true → rest ≡ form.spelled count d ++ after → ⊥)
     → (all : List E) → AreEntries form setting before all bytes → ⊥
 scanned_stuck form said setting before bytes count rest tally so_far lt none all are = (let left = so_far.only all are in stuck form setting count rest left.0 lt none left.1 left.2)
 
-pub scanned_all : {E : Type 0} (form : Form E) (said : E → Timed) (setting before : ℕ) (bytes : List ℕ) (count : ℕ) (rest : List ℕ) (tally : Tally) → Scanned form said setting before bytes count rest tally
+pub scanned_all : {E : Type 0} (form : Form E) (said : E → Timed) (setting before : ℕ) (bytes : List ℕ) (count : ℕ) (rest : List ℕ) (tally : EntryTally) → Scanned form said setting before bytes count rest tally
     → rest ≡ [] → (all : List E) × AreEntries form setting before all bytes × (tally ≡ tally_of (map said all))
 scanned_all form said setting before bytes count rest tally so_far e = (let whole = so_far.some [] tt (tt, e) in (whole.0, whole.1, sym whole.2))
 
 -- ---- the body
 
-number_from : {E : Type 0} (said : E → Timed) (t : Tally) (es : List E) → (fold with_message t (map said es)).entries ≡ t.entries + length es
+number_from : {E : Type 0} (said : E → Timed) (t : EntryTally) (es : List E) → (fold with_message t (map said es)).entries ≡ t.entries + length es
 number_from said t [] = omega arith
 number_from said t (e ∷ es) = omega (arith, number_from said (with_message t (said e)) es)
 
-pub number_is : {E : Type 0} (said : E → Timed) (t : Tally) (es : List E) → t ≡ tally_of (map said es) → t.entries ≡ length es
-number_is said t es is = omega (arith, number_from said empty_tally es, ap (λ (u : Tally). u.entries) is)
+pub number_is : {E : Type 0} (said : E → Timed) (t : EntryTally) (es : List E) → t ≡ tally_of (map said es) → t.entries ≡ length es
+number_is said t es is = omega (arith, number_from said empty_tally es, ap (λ (u : EntryTally). u.entries) is)
 
 -- the entries that were scanned are the body's, where word and number are
 pub body_is : {E : Type 0} (form : Form E) (setting counter word number : ℕ) (rest body : List ℕ) (es : List E) → body ≡ le_bytes 4 word ++ rest → AreEntries form setting counter es rest → number ≡ length es

@@ -30,19 +30,19 @@ use Rattle.r10_packet_rules.specs.Header.{packet_of}
 use Rattle.r10_packet_rules.specs.declared.facts.PacketKind.{PacketKind}
 use Rattle.r10_packet_rules.specs.Tally.{empty_tally, spread_behind, tally_of, timed_cost, with_message}
 use Rattle.r10_packet_rules.specs.declared.facts.Spread.{Spread}
-use Rattle.r10_packet_rules.specs.declared.tally.Tally.{Tally}
+use Rattle.r10_packet_rules.specs.declared.tally.EntryTally.{EntryTally}
 use Rattle.r10_body.proofs.Lengths.{same_sizes}
 
 -- ---- numbers and costs
 
-entries_from : (t : Tally) (ms : List Timed) (channel : ℕ) (gap : Gap) → (fold with_message t ms).entries ≡ t.entries + length (with_gaps channel gap ms)
+entries_from : (t : EntryTally) (ms : List Timed) (channel : ℕ) (gap : Gap) → (fold with_message t ms).entries ≡ t.entries + length (with_gaps channel gap ms)
 entries_from t [] channel gap = omega arith
 entries_from t (m ∷ ms) channel gap = omega (arith, entries_from (with_message t m) ms channel Whole)
 
 pub entries_are : (ms : List Timed) (channel : ℕ) (gap : Gap) → (tally_of ms).entries ≡ length (with_gaps channel gap ms)
 entries_are ms channel gap = omega (arith, entries_from empty_tally ms channel gap)
 
-cost_from : (t : Tally) (ms : List Timed) (channel : ℕ) (gap : Gap) → (fold with_message t ms).cost ≡ t.cost + sum_by plain_cost (with_gaps channel gap ms)
+cost_from : (t : EntryTally) (ms : List Timed) (channel : ℕ) (gap : Gap) → (fold with_message t ms).cost ≡ t.cost + sum_by plain_cost (with_gaps channel gap ms)
 cost_from t [] channel gap = omega arith
 cost_from t (m ∷ ms) channel gap =
     omega (arith, cost_from (with_message t m) ms channel Whole, sum_by-cons plain_cost (record { channel = channel; count = m.count; message = m.message; gap = gap }) (with_gaps channel Whole ms))
@@ -133,7 +133,7 @@ content_cheap counter (report loss) = omega arith
 
 -- ---- all facts
 
-pub facts_told : (h : Header) (kind : PacketKind) (t : Tally) (content : Content) → kind ≡ kind_of content → t ≡ tally_of (messages_of h.counter content)
+pub facts_told : (h : Header) (kind : PacketKind) (t : EntryTally) (content : Content) → kind ≡ kind_of content → t ≡ tally_of (messages_of h.counter content)
     → h.data_type ≡ type_of content → h.packet_len ≡ length (packet_bytes (packet_of h content))
     → AreFactsOf (record { channel = h.channel; sequence = h.sequence; flagged = bit_of 4 h.flags; counter = h.counter; data_type = h.data_type; kind = kind; length = h.packet_len; entries = t.entries; cost = t.cost; counts = t.counts }) (packet_of h content)
 facts_told h kind t content kinds sums type size =
@@ -147,7 +147,7 @@ facts_told h kind t content kinds sums type size =
       data_type = type;
       kind = kinds;
       length_is = size;
-      entries = ap (λ (u : Tally). u.entries) sums ∙ entries_are ms h.channel gap;
-      cost = ap (λ (u : Tally). u.cost) sums ∙ cost_is ms h.channel gap;
-      counts = subst (λ (u : Tally). TellsCounts u.counts (with_gaps h.channel gap ms)) (sym sums) (counts_are ms h.channel gap);
+      entries = ap (λ (u : EntryTally). u.entries) sums ∙ entries_are ms h.channel gap;
+      cost = ap (λ (u : EntryTally). u.cost) sums ∙ cost_is ms h.channel gap;
+      counts = subst (λ (u : EntryTally). TellsCounts u.counts (with_gaps h.channel gap ms)) (sym sums) (counts_are ms h.channel gap);
     }

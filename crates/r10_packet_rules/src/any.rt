@@ -26,10 +26,10 @@ pub struct AnyPacket {
 /// checksum; `None` where its body is no recorder's. A body of this recorder's isn't read a second time.
 fn find_any(header: &Header, body: &[u8], bytes: &[u8]) -> Option<StrictReading>
     requires { length body.now ≤ header.now.packet_len }
-    ensures found { header.now ≡ header_at bytes.now → body.now ≡ body_at bytes.now → framing_fault bytes.now ≡ None → has_data_checksum bytes.now ≡ true
-        → IfSome result (FindsPacket bytes.now) }
-    ensures foreign { header.now ≡ header_at bytes.now → body.now ≡ body_at bytes.now → framing_fault bytes.now ≡ None → has_data_checksum bytes.now ≡ true
-        → IfSome result (λ _. IsForeignBody header.now.data_type body.now) }
+    ensures found { header.now ≡ header_at bytes.now → body.now ≡ body_at bytes.now → framing_fault bytes.now ≡ None
+        → has_data_checksum bytes.now ≡ true → IfSome result (FindsPacket bytes.now) }
+    ensures foreign { header.now ≡ header_at bytes.now → body.now ≡ body_at bytes.now → framing_fault bytes.now ≡ None
+        → has_data_checksum bytes.now ≡ true → IfSome result (λ _. IsForeignBody header.now.data_type body.now) }
     ensures none { IfNone result (IsForeignBody header.now.data_type body.now → ⊥) }
 {
     match find(header, body, is_least(header, bytes), bytes) {

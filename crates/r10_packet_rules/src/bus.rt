@@ -24,7 +24,8 @@ pub(crate) struct BusFront<'a> {
 pub(crate) fn split_bus(bytes: &[u8]) -> Option<BusFront<'_>>
     ensures found { IfSome result (λ f. (words : List ℕ) × (length words ≡ f.size) × ((i : ℕ) → slice_index words i < 2 ^ 8)
         × (bytes.now ≡ stamp f.count ++ le_bytes 2 f.status ++ le_bytes 2 f.gap ++ le_bytes 2 f.size ++ words ++ f.rest.now)) }
-    ensures none { IfNone result ((count status gap size : ℕ) (words rest : List ℕ) → IsCount count → status < 2 ^ 16 → gap < 2 ^ 16 → size < 2 ^ 16 → length words ≡ size
+    ensures none { IfNone result ((count status gap size : ℕ) (words rest : List ℕ)
+        → IsCount count → status < 2 ^ 16 → gap < 2 ^ 16 → size < 2 ^ 16 → length words ≡ size
         → bytes.now ≡ stamp count ++ le_bytes 2 status ++ le_bytes 2 gap ++ le_bytes 2 size ++ words ++ rest → ⊥) }
 {
     if bytes.len() < 14 {

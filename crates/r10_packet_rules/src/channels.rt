@@ -25,7 +25,8 @@ use r10_uart::UartEntry;
 pub(crate) fn read_uart(header: &Header, body: &[u8]) -> Option<Facts>
     requires short { length body.now ≤ longest_packet }
     requires told { header.now.data_type ≡ type_uart }
-    ensures found { IfSome result (λ f. (content : Content) × IsBodyOf header.now.data_type header.now.counter content body.now × AreFactsOfHeader f header.now content) }
+    ensures found { IfSome result (λ f. (content : Content) × IsBodyOf header.now.data_type header.now.counter content body.now
+        × AreFactsOfHeader f header.now content) }
     ensures none { IfNone result ((content : Content) → IsBodyOf header.now.data_type header.now.counter content body.now → ⊥) }
 {
     let Some(tally) = scan_body::<UartEntry>(0, 0, body) else {
@@ -38,7 +39,8 @@ pub(crate) fn read_uart(header: &Header, body: &[u8]) -> Option<Facts>
 pub(crate) fn read_messages(header: &Header, body: &[u8]) -> Option<Facts>
     requires short { length body.now ≤ longest_packet }
     requires told { header.now.data_type ≡ type_message }
-    ensures found { IfSome result (λ f. (content : Content) × IsBodyOf header.now.data_type header.now.counter content body.now × AreFactsOfHeader f header.now content) }
+    ensures found { IfSome result (λ f. (content : Content) × IsBodyOf header.now.data_type header.now.counter content body.now
+        × AreFactsOfHeader f header.now content) }
     ensures none { IfNone result ((content : Content) → IsBodyOf header.now.data_type header.now.counter content body.now → ⊥) }
 {
     let Some(tally) = scan_body::<MessageEntry>(0, 0, body) else {
@@ -51,7 +53,8 @@ pub(crate) fn read_messages(header: &Header, body: &[u8]) -> Option<Facts>
 pub(crate) fn read_bus(header: &Header, body: &[u8]) -> Option<Facts>
     requires short { length body.now ≤ longest_packet }
     requires told { header.now.data_type ≡ type_bus }
-    ensures found { IfSome result (λ f. (content : Content) × IsBodyOf header.now.data_type header.now.counter content body.now × AreFactsOfHeader f header.now content) }
+    ensures found { IfSome result (λ f. (content : Content) × IsBodyOf header.now.data_type header.now.counter content body.now
+        × AreFactsOfHeader f header.now content) }
     ensures none { IfNone result ((content : Content) → IsBodyOf header.now.data_type header.now.counter content body.now → ⊥) }
 {
     let Some(tally) = scan_body::<BusEntry>(0, 0, body) else {
@@ -64,7 +67,8 @@ pub(crate) fn read_bus(header: &Header, body: &[u8]) -> Option<Facts>
 pub(crate) fn read_words(header: &Header, body: &[u8]) -> Option<Facts>
     requires short { length body.now ≤ longest_packet }
     requires told { header.now.data_type ≡ type_arinc }
-    ensures found { IfSome result (λ f. (content : Content) × IsBodyOf header.now.data_type header.now.counter content body.now × AreFactsOfHeader f header.now content) }
+    ensures found { IfSome result (λ f. (content : Content) × IsBodyOf header.now.data_type header.now.counter content body.now
+        × AreFactsOfHeader f header.now content) }
     ensures none { IfNone result ((content : Content) → IsBodyOf header.now.data_type header.now.counter content body.now → ⊥) }
 {
     let Some(tally) = scan_body::<ArincEntry>(0, header.counter.get(), body) else {
@@ -74,7 +78,7 @@ pub(crate) fn read_words(header: &Header, body: &[u8]) -> Option<Facts>
 }
 
 /// The number of discretes that a body's word tells.
-fn told_bits(body: &[u8]) -> u32
+fn bits_in(body: &[u8]) -> u32
     ensures { (bits : ℕ) (rest : List ℕ) → bits < 32 → body.now ≡ le_bytes 4 (8 * bits) ++ rest → result ≡ bits }
 {
     match split_u32(body) {
@@ -87,10 +91,11 @@ fn told_bits(body: &[u8]) -> u32
 pub(crate) fn read_states(header: &Header, body: &[u8]) -> Option<Facts>
     requires short { length body.now ≤ longest_packet }
     requires told { header.now.data_type ≡ type_discrete }
-    ensures found { IfSome result (λ f. (content : Content) × IsBodyOf header.now.data_type header.now.counter content body.now × AreFactsOfHeader f header.now content) }
+    ensures found { IfSome result (λ f. (content : Content) × IsBodyOf header.now.data_type header.now.counter content body.now
+        × AreFactsOfHeader f header.now content) }
     ensures none { IfNone result ((content : Content) → IsBodyOf header.now.data_type header.now.counter content body.now → ⊥) }
 {
-    let Some(tally) = scan_body::<DiscreteEntry>(told_bits(body), 0, body) else {
+    let Some(tally) = scan_body::<DiscreteEntry>(bits_in(body), 0, body) else {
         return None;
     };
     Some(facts_of(header, PacketKind::Data, tally))

@@ -11,7 +11,7 @@ use thiserror::Error;
 /// The first fault of a file.
 #[derive(Clone, Copy, Debug, PartialEq, Eq, Error)]
 #[error("the packet at byte {offset} is at fault: {fault}")]
-pub struct Fault {
+pub struct FirstFault {
     /// Where the packet at fault stands, in bytes from the start of the file.
     pub offset: u64,
     pub fault: FileFault,
@@ -43,19 +43,21 @@ impl ForeignTrack {
 
     /// Takes the packet that stands first in bytes that follow, and says how it is. A packet at
     /// fault isn't taken.
-    pub fn take(&mut self, bytes: &[u8]) -> Result<ForeignPacket, Fault>
+    pub fn take(&mut self, bytes: &[u8]) -> Result<ForeignPacket, FirstFault>
         requires { self.old.offset + length bytes.now < 2 ^ 64 }
         ensures found { IfOk result (IsFirst bytes.now) }
-        ensures taken { IfOk result (λ packet. (before : List ℕ) → TracksForeign self.old before → TracksForeign self.new (before ++ take packet.length bytes.now)) }
+        ensures taken { IfOk result (λ packet. (before : List ℕ) → TracksForeign self.old before
+            → TracksForeign self.new (before ++ take packet.length bytes.now)) }
         ensures fault { IfErr result (λ at. (at.offset ≡ self.old.offset) × HasFault bytes.now at.fault) }
-        ensures faulty { IfErr result (λ at. (before : List ℕ) → TracksForeign self.old before → (0 < length bytes.now) ⊎ (self.old.offset ≡ 0) → IsFaulty (before ++ bytes.now) at.offset at.fault) }
+        ensures faulty { IfErr result (λ at. (before : List ℕ) → TracksForeign self.old before
+            → (0 < length bytes.now) ⊎ (self.old.offset ≡ 0) → IsFaulty (before ++ bytes.now) at.offset at.fault) }
         ensures kept { OnErr result (self.new ≡ self.old) }
     {
         let packet = match read_foreign(bytes) {
             Ok(packet) => packet,
             Err(fault) => {
                 let offset = self.offset;
-                return Err(Fault { offset, fault });
+                return Err(FirstFault { offset, fault });
             }
         };
         self.add(&packet);
@@ -66,7 +68,8 @@ impl ForeignTrack {
     pub fn add(&mut self, packet: &ForeignPacket)
         requires some { 24 ≤ packet.now.length }
         requires short { self.old.offset + packet.now.length < 2 ^ 64 }
-        ensures { (before bytes : List ℕ) → TracksForeign self.old before → IsFirst bytes packet.now → TracksForeign self.new (before ++ take packet.now.length bytes) }
+        ensures { (before bytes : List ℕ) → TracksForeign self.old before → IsFirst bytes packet.now
+            → TracksForeign self.new (before ++ take packet.now.length bytes) }
     {
         *self = ForeignTrack {
             offset: self.offset + packet.length as u64,
@@ -75,14 +78,14 @@ impl ForeignTrack {
     }
 
     /// The number of opaque packets of a file that ends here; a file without a packet is at fault.
-    pub fn end(&self) -> Result<u64, Fault>
+    pub fn end(&self) -> Result<u64, FirstFault>
         ensures file { IfOk result (λ opaque. (bytes : List ℕ) → TracksForeign self.now bytes → IsForeignFile bytes opaque) }
         ensures faulty { IfErr result (λ at. (bytes : List ℕ) → TracksForeign self.now bytes → IsFaulty bytes at.offset at.fault) }
     {
         let offset = self.offset;
         if offset == 0 {
             let fault = FileFault::Truncated;
-            return Err(Fault { offset, fault });
+            return Err(FirstFault { offset, fault });
         }
         Ok(self.opaque)
     }

@@ -37,7 +37,8 @@ pub(crate) struct Change<'a> {
 #[inline(always)]
 pub(crate) fn split_states(bytes: &[u8]) -> Option<Change<'_>>
     ensures found { IfSome result (λ c. bytes.now ≡ stamp c.count ++ le_bytes 4 c.states ++ c.rest.now) }
-    ensures none { IfNone result ((count states : ℕ) (rest : List ℕ) → IsCount count → states < 2 ^ 32 → bytes.now ≡ stamp count ++ le_bytes 4 states ++ rest → ⊥) }
+    ensures none { IfNone result ((count states : ℕ) (rest : List ℕ) → IsCount count → states < 2 ^ 32
+        → bytes.now ≡ stamp count ++ le_bytes 4 states ++ rest → ⊥) }
 {
     if bytes.len() < 12 {
         return None;

@@ -2,7 +2,7 @@
 
 use crate::bus::split_bus;
 use crate::fixed::{split_states, split_word};
-use crate::scan::{Glance, Glimpse};
+use crate::scan::{Glimpse, ScannedEntry};
 use crate::text::split_text;
 use r10_a429::ArincEntry;
 use r10_b1553::BusEntry;
@@ -21,7 +21,7 @@ const MOST_BYTES: u16 = 72;
 /// The longest gap since the ARINC 429 word before, a tenth of a second in units of 100 ns.
 const LONGEST_GAP: u32 = 1_000_000;
 
-impl Glance for UartEntry {
+impl ScannedEntry for UartEntry {
     ghost use Rattle.r10_body.specs.Content.{timed};
     ghost use Rattle.r10_body.specs.declared.message.Message.TheVariants.{Uart};
 
@@ -50,7 +50,7 @@ impl Glance for UartEntry {
     }
 }
 
-impl Glance for MessageEntry {
+impl ScannedEntry for MessageEntry {
     ghost use Rattle.r10_body.specs.Content.{timed};
     ghost use Rattle.r10_body.specs.declared.message.Message.TheVariants.{Message};
 
@@ -76,7 +76,7 @@ impl Glance for MessageEntry {
     }
 }
 
-impl Glance for BusEntry {
+impl ScannedEntry for BusEntry {
     ghost use Rattle.r10_body.specs.Content.{timed};
     ghost use Rattle.r10_body.specs.declared.message.Message.TheVariants.{Bus1553};
 
@@ -111,7 +111,7 @@ impl Glance for BusEntry {
     }
 }
 
-impl Glance for ArincEntry {
+impl ScannedEntry for ArincEntry {
     ghost use Rattle.r10_body.specs.Content.{timed};
     ghost use Rattle.r10_body.specs.declared.message.Message.TheVariants.{Arinc};
 
@@ -140,7 +140,7 @@ impl Glance for ArincEntry {
     }
 }
 
-impl Glance for DiscreteEntry {
+impl ScannedEntry for DiscreteEntry {
     ghost use Rattle.r10_body.specs.Content.{timed};
     ghost use Rattle.r10_body.specs.declared.message.Message.TheVariants.{Discrete};
 

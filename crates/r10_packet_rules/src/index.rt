@@ -11,14 +11,15 @@ use r10_indexbody::{NodeEntry, RootEntry};
 const WORD_END: u32 = 0x100_0000;
 
 /// An entry of a body that is spelled alike in any body, whatever stands before it.
-pub(crate) trait Standing: BodyEntry {
+pub(crate) trait PlainEntry: BodyEntry {
     /// The bytes behind the entry that stands first, if the writer spells one so.
     fn behind(bytes: &[u8]) -> Option<&[u8]>
         ensures found { IfSome result (λ rest. (e : Self) × StandsFirst Self.form e bytes.now rest.now) }
-        ensures none { IfNone result ((before : ℕ) (e : Self) (rest : List ℕ) → Self.form.Fits before e → bytes.now ≡ Self.form.spelled before e ++ rest → ⊥) };
+        ensures none { IfNone result ((before : ℕ) (e : Self) (rest : List ℕ) → Self.form.Fits before e
+            → bytes.now ≡ Self.form.spelled before e ++ rest → ⊥) };
 }
 
-impl Standing for NodeEntry {
+impl PlainEntry for NodeEntry {
     #[inline(always)]
     fn behind(bytes: &[u8]) -> Option<&[u8]> {
         if bytes.len() < 20 {
@@ -40,7 +41,7 @@ impl Standing for NodeEntry {
     }
 }
 
-impl Standing for RootEntry {
+impl PlainEntry for RootEntry {
     #[inline(always)]
     fn behind(bytes: &[u8]) -> Option<&[u8]> {
         if bytes.len() < 16 {
@@ -59,7 +60,7 @@ impl Standing for RootEntry {
 /// How many entries the writer makes these bytes of, behind the word of a body, if there are such. It is a function of its own in
 /// the program too.
 #[inline(never)]
-fn count_standing<E: Standing>(bytes: &[u8]) -> Option<usize>
+fn count_standing<E: PlainEntry>(bytes: &[u8]) -> Option<usize>
     ensures found { IfSome result (λ n. (entries : List E) × AreEntries E.form 0 0 entries bytes.now × (n ≡ length entries)) }
     ensures none { IfNone result ((entries : List E) → AreEntries E.form 0 0 entries bytes.now → ⊥) }
 {
@@ -79,7 +80,7 @@ fn count_standing<E: Standing>(bytes: &[u8]) -> Option<usize>
 }
 
 /// Whether the writer makes the body of some entries.
-pub(crate) fn is_body<E: Standing>(body: &[u8]) -> bool
+pub(crate) fn is_body<E: PlainEntry>(body: &[u8]) -> bool
     ensures { IsTrue result ↔ ((entries : List E) × IsBody E.form 0 0 entries body.now) }
 {
     let Some((word, rest)) = split_u32(body) else {

@@ -24,7 +24,7 @@ mod text;
 
 pub use any::{AnyPacket, read_any};
 pub use facts::{Facts, PacketKind, Spread};
-pub use file::{Fault, ForeignTrack};
+pub use file::{FirstFault, ForeignTrack};
 pub use foreign_body::is_foreign_body;
 pub use laws::{fault_stays, one_fault, one_verdict, strict_is_foreign};
 pub use packet::{ForeignPacket, read_foreign};

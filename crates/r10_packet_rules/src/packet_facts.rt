@@ -7,12 +7,13 @@ ghost use Rattle.r10_packet_rules.specs.Header.{AreFactsOfHeader};
 ghost use Rattle.r10_packet_rules.specs.Tally.{tally_of};
 
 use crate::facts::{Facts, PacketKind};
-use crate::tally::Tally;
+use crate::tally::EntryTally;
 use r10_packet::Header;
 
 /// The facts of the packet of a header, from its kind and its sums.
-pub(crate) fn facts_of(header: &Header, kind: PacketKind, tally: Tally) -> Facts
-    ensures { (content : Content) → kind ≡ kind_of content → tally ≡ tally_of (messages_of header.now.counter content) → AreFactsOfHeader result header.now content }
+pub(crate) fn facts_of(header: &Header, kind: PacketKind, tally: EntryTally) -> Facts
+    ensures { (content : Content) → kind ≡ kind_of content → tally ≡ tally_of (messages_of header.now.counter content)
+        → AreFactsOfHeader result header.now content }
 {
     Facts {
         channel: header.channel,

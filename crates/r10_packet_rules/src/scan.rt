@@ -8,7 +8,7 @@ ghost use Rattle.r10_packet_rules.specs.Glance.{AreEntries, IsGlimpse};
 ghost use Rattle.r10_packet_rules.specs.Tally.{tally_of};
 
 use crate::facts::Spread;
-use crate::tally::Tally;
+use crate::tally::EntryTally;
 use r10_count::{BodyEntry, Count, split_u32};
 
 /// What an entry comes to.
@@ -20,7 +20,7 @@ pub(crate) struct Glimpse {
 }
 
 /// An entry of a body that is read where it stands.
-pub(crate) trait Glance: BodyEntry {
+pub(crate) trait ScannedEntry: BodyEntry {
     /// The message of an entry, with its count.
     ghost said: { Self → TimedValue };
 
@@ -31,8 +31,10 @@ pub(crate) trait Glance: BodyEntry {
     /// What the entry comes to that stands first, and the bytes behind it, if the writer spells one so behind
     /// an entry at a count, on a channel of this setting.
     fn glance(setting: u32, before: u64, bytes: &[u8]) -> Option<(Glimpse, &[u8])>
-        ensures found { IfSome result (λ x. (e : Self) × IsGlimpse Self.form said setting before (Self.form.spelled before e) x.0 e × (bytes.now ≡ Self.form.spelled before e ++ x.1.now)) }
-        ensures none { IfNone result ((e : Self) (rest : List ℕ) → Self.form.Fits before e → Self.form.suits setting e ≡ true → bytes.now ≡ Self.form.spelled before e ++ rest → ⊥) };
+        ensures found { IfSome result (λ x. (e : Self) × IsGlimpse Self.form said setting before (Self.form.spelled before e) x.0 e
+            × (bytes.now ≡ Self.form.spelled before e ++ x.1.now)) }
+        ensures none { IfNone result ((e : Self) (rest : List ℕ) → Self.form.Fits before e → Self.form.suits setting e ≡ true
+            → bytes.now ≡ Self.form.spelled before e ++ rest → ⊥) };
 }
 
 /// The greater of two counts.
@@ -54,9 +56,10 @@ fn goes_on(rise: bool, greatest: Count, count: Count) -> bool
 /// What the entries come to that the writer makes these bytes of, on a channel of this setting and in a packet of this
 /// counter, if there are such. It is a function of its own in the program too, so that what each turn carries stays in registers.
 #[inline(never)]
-fn scan<E: Glance>(setting: u32, counter: u64, bytes: &[u8]) -> Option<Tally>
+fn scan<E: ScannedEntry>(setting: u32, counter: u64, bytes: &[u8]) -> Option<EntryTally>
     requires { length bytes.now ≤ longest_packet }
-    ensures found { IfSome result (λ t. (entries : List E) × AreEntries E.form setting counter entries bytes.now × (t ≡ tally_of (map E.said entries))) }
+    ensures found { IfSome result
+        (λ t. (entries : List E) × AreEntries E.form setting counter entries bytes.now × (t ≡ tally_of (map E.said entries))) }
     ensures none { IfNone result ((entries : List E) → AreEntries E.form setting counter entries bytes.now → ⊥) }
 {
     let Some((first, behind)) = E::glance(setting, counter, bytes) else {
@@ -82,7 +85,7 @@ fn scan<E: Glance>(setting: u32, counter: u64, bytes: &[u8]) -> Option<Tally>
     if !rest.is_empty() {
         return None;
     }
-    Some(Tally {
+    Some(EntryTally {
         entries,
         cost,
         counts: Some(Spread {
@@ -96,9 +99,14 @@ fn scan<E: Glance>(setting: u32, counter: u64, bytes: &[u8]) -> Option<Tally>
 
 /// What the entries of a body come to, if the writer makes the body of some on a channel of this setting, in a packet of
 /// this counter.
-pub(crate) fn scan_body<E: Glance>(setting: u32, counter: u64, body: &[u8]) -> Option<Tally>
+pub(crate) fn scan_body<E: ScannedEntry>(
+    setting: u32,
+    counter: u64,
+    body: &[u8],
+) -> Option<EntryTally>
     requires { length body.now ≤ longest_packet }
-    ensures found { IfSome result (λ t. (entries : List E) × IsBody E.form setting counter entries body.now × (t ≡ tally_of (map E.said entries))) }
+    ensures found { IfSome result
+        (λ t. (entries : List E) × IsBody E.form setting counter entries body.now × (t ≡ tally_of (map E.said entries))) }
     ensures none { IfNone result ((entries : List E) → IsBody E.form setting counter entries body.now → ⊥) }
 {
     let Some((word, rest)) = split_u32(body) else {

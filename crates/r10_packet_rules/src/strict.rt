@@ -66,7 +66,8 @@ fn is_filled(view: &PacketView<'_>, bytes: &[u8]) -> bool
 
 /// The header and the body of the packet that stands first. Its data checksum isn't looked at.
 fn parts(bytes: &[u8]) -> Option<(Header, &[u8])>
-    ensures whole { framing_fault bytes.now ≡ None → IsSomeAnd result (λ x. (x.0 ≡ header_at bytes.now) × (x.1.now ≡ body_at bytes.now)) }
+    ensures whole { framing_fault bytes.now ≡ None
+        → IsSomeAnd result (λ x. (x.0 ≡ header_at bytes.now) × (x.1.now ≡ body_at bytes.now)) }
     ensures short { IfSome result (λ x. length x.1.now ≤ x.0.packet_len) }
 {
     let Some((front, rest)) = bytes.split_first_chunk::<24>() else {

@@ -8,7 +8,7 @@ use r10_count::Count;
 
 /// What entries come to, one by one.
 #[derive(Clone, Copy, Debug, PartialEq, Eq)]
-pub(crate) struct Tally {
+pub(crate) struct EntryTally {
     /// How many there are.
     pub(crate) entries: usize,
     /// What they cost in a file.
@@ -16,12 +16,12 @@ pub(crate) struct Tally {
     pub(crate) counts: Option<Spread>,
 }
 
-impl Tally {
+impl EntryTally {
     /// Of no entries.
-    pub(crate) fn new() -> Tally
+    pub(crate) fn new() -> EntryTally
         ensures { result ≡ empty_tally }
     {
-        Tally {
+        EntryTally {
             entries: 0,
             cost: 0,
             counts: None,
@@ -29,10 +29,10 @@ impl Tally {
     }
 
     /// Of one entry of this count and cost.
-    pub(crate) fn one(count: Count, cost: u64) -> Tally
+    pub(crate) fn one(count: Count, cost: u64) -> EntryTally
         ensures { result ≡ tally_behind empty_tally count cost }
     {
-        Tally {
+        EntryTally {
             entries: 1,
             cost,
             counts: Some(Spread {

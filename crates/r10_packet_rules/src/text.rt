@@ -45,9 +45,10 @@ pub struct TextEntry<'a> {
 /// The stamp, the header and the bytes of the entry that stands first, and what stands behind it; `None` where no such entry does.
 #[inline(always)]
 pub fn split_text(bytes: &[u8]) -> Option<TextEntry<'_>>
-    ensures found { IfSome result (λ f. (length f.text.now ≡ f.header % 65536) × (bytes.now ≡ stamp f.count ++ le_bytes 4 f.header ++ padded f.text.now ++ f.rest.now)) }
-    ensures none { IfNone result ((count header : ℕ) (text rest : List ℕ) → IsCount count → header < 2 ^ 32 → length text ≡ header % 65536
-        → bytes.now ≡ stamp count ++ le_bytes 4 header ++ padded text ++ rest → ⊥) }
+    ensures found { IfSome result (λ f. (length f.text.now ≡ f.header % 65536)
+        × (bytes.now ≡ stamp f.count ++ le_bytes 4 f.header ++ padded f.text.now ++ f.rest.now)) }
+    ensures none { IfNone result ((count header : ℕ) (text rest : List ℕ) → IsCount count → header < 2 ^ 32
+        → length text ≡ header % 65536 → bytes.now ≡ stamp count ++ le_bytes 4 header ++ padded text ++ rest → ⊥) }
 {
     if bytes.len() < 12 {
         return None;

@@ -24,7 +24,8 @@ impl Ending {
     /// What stands behind a body.
     pub(crate) fn of(check: Check, body: &[u8]) -> Ending
         requires { length body.now ≤ longest_body }
-        ensures { let filler = least_filler (check_bits_of check) body.now in said result ≡ filler ++ data_checksum (check_bits_of check) (body.now ++ filler) }
+        ensures { let filler = least_filler (check_bits_of check) body.now in said result
+            ≡ filler ++ data_checksum (check_bits_of check) (body.now ++ filler) }
     {
         let width = check.width();
         let filler = (4 - (body.len() + width) % 4) % 4;

@@ -39,7 +39,8 @@ pub(crate) fn next_number(numbers: &[Number], channel: u16) -> u8
 /// memory for a channel more.
 pub(crate) fn count_packet(numbers: &mut Vec<Number>, channel: u16)
     requires { length numbers.old.items < vec_capacity numbers.old }
-    ensures next { (other : ℕ) → next_of other numbers.new.items ≡ cond (channel == other) ((next_of channel numbers.old.items + 1) % 256) (next_of other numbers.old.items) }
+    ensures next { (other : ℕ) → next_of other numbers.new.items
+        ≡ cond (channel == other) ((next_of channel numbers.old.items + 1) % 256) (next_of other numbers.old.items) }
     ensures one { length numbers.new.items ≤ length numbers.old.items + 1 }
     ensures room { vec_capacity numbers.old ≤ vec_capacity numbers.new }
 {

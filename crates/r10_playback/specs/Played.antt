@@ -7,7 +7,7 @@ use Rattle.r10_dirchain.specs.Bad.{IsBad}
 use Rattle.r10_dirchain.specs.Chain.{IsDirectory}
 use Rattle.r10_dirchain.specs.Mount.{listed}
 use Rattle.r10_dirchain.specs.declared.chain.ChainBlock.{ChainBlock}
-use Rattle.r10_dirchain.specs.declared.chain.Listed.{Listed}
+use Rattle.r10_dirchain.specs.declared.chain.ListedFile.{ListedFile}
 use Rattle.r10_body.specs.Faults.{IsAtFault}
 use Rattle.r10_body.specs.Packets.{Packet, file_bytes, file_entries}
 use Rattle.r10_body.specs.Rules.{IsFile, is_closed_file}
@@ -31,15 +31,15 @@ channels_of zero = []
 channels_of (suc n) = suc n ∷ []
 
 -- the medium's directory has this file at this number
-abbrev pub IsListed : Image → ℕ → Listed → Type 0
+abbrev pub IsListed : Image → ℕ → ListedFile → Type 0
 IsListed image number f = (chain : List ChainBlock) × IsDirectory image chain × (slice_get (listed chain) number ≡ Some f)
 
 -- and the file lies inside the medium
-abbrev pub IsListedInside : Image → ℕ → Listed → Type 0
+abbrev pub IsListedInside : Image → ℕ → ListedFile → Type 0
 IsListedInside image number f = IsListed image number f × (is_inside (length image) f.entry ≡ true)
 
 -- the bytes of the file are these packets, which keep all rules, with an index exactly where the directory says that it is closed
-pub record HasStrictPackets (image : Image) (f : Listed) (packets : List Packet) : Type 0 where
+pub record HasStrictPackets (image : Image) (f : ListedFile) (packets : List Packet) : Type 0 where
   pub bytes_are : bytes_on image f.entry ≡ file_bytes packets
   pub strict : IsFile packets
   pub closed : is_closed_file packets ≡ is_closed f.entry
@@ -47,7 +47,7 @@ pub record HasStrictPackets (image : Image) (f : Listed) (packets : List Packet)
 -- these are the entries that are asked for, in the order of a replay
 pub record IsInstalment (image : Image) (s : Selection) (entries : List Entry) : Type 0 where
   pub counts : HasCounts s
-  pub file : Listed
+  pub file : ListedFile
   pub found : IsListedInside image s.file file
   pub packets : List Packet
   pub has : HasStrictPackets image file packets
@@ -57,21 +57,21 @@ pub record IsInstalment (image : Image) (s : Selection) (entries : List Entry) :
 
 -- the chain can't be taken first at this block, or it lists the file, which doesn't lie inside the medium
 abbrev pub IsBadBlock : Image → ℕ → ℕ → Type 0
-IsBadBlock image number n = IsBad image n ⊎ ((f : Listed) × IsListed image number f × (is_inside (length image) f.entry ≡ false) × (n ≡ f.number))
+IsBadBlock image number n = IsBad image n ⊎ ((f : ListedFile) × IsListed image number f × (is_inside (length image) f.entry ≡ false) × (n ≡ f.number))
 
 -- the directory has no file of this number
 abbrev pub HasNoFile : Image → ℕ → Type 0
 HasNoFile image number = (chain : List ChainBlock) × IsDirectory image chain × (length (listed chain) ≤ number)
 
 -- the file is at fault where it should be strict, and closed as its directory entry says
-abbrev pub IsAtFaultOn : Image → Listed → Type 0
+abbrev pub IsAtFaultOn : Image → ListedFile → Type 0
 IsAtFaultOn image f = (offset : ℕ) × (fault : FileFault) × IsAtFault (bytes_on image f.entry) (is_closed f.entry) offset fault
 
 abbrev pub IsPlayRefusal : Image → Selection → PlayRefusal → Type 0
 IsPlayRefusal image s play_refusals.CountRange = HasCounts s → ⊥
 IsPlayRefusal image s (play_refusals.BadDirectory n) = HasCounts s × IsBadBlock image s.file n
 IsPlayRefusal image s play_refusals.NoSuchFile = HasCounts s × HasNoFile image s.file
-IsPlayRefusal image s play_refusals.NotStrict = HasCounts s × ((f : Listed) × IsListedInside image s.file f × IsAtFaultOn image f)
+IsPlayRefusal image s play_refusals.NotStrict = HasCounts s × ((f : ListedFile) × IsListedInside image s.file f × IsAtFaultOn image f)
 
 abbrev pub IsPlayFault : Image → Selection → PlayFault → Type 0
 IsPlayFault image s (play_faults.Refused refusal) = IsPlayRefusal image s refusal
@@ -91,7 +91,7 @@ IsFileFault image number play_faults.Medium = Unit {0}
 IsFileFault image number play_faults.OutOfMemory = Unit {0}
 
 -- of a file's bytes alone
-abbrev pub IsJudgeFault : Image → Listed → PlayFault → Type 0
+abbrev pub IsJudgeFault : Image → ListedFile → PlayFault → Type 0
 IsJudgeFault image f (play_faults.Refused refusal) = (refusal ≡ play_refusals.NotStrict) × IsAtFaultOn image f
 IsJudgeFault image f play_faults.Medium = Unit {0}
 IsJudgeFault image f play_faults.OutOfMemory = Unit {0}

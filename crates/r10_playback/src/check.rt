@@ -18,7 +18,8 @@ pub fn check_input<R: Read, W: Write + Drop>(
     reader: &mut R,
     writer: &mut BufWriter<W>,
 ) -> Result<Outcome, StreamFault>
-    ensures checks { IfOk result (λ outcome. IfSome (R.remaining reader.old) (λ bytes. Checks bytes outcome (writer_contents W.contents writer.old) (writer_contents W.contents writer.new))) }
+    ensures checks { IfOk result (λ outcome. IfSome (R.remaining reader.old)
+        (λ bytes. Checks bytes outcome (writer_contents W.contents writer.old) (writer_contents W.contents writer.new))) }
     ensures sent { OnOk result (writer_buffer writer.new ≡ []) }
     ensures fault { IfErr result IsListFault }
 {

@@ -7,7 +7,7 @@ ghost use Rattle.r10_playback.specs.Checked.{found_outcome, Judges};
 use crate::words::found_line;
 use r10_checker::find_fault;
 use r10_images::{Outcome, StreamFault};
-use r10_packet_rules::Fault;
+use r10_packet_rules::FirstFault;
 use std::alloc::{AllocError, Global};
 use std::io::Write;
 
@@ -34,7 +34,7 @@ pub fn judge_closing<W: Write>(
     Ok(outcome_of(found))
 }
 
-fn outcome_of(found: Option<Fault>) -> Outcome
+fn outcome_of(found: Option<FirstFault>) -> Outcome
     ensures { result ≡ found_outcome found }
 {
     match found {

@@ -13,7 +13,7 @@ ghost use Rattle.r10_playback.specs.declared.selection.PlayFault.TheVariants as 
 use crate::selection::{PlayFault, PlayRefusal};
 use r10_blockout::ReadFault;
 use r10_checker::{extent_of, is_inside};
-use r10_dirchain::{ChainError, Listed, read_chain};
+use r10_dirchain::{ChainError, ListedFile, read_chain};
 use r10_file_rules::Tracks;
 use r10_judge::{Judgement, judge_file};
 use r10_medium::BlockMedium;
@@ -24,8 +24,9 @@ pub(crate) fn find_file<M: BlockMedium>(
     alloc: Global,
     medium: &mut M,
     number: usize,
-) -> Result<Listed, PlayFault>
-    ensures found { IfOk result (λ file. IsListedInside (M.disk medium.old).blocks number file × IsPlaced (M.disk medium.old).blocks file) }
+) -> Result<ListedFile, PlayFault>
+    ensures found { IfOk result
+        (λ file. IsListedInside (M.disk medium.old).blocks number file × IsPlaced (M.disk medium.old).blocks file) }
     ensures refused { IfErr result (IsFileFault (M.disk medium.old).blocks number) }
     ensures same { Unchanged (M.disk medium.old) (M.disk medium.new) }
     ensures counts { PlayHasCause (M.disk medium.old) (M.disk medium.new) result }
@@ -34,7 +35,7 @@ pub(crate) fn find_file<M: BlockMedium>(
         Ok(directory) => directory,
         Err(error) => return Err(chain_fault(error)),
     };
-    let Ok(files) = directory.listed(alloc) else {
+    let Ok(files) = directory.listing(alloc) else {
         return Err(PlayFault::OutOfMemory);
     };
     let Some(file) = file_at(&files, number) else {
@@ -47,7 +48,7 @@ pub(crate) fn find_file<M: BlockMedium>(
     Ok(file)
 }
 
-fn file_at(files: &[Listed], number: usize) -> Option<Listed>
+fn file_at(files: &[ListedFile], number: usize) -> Option<ListedFile>
     ensures value { result ≡ slice_get files.now number }
     ensures none { IfNone result (length files.now ≤ number) }
 {
@@ -70,11 +71,12 @@ fn chain_fault(error: ChainError) -> PlayFault
 pub(crate) fn strict_tracks<M: BlockMedium>(
     alloc: Global,
     medium: &mut M,
-    file: &Listed,
+    file: &ListedFile,
     buffer: &mut Vec<u8>,
 ) -> Result<Tracks, PlayFault>
     requires { IsPlaced (M.disk medium.old).blocks file.now }
-    ensures kept { IfOk result (λ tracks. TracksStrictFile (is_closed file.now.entry) tracks (bytes_on (M.disk medium.old).blocks file.now.entry)) }
+    ensures kept { IfOk result
+        (λ tracks. TracksStrictFile (is_closed file.now.entry) tracks (bytes_on (M.disk medium.old).blocks file.now.entry)) }
     ensures refused { IfErr result (IsJudgeFault (M.disk medium.old).blocks file.now) }
     ensures same { Unchanged (M.disk medium.old) (M.disk medium.new) }
     ensures counts { PlayHasCause (M.disk medium.old) (M.disk medium.new) result }

@@ -8,7 +8,7 @@ ghost use Rattle.r10_playback.specs.Lines.{entry_lines, play_refusal_text};
 
 use crate::selection::PlayRefusal;
 use r10_body::Entry;
-use r10_cursor::Reading;
+use r10_cursor::FileReplay;
 use r10_images::{StreamFault, write_refusal};
 use r10_text::entry_line;
 use std::alloc::{AllocError, Global};
@@ -17,7 +17,7 @@ use std::io::Write;
 /// Writes the line of each entry that a cursor has yet to give, one after the other.
 pub(crate) fn write_entries<W: Write>(
     alloc: Global,
-    cursor: &mut Reading,
+    cursor: &mut FileReplay,
     writer: &mut W,
 ) -> Result<(), StreamFault>
     ensures lines { OnOk result (Appends (W.contents writer.old) (W.contents writer.new) (entry_lines cursor.old.queue)) }

@@ -37,7 +37,8 @@ pub fn play_input<R: Read, W: Write + Drop>(
     reader: &mut R,
     writer: &mut BufWriter<W>,
 ) -> Result<Outcome, StreamFault>
-    ensures plays { IfOk result (λ outcome. IfSome (R.remaining reader.old) (λ input. Plays selection.now (image_blocks input) outcome (writer_contents W.contents writer.old) (writer_contents W.contents writer.new))) }
+    ensures plays { IfOk result (λ outcome. IfSome (R.remaining reader.old) (λ input. Plays selection.now
+        (image_blocks input) outcome (writer_contents W.contents writer.old) (writer_contents W.contents writer.new))) }
     ensures sent { OnOk result (writer_buffer writer.new ≡ []) }
     ensures fault { IfErr result IsListFault }
 {
@@ -57,8 +58,10 @@ fn play_medium<M: BlockMedium, W: Write>(
     medium: &mut M,
     writer: &mut W,
 ) -> Result<Outcome, PlayStop>
-    ensures plays { IfOk result (λ outcome. Plays selection.now (M.disk medium.old).blocks outcome (W.contents writer.old) (W.contents writer.new)) }
-    ensures cause { IfErr result (λ stop. stop ≡ play_stops.Medium → Rose (M.disk medium.old).failures (M.disk medium.new).failures) }
+    ensures plays { IfOk result
+        (λ outcome. Plays selection.now (M.disk medium.old).blocks outcome (W.contents writer.old) (W.contents writer.new)) }
+    ensures cause { IfErr result
+        (λ stop. stop ≡ play_stops.Medium → Rose (M.disk medium.old).failures (M.disk medium.new).failures) }
     ensures fault { IfErr result IsStopFault }
 {
     match replay(alloc, medium, selection) {

@@ -7,7 +7,7 @@ ghost use Rattle.r10_playback.specs.Played.{channels_of, IsInstalment, IsPlayFau
 use crate::file::{find_file, strict_tracks};
 use crate::selection::{PlayFault, PlayRefusal, Selection};
 use r10_count::{Count, Items};
-use r10_cursor::{Reading, ReplayFault};
+use r10_cursor::{FileReplay, ReplayFault};
 use r10_medium::BlockMedium;
 use std::alloc::{AllocError, Global};
 
@@ -16,7 +16,7 @@ pub(crate) fn replay<M: BlockMedium>(
     alloc: Global,
     medium: &mut M,
     selection: &Selection,
-) -> Result<Reading, PlayFault>
+) -> Result<FileReplay, PlayFault>
     ensures entries { IfOk result (λ cursor. IsInstalment (M.disk medium.old).blocks selection.now cursor.queue) }
     ensures refused { IfErr result (IsPlayFault (M.disk medium.old).blocks selection.now) }
     ensures counts { PlayHasCause (M.disk medium.old) (M.disk medium.new) result }
@@ -30,7 +30,7 @@ pub(crate) fn replay<M: BlockMedium>(
     let Ok(channels) = channels_of(alloc, selection.channel) else {
         return Err(PlayFault::OutOfMemory);
     };
-    let mut cursor = Reading::new(alloc, channels, from, to);
+    let mut cursor = FileReplay::new(alloc, channels, from, to);
     let first = file.entry.first_block as usize;
     match cursor.advance(alloc, medium, first, tracks.book().entries(), &mut buffer) {
         Ok(_) => Ok(cursor),

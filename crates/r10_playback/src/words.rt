@@ -4,7 +4,7 @@ ghost use Rattle.std.specs.Prelude.{◌≡◌, IfOk, string_bytes};
 ghost use Rattle.r10_playback.specs.Words.{found_line, verdict_line};
 
 use r10_checker::Verdict;
-use r10_packet_rules::Fault;
+use r10_packet_rules::FirstFault;
 use r10_text::fault_text;
 use std::alloc::{AllocError, Global};
 
@@ -23,7 +23,7 @@ pub(crate) fn verdict_line(alloc: Global, verdict: Verdict) -> Result<String, Al
 }
 
 /// The line of a file's first fault, with its line feed, or of none.
-pub(crate) fn found_line(alloc: Global, found: Option<Fault>) -> Result<String, AllocError>
+pub(crate) fn found_line(alloc: Global, found: Option<FirstFault>) -> Result<String, AllocError>
     ensures { IfOk result (λ line. string_bytes line ≡ found_line found) }
 {
     match found {

@@ -46,7 +46,8 @@ impl Model for Outlet {
 impl LaneOut for Outlet {
     ghost use Rattle.std.specs.Prelude.{◌≡◌, None, Some};
     ghost use Rattle.r10_port.specs.Ends.{TookReceived, next_known, reached_by_outlet};
-    ghost use Rattle.r10_port.specs.Laws.{port_took_joins, port_took_nothing, port_took_stays, port_took_keeps_spec, port_took_rises, port_took_gives, never_quiet};
+    ghost use Rattle.r10_port.specs.Laws.{port_took_joins, port_took_nothing, port_took_stays, port_took_keeps_spec};
+    ghost use Rattle.r10_port.specs.Laws.{port_took_rises, port_took_gives, never_quiet};
 
     ghost spec_of = { λ outlet. outlet.spec };
 

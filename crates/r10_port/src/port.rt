@@ -142,8 +142,10 @@ fn push_within(
 ) -> Result<(), PushError<Item>>
     requires { 0 < capacity → ItemMayFollow (pushed producer.old) item }
     ensures ring { SameProducer producer.old producer.new }
-    ensures ok { OnOk result ((0 < capacity) × (pushed producer.new ≡ pushed producer.old ++ item ∷ []) × (min capacity (known_free producer.old) ≤ min capacity (known_free producer.new) + 1)) }
-    ensures full { OnErr result ((pushed producer.new ≡ pushed producer.old) × (min capacity (known_free producer.old) ≡ 0) × (min capacity (known_free producer.new) ≡ 0)) }
+    ensures ok { OnOk result ((0 < capacity) × (pushed producer.new ≡ pushed producer.old ++ item ∷ [])
+        × (min capacity (known_free producer.old) ≤ min capacity (known_free producer.new) + 1)) }
+    ensures full { OnErr result ((pushed producer.new ≡ pushed producer.old) × (min capacity (known_free producer.old) ≡ 0)
+        × (min capacity (known_free producer.new) ≡ 0)) }
 {
     if capacity == 0 {
         return Err(PushError::Full(item));

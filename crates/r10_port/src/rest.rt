@@ -13,7 +13,7 @@ use std::alloc::{AllocError, Global};
 
 impl Outlet {
     /// How many samples are left of a lane whose sending end is in this thread too. All of them are then known, and stay.
-    pub fn left(&mut self, port: &mut Port) -> usize
+    pub fn rest_len(&mut self, port: &mut Port) -> usize
         requires { self.old.ring ≡ port.old.ring }
         ensures took { TookReceived self.old [] self.new }
         ensures port { port.new ≡ record port.old { free = port.new.free } }
@@ -43,12 +43,14 @@ impl Outlet {
         requires { self.old.ring ≡ port.old.ring }
         ensures port { port.new ≡ record port.old { free = port.new.free } }
         ensures all { sent port.old ≡ self.old.received ++ unreceived self.old port.old }
-        ensures took { TookReceived self.old (take (vec_capacity into.old - length into.old.items) (unreceived self.old port.old)) self.new }
-        ensures moved { into.new.items ≡ into.old.items ++ take (vec_capacity into.old - length into.old.items) (unreceived self.old port.old) }
+        ensures took { TookReceived self.old
+            (take (vec_capacity into.old - length into.old.items) (unreceived self.old port.old)) self.new }
+        ensures moved { into.new.items
+            ≡ into.old.items ++ take (vec_capacity into.old - length into.old.items) (unreceived self.old port.old) }
         ensures room { vec_capacity into.new ≡ vec_capacity into.old }
     {
         let room = into.capacity().saturating_sub(into.len());
-        let count = self.left(port).min(room);
+        let count = self.rest_len(port).min(room);
         for _ in 0..count {
             into.push_reserved(self.take_known());
         }
@@ -61,7 +63,7 @@ impl Outlet {
         ensures ok { IfOk result (λ rest. TookReceived self.old rest.items self.new × (self.new.received ≡ sent port.old)) }
         ensures err { OnErr result (TookReceived self.old [] self.new) }
     {
-        let mut rest = Vec::with_capacity(alloc, self.left(port))?;
+        let mut rest = Vec::with_capacity(alloc, self.rest_len(port))?;
         self.rest_into(port, &mut rest);
         Ok(rest)
     }

@@ -14,7 +14,7 @@ use r10_held::new_recorders_account_for_their_lanes;
 use r10_medium::{BlockMedium, Memory};
 use r10_port::{Outlet, Port, lane};
 use r10_shared::{Cabinet, Gauged, Pass, Rings};
-use r10_source::{ChannelSource, Given, Turn};
+use r10_source::{ChannelSource, Given, SourceItem};
 use r10_volume::format;
 use std::alloc::{AllocError, Global};
 use std::collections::VecDeque;
@@ -118,7 +118,7 @@ fn over(
 }
 
 /// A medium that is formatted for a recorder of channel 5.
-pub(crate) fn formatted(alloc: Global) -> Result<Memory, Fail> {
+pub(crate) fn formatted_medium(alloc: Global) -> Result<Memory, Fail> {
     let settings = settings(alloc, CHANNEL)?;
     medium(alloc, &settings)
 }
@@ -146,11 +146,11 @@ pub(crate) fn new_recorder(alloc: Global) -> Result<(Gauged<Memory>, Port), Fail
     ensures new { IfOk result (λ r. IsNew memory_disk outlet_spec outlet_received r.0.recorder) }
     ensures named { IfOk result (λ r. AreNamed (record { channel = 5; ring = r.1.ring } ∷ []) r.0.recorder.lanes) }
 {
-    recorder_over(alloc, formatted(alloc)?)
+    recorder_over(alloc, formatted_medium(alloc)?)
 }
 
 /// The lock round a recorder, and the first pass.
-pub(crate) fn locked<N: Rings>(gauged: Gauged<Memory>) -> (Cabinet<Memory, N>, Pass)
+pub(crate) fn cabinet_of<N: Rings>(gauged: Gauged<Memory>) -> (Cabinet<Memory, N>, Pass)
     requires new { IsNew memory_disk outlet_spec outlet_received gauged.recorder }
     requires named { AreNamed N.rings gauged.recorder.lanes }
     requires gauge { gauged.cell ≡ N.gauge }
@@ -169,28 +169,28 @@ pub(crate) fn send(alloc: Global, port: Port) -> bool {
 
 /// A source that gives what it was made of.
 #[derive(Drop)]
-pub(crate) struct Listed {
-    left: VecDeque<Turn>,
+pub(crate) struct ListSource {
+    left: VecDeque<SourceItem>,
 }
 
-impl ChannelSource for Listed {
+impl ChannelSource for ListSource {
     ghost rest = { λ source. source.left.items };
 
     fn next(&mut self) -> Given {
         match self.left.pop_front() {
-            Some(Turn::Message(Timed { count, message })) => Given::Item(count, message),
-            Some(Turn::Lost(lost)) => Given::Lost(lost),
+            Some(SourceItem::Message(Timed { count, message })) => Given::Item(count, message),
+            Some(SourceItem::Lost(lost)) => Given::Lost(lost),
             None => Given::End,
         }
     }
 }
 
 /// A source of two messages.
-pub(crate) fn two(alloc: Global) -> Result<Listed, AllocError> {
+pub(crate) fn two(alloc: Global) -> Result<ListSource, AllocError> {
     let mut left = VecDeque::new(alloc);
     for units in [1001, 1002] {
         let (count, message) = (count(units), empty(alloc));
-        left.push_back(Turn::Message(Timed { count, message }))?;
+        left.push_back(SourceItem::Message(Timed { count, message }))?;
     }
-    Ok(Listed { left })
+    Ok(ListSource { left })
 }

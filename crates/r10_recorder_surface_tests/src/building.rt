@@ -1,4 +1,5 @@
-//! The builders of a recorder's channels, and what faults of a file that is written say: `r10_builder`, `r10_openfile`, `r10_mux`, `r10_seal`.
+//! The builders of a recorder's channels, and what faults of a file that is written say: `r10_builder`, `r10_openfile`, `r10_mux`,
+//! `r10_seal`.
 
 use crate::inputs::{CHANNEL, settings, uart};
 use r10_body::{Gap, Sample};
@@ -25,7 +26,7 @@ fn sample(alloc: Global, units: u64, gap: Gap) -> Result<Sample, Fail> {
 }
 
 /// Takes a sample of channel 5, if that takes it: the packet that is closed before it.
-fn taken(builders: &mut Builders, sample: &Sample) -> Option<Closed> {
+fn closed_before(builders: &mut Builders, sample: &Sample) -> Option<Closed> {
     if !builders.accepts(5, sample) {
         return None;
     }
@@ -36,12 +37,12 @@ fn taken(builders: &mut Builders, sample: &Sample) -> Option<Closed> {
 }
 
 /// Whether a sample of channel 5 joined what is open.
-fn joined(builders: &mut Builders, sample: &Sample) -> bool {
+fn joins_open(builders: &mut Builders, sample: &Sample) -> bool {
     builders.accepts(5, sample) && matches!(builders.join(5, sample), Ok(true))
 }
 
 /// Why a packet was closed, how many messages it has, and what was lost before the first.
-fn told(closed: &Option<Closed>) -> Option<(Reason, usize, Gap)> {
+fn closed_parts(closed: &Option<Closed>) -> Option<(Reason, usize, Gap)> {
     match closed {
         Some(closed) => Some((closed.reason, closed.entries, closed.gap)),
         None => None,
@@ -55,19 +56,22 @@ fn builders_take_and_hand_out(rt: HostRuntime) -> Result<(), Fail> {
     let mut builders = builders_of(alloc, &settings(alloc, CHANNEL)?)?;
     builders.ready()?;
     assert_eq!(rt;
-        told(&taken(&mut builders, &sample(alloc, 1000, Gap::Whole)?)),
+        closed_parts(&closed_before(&mut builders, &sample(alloc, 1000, Gap::Whole)?)),
         None
     );
-    assert!(rt; joined(&mut builders, &sample(alloc, 1010, Gap::Whole)?));
-    let closed = taken(&mut builders, &sample(alloc, 1020, Gap::Lost(2))?);
-    assert_eq!(rt; told(&closed), Some((Reason::Gap, 2, Gap::Whole)));
+    assert!(rt; joins_open(&mut builders, &sample(alloc, 1010, Gap::Whole)?));
+    let closed = closed_before(&mut builders, &sample(alloc, 1020, Gap::Lost(2))?);
+    assert_eq!(rt; closed_parts(&closed), Some((Reason::Gap, 2, Gap::Whole)));
     assert_eq!(rt; (builders.len(), builders.open()), (1, 1));
     let aged = builders.age(count(1_001_021)?);
-    assert_eq!(rt; told(&aged), Some((Reason::Age, 1, Gap::Lost(2))));
+    assert_eq!(rt; closed_parts(&aged), Some((Reason::Age, 1, Gap::Lost(2))));
     if let Some(closed) = aged {
         builders.recycle(5, closed);
     }
-    assert_eq!(rt; (told(&builders.flush()), builders.open()), (None, 0));
+    assert_eq!(rt;
+        (closed_parts(&builders.flush()), builders.open()),
+        (None, 0)
+    );
     Ok(())
 }
 

@@ -91,10 +91,10 @@ fn lanes(alloc: Global, channel: ChannelSpec) -> Result<Vec<RingLane>, AllocErro
 }
 
 /// A recorder over lanes of one thread.
-pub(crate) type Desk = Recorder<Memory, RingLane>;
+pub(crate) type DirectRecorder = Recorder<Memory, RingLane>;
 
 /// A recorder of channel 5 over a formatted medium.
-pub(crate) fn new_recorder(alloc: Global) -> Result<Desk, Fail> {
+pub(crate) fn new_recorder(alloc: Global) -> Result<DirectRecorder, Fail> {
     let settings = settings(alloc, CHANNEL)?;
     let medium = medium(alloc, &settings)?;
     let lanes = lanes(alloc, CHANNEL)?;
@@ -129,14 +129,19 @@ fn done(answer: Result<(), Refusal>) -> Result<usize, Refusal> {
 }
 
 /// Offers a message on channel 5.
-fn offer(alloc: Global, recorder: &mut Desk, units: u64, bytes: &[u8]) -> Result<(), Refusal> {
+fn offer(
+    alloc: Global,
+    recorder: &mut DirectRecorder,
+    units: u64,
+    bytes: &[u8],
+) -> Result<(), Refusal> {
     match uart(alloc, bytes) {
         Ok(message) => recorder.offer(5, units, message),
         Err(AllocError) => Err(Refusal::OutOfMemory),
     }
 }
 
-fn stop(recorder: &mut Desk) -> Result<usize, Refusal> {
+fn stop(recorder: &mut DirectRecorder) -> Result<usize, Refusal> {
     match recorder.stop_file() {
         Ok(stopped) => Ok(stopped.taken),
         Err(refusal) => Err(refusal),
@@ -144,7 +149,7 @@ fn stop(recorder: &mut Desk) -> Result<usize, Refusal> {
 }
 
 /// What a recorder answers.
-fn answer(alloc: Global, recorder: &mut Desk, ask: Ask) -> Result<usize, Refusal> {
+fn answer(alloc: Global, recorder: &mut DirectRecorder, ask: Ask) -> Result<usize, Refusal> {
     match ask {
         Ask::Mount => done(recorder.mount()),
         Ask::Dismount => done(recorder.dismount()),
@@ -164,7 +169,7 @@ fn answer(alloc: Global, recorder: &mut Desk, ask: Ask) -> Result<usize, Refusal
 pub(crate) type Call = (Ask, Result<usize, Refusal>);
 
 /// How many calls are answered otherwise.
-pub(crate) fn otherwise(alloc: Global, recorder: &mut Desk, calls: &[Call]) -> usize {
+pub(crate) fn otherwise(alloc: Global, recorder: &mut DirectRecorder, calls: &[Call]) -> usize {
     let mut wrong = 0usize;
     for (ask, want) in calls {
         if answer(alloc, recorder, *ask) != *want {
@@ -188,7 +193,11 @@ pub(crate) const WAITING: &[Call] = &[
 pub(crate) const SHOWN: &[Call] = &[(Ask::Pump, Ok(2)), (Ask::Commit, Ok(0))];
 
 /// A recorder that was asked so.
-pub(crate) fn asked(alloc: Global, first: &[Call], then: &[Call]) -> Result<Desk, Fail> {
+pub(crate) fn recorder_after(
+    alloc: Global,
+    first: &[Call],
+    then: &[Call],
+) -> Result<DirectRecorder, Fail> {
     let mut recorder = new_recorder(alloc)?;
     if otherwise(alloc, &mut recorder, first) > 0 || otherwise(alloc, &mut recorder, then) > 0 {
         return Err(Fail::new("a call is answered otherwise"));

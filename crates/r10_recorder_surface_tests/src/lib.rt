@@ -1,5 +1,5 @@
-//! The public calls of a recorder and of its world, of a recorder under a lock, its readers and a session, as a caller writes them: each
-//! type, variant, field and call by its name at its crate, each call once.
+//! The public calls of a recorder and of its world, of a recorder under a lock, its readers and a session, as a caller writes them:
+//! each type, variant, field and call by its name at its crate, each call once.
 #![tactic(auto)]
 
 #[cfg(test)]

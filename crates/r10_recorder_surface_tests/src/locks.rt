@@ -6,7 +6,7 @@ ghost use Rattle.r10_held.specs.LockFact.{outlet_received, outlet_spec};
 ghost use Rattle.r10_held.specs.Naming.{AreNamed};
 ghost use Rattle.r10_medium.specs.MemoryDisk.{memory_disk};
 
-use crate::between::{LAST, LEAP_DAY, channels, locked, new_recorder, send};
+use crate::between::{LAST, LEAP_DAY, cabinet_of, channels, new_recorder, send};
 use r10_body::{Glance, Refusal};
 use r10_cursor::Cursor;
 use r10_medium::Memory;
@@ -145,7 +145,7 @@ const ENDED: &[Call] = &[
 ];
 
 /// A cursor on the first file.
-pub(crate) fn opened<N: Rings>(
+pub(crate) fn first_cursor<N: Rings>(
     alloc: Global,
     held: &mut Held<Memory, N>,
 ) -> Result<Cursor, Refusal> {
@@ -156,15 +156,15 @@ pub(crate) fn opened<N: Rings>(
 }
 
 /// How many entries a new cursor is given.
-fn advanced<N: Rings>(alloc: Global, held: &mut Held<Memory, N>) -> Result<usize, Refusal> {
-    match opened(alloc, held) {
+fn instalment_len<N: Rings>(alloc: Global, held: &mut Held<Memory, N>) -> Result<usize, Refusal> {
+    match first_cursor(alloc, held) {
         Ok(mut cursor) => held.advance(&mut cursor),
         Err(refusal) => Err(refusal),
     }
 }
 
 /// How many calls of the recorder under the lock are answered otherwise, and what a cursor there is given.
-fn asked<N: Rings, R: Wait>(
+fn wrong_answers<N: Rings, R: Wait>(
     rt: &R,
     alloc: Global,
     gauged: Gauged<Memory>,
@@ -175,11 +175,11 @@ fn asked<N: Rings, R: Wait>(
     requires gauge { gauged.cell ≡ N.gauge }
 {
     let _sent = send(alloc, port);
-    let (cabinet, _pass) = locked::<N>(gauged);
+    let (cabinet, _pass) = cabinet_of::<N>(gauged);
     let mut held = cabinet.hold(rt);
     let begun = otherwise(rt, &mut held, BEGUN);
     let shown = otherwise(rt, &mut held, SHOWN);
-    let advanced = advanced(alloc, &mut held);
+    let advanced = instalment_len(alloc, &mut held);
     let ended = otherwise(rt, &mut held, ENDED);
     Ok(([begun, shown, ended], advanced))
 }
@@ -188,7 +188,7 @@ fn asked<N: Rings, R: Wait>(
 fn the_lock_has_the_recorders_calls(rt: HostRuntime) -> Result<(), Fail> {
     let alloc = rt.alloc();
     let (gauged, port) = new_recorder(alloc)?;
-    let told = asked::<Brand, HostRuntime>(&rt, alloc, gauged, port)?;
+    let told = wrong_answers::<Brand, HostRuntime>(&rt, alloc, gauged, port)?;
     assert_eq!(rt; told, ([0; 3], Ok(1)));
     Ok(())
 }
@@ -206,7 +206,7 @@ fn glances<N: Rings, R: Wait>(rt: &R, cabinet: &Cabinet<Memory, N>, pass: Pass) 
 }
 
 /// What is seen without the lock of a recorder that shows a message.
-fn seen<N: Rings, R: Wait>(
+fn glance_after_commit<N: Rings, R: Wait>(
     rt: &R,
     alloc: Global,
     gauged: Gauged<Memory>,
@@ -217,7 +217,7 @@ fn seen<N: Rings, R: Wait>(
     requires gauge { gauged.cell ≡ N.gauge }
 {
     let _sent = send(alloc, port);
-    let (cabinet, pass) = locked::<N>(gauged);
+    let (cabinet, pass) = cabinet_of::<N>(gauged);
     otherwise(rt, &mut cabinet.hold(rt), BEGUN);
     otherwise(rt, &mut cabinet.hold(rt), SHOWN);
     Ok(glances(rt, &cabinet, pass))
@@ -227,7 +227,7 @@ fn seen<N: Rings, R: Wait>(
 fn a_glance_sees_what_was_published(rt: HostRuntime) -> Result<(), Fail> {
     let alloc = rt.alloc();
     let (gauged, port) = new_recorder(alloc)?;
-    let told = seen::<Brand, HostRuntime>(&rt, alloc, gauged, port)?;
+    let told = glance_after_commit::<Brand, HostRuntime>(&rt, alloc, gauged, port)?;
     let glance = Glance {
         commits: 2,
         file: 0,

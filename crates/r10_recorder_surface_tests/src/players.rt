@@ -6,8 +6,8 @@ ghost use Rattle.r10_held.specs.LockFact.{outlet_received, outlet_spec};
 ghost use Rattle.r10_held.specs.Naming.{AreNamed};
 ghost use Rattle.r10_medium.specs.MemoryDisk.{memory_disk};
 
-use crate::between::{locked, new_recorder, send};
-use crate::locks::{BEGUN, SHOWN, opened, otherwise};
+use crate::between::{cabinet_of, new_recorder, send};
+use crate::locks::{BEGUN, SHOWN, first_cursor, otherwise};
 use r10_body::Refusal;
 use r10_medium::Memory;
 use r10_port::Port;
@@ -27,7 +27,7 @@ pub(crate) fn reader<N: Rings, R: Wait>(
     requires { pass.cell ≡ cabinet.now }
     ensures { IfOk result (λ player. player.pass.cell ≡ cabinet.now) }
 {
-    match opened(alloc, &mut cabinet.hold(rt)) {
+    match first_cursor(alloc, &mut cabinet.hold(rt)) {
         Ok(cursor) => Ok(Player::new(cursor, pass)),
         Err(refusal) => Err(Fail::new(refusal)),
     }
@@ -58,7 +58,7 @@ fn read<N: Rings, R: Wait>(
 }
 
 /// The same of a recorder that shows a message.
-fn watched<N: Rings, R: Wait>(
+fn glance_after_message<N: Rings, R: Wait>(
     rt: &R,
     alloc: Global,
     gauged: Gauged<Memory>,
@@ -69,7 +69,7 @@ fn watched<N: Rings, R: Wait>(
     requires gauge { gauged.cell ≡ N.gauge }
 {
     let _sent = send(alloc, port);
-    let (cabinet, pass) = locked::<N>(gauged);
+    let (cabinet, pass) = cabinet_of::<N>(gauged);
     otherwise(rt, &mut cabinet.hold(rt), BEGUN);
     otherwise(rt, &mut cabinet.hold(rt), SHOWN);
     let player = reader(rt, alloc, &cabinet, pass)?;
@@ -80,7 +80,7 @@ fn watched<N: Rings, R: Wait>(
 fn a_player_reads_beside_the_lock(rt: HostRuntime) -> Result<(), Fail> {
     let alloc = rt.alloc();
     let (gauged, port) = new_recorder(alloc)?;
-    let told = watched::<Brand, HostRuntime>(&rt, alloc, gauged, port)?;
+    let told = glance_after_message::<Brand, HostRuntime>(&rt, alloc, gauged, port)?;
     assert_eq!(rt; told, ([Ok(1), Ok(0)], [Some(1001), None]));
     Ok(())
 }

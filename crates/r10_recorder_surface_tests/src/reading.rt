@@ -1,6 +1,6 @@
 //! The calls that read what a file shows: `r10_control`.
 
-use crate::inputs::{Desk, LAST, LATER, SHOWN, WAITING, asked, channels};
+use crate::inputs::{DirectRecorder, LAST, LATER, SHOWN, WAITING, channels, recorder_after};
 use r10_body::Refusal;
 use r10_control::Found;
 use r10_cursor::Cursor;
@@ -8,7 +8,7 @@ use std::alloc::Global;
 use std::test::Fail;
 
 /// The first message from 1001 on: its number, and its count.
-fn first_from(recorder: &mut Desk) -> Option<(usize, u64)> {
+fn first_from(recorder: &mut DirectRecorder) -> Option<(usize, u64)> {
     match recorder.find(0, 5, 1001) {
         Ok(Some(Found { number, entry })) => Some((number, entry.count.get())),
         _ => None,
@@ -16,7 +16,7 @@ fn first_from(recorder: &mut Desk) -> Option<(usize, u64)> {
 }
 
 /// The count at a time.
-fn told(recorder: &mut Desk) -> Option<u64> {
+fn count_at_time(recorder: &mut DirectRecorder) -> Option<u64> {
     match recorder.count_at(0, LATER) {
         Ok(Some(count)) => Some(count.get()),
         _ => None,
@@ -25,14 +25,14 @@ fn told(recorder: &mut Desk) -> Option<u64> {
 
 #[test]
 fn a_recorder_finds(rt: HostRuntime) -> Result<(), Fail> {
-    let mut recorder = asked(rt.alloc(), WAITING, SHOWN)?;
+    let mut recorder = recorder_after(rt.alloc(), WAITING, SHOWN)?;
     assert_eq!(rt; first_from(&mut recorder), Some((1, 1010)));
-    assert_eq!(rt; told(&mut recorder), Some(2_201_000));
+    assert_eq!(rt; count_at_time(&mut recorder), Some(2_201_000));
     Ok(())
 }
 
 /// A cursor on the first file.
-fn opened(alloc: Global, recorder: &mut Desk) -> Result<Cursor, Fail> {
+fn first_cursor(alloc: Global, recorder: &mut DirectRecorder) -> Result<Cursor, Fail> {
     let channels = channels(alloc)?;
     match recorder.cursor(0, channels, 0, LAST) {
         Ok(cursor) => Ok(cursor),
@@ -51,14 +51,14 @@ fn next(cursor: &mut Cursor) -> Option<u64> {
 #[test]
 fn a_cursor_is_advanced(rt: HostRuntime) -> Result<(), Fail> {
     let alloc = rt.alloc();
-    let mut recorder = asked(alloc, WAITING, SHOWN)?;
-    let mut cursor = opened(alloc, &mut recorder)?;
+    let mut recorder = recorder_after(alloc, WAITING, SHOWN)?;
+    let mut cursor = first_cursor(alloc, &mut recorder)?;
     assert_eq!(rt; recorder.advance(&mut cursor), Ok(2));
     assert_eq!(rt; recorder.advance(&mut cursor), Err(Refusal::Unread));
     let counts = [next(&mut cursor), next(&mut cursor), next(&mut cursor)];
     assert_eq!(rt; counts, [Some(1000), Some(1010), None]);
     assert_eq!(rt; recorder.advance(&mut cursor), Ok(0));
-    let mut other = opened(alloc, &mut recorder)?;
+    let mut other = first_cursor(alloc, &mut recorder)?;
     assert_eq!(rt; recorder.take_instalment(&mut other), Ok(2));
     assert_eq!(rt; other.rest(alloc).len(), 2);
     Ok(())

@@ -1,6 +1,6 @@
 //! The calls that record, and what a recorder tells of itself: `r10_control`.
 
-use crate::inputs::{Ask, Call, Desk, SHOWN, WAITING, asked, otherwise};
+use crate::inputs::{Ask, Call, DirectRecorder, SHOWN, WAITING, otherwise, recorder_after};
 use r10_body::Refusal;
 use r10_control::{FileInfo, LaneStatus, Mode, RecorderStatus, Stopped};
 use r10_machine::{ChannelStatus, Status};
@@ -19,14 +19,16 @@ const ENDED: &[Call] = &[
 #[test]
 fn a_recorder_answers_its_calls(rt: HostRuntime) -> Result<(), Fail> {
     let alloc = rt.alloc();
-    let mut recorder = asked(alloc, WAITING, SHOWN)?;
+    let mut recorder = recorder_after(alloc, WAITING, SHOWN)?;
     let wrong = otherwise(alloc, &mut recorder, ENDED);
     assert_eq!(rt; (wrong, recorder.into_medium().failures()), (0, 0));
     Ok(())
 }
 
 /// How a recorder is, with what it tells of its one channel.
-fn told(recorder: &mut Desk) -> Option<(Mode, Option<u64>, usize, u64, Option<LaneStatus>)> {
+fn status_parts(
+    recorder: &mut DirectRecorder,
+) -> Option<(Mode, Option<u64>, usize, u64, Option<LaneStatus>)> {
     let Ok(
         RecorderStatus {
             mode,
@@ -50,7 +52,7 @@ fn told(recorder: &mut Desk) -> Option<(Mode, Option<u64>, usize, u64, Option<La
 }
 
 /// What waits of its one channel, and what was lost of it.
-fn lost(recorder: &Desk) -> Option<ChannelStatus> {
+fn channel_status(recorder: &DirectRecorder) -> Option<ChannelStatus> {
     let Ok(Status { channels, .. }) = recorder.status_with_lost() else {
         return None;
     };
@@ -59,14 +61,14 @@ fn lost(recorder: &Desk) -> Option<ChannelStatus> {
 
 #[test]
 fn a_recorder_says_how_it_is(rt: HostRuntime) -> Result<(), Fail> {
-    let mut recorder = asked(rt.alloc(), WAITING, &[])?;
+    let mut recorder = recorder_after(rt.alloc(), WAITING, &[])?;
     let lane = LaneStatus {
         channel: 5,
         held: 2,
         erased: 0,
     };
     assert_eq!(rt;
-        told(&mut recorder),
+        status_parts(&mut recorder),
         Some((Mode::Recording, Some(1000), 1, 30_964, Some(lane)))
     );
     let channel = ChannelStatus {
@@ -75,7 +77,7 @@ fn a_recorder_says_how_it_is(rt: HostRuntime) -> Result<(), Fail> {
         lost: 1,
         erased: 0,
     };
-    assert_eq!(rt; lost(&recorder), Some(channel));
+    assert_eq!(rt; channel_status(&recorder), Some(channel));
     assert_eq!(rt;
         (recorder.lost(5), recorder.lost(6)),
         (Ok(1), Err(Refusal::NoSuchChannel))
@@ -85,7 +87,7 @@ fn a_recorder_says_how_it_is(rt: HostRuntime) -> Result<(), Fail> {
 
 #[test]
 fn a_recorder_counts_losses_from_outside(rt: HostRuntime) -> Result<(), Fail> {
-    let mut recorder = asked(rt.alloc(), WAITING, &[])?;
+    let mut recorder = recorder_after(rt.alloc(), WAITING, &[])?;
     let told = [
         recorder.lose(5, 41),
         recorder.lose(6, 1),
@@ -97,7 +99,7 @@ fn a_recorder_counts_losses_from_outside(rt: HostRuntime) -> Result<(), Fail> {
 }
 
 /// Whether its one file is the one that is meant.
-fn lists(recorder: &Desk) -> bool {
+fn lists(recorder: &DirectRecorder) -> bool {
     let Ok(files) = recorder.files() else {
         return false;
     };
@@ -117,7 +119,7 @@ fn lists(recorder: &Desk) -> bool {
 
 #[test]
 fn a_stopped_file_is_listed(rt: HostRuntime) -> Result<(), Fail> {
-    let mut recorder = asked(rt.alloc(), WAITING, &[])?;
+    let mut recorder = recorder_after(rt.alloc(), WAITING, &[])?;
     let stopped = recorder.stop_file();
     assert_eq!(rt; stopped, Ok(Stopped { taken: 2, left: 0 }));
     assert!(rt; lists(&recorder));

@@ -6,7 +6,9 @@ ghost use Rattle.r10_held.specs.LockFact.{outlet_received, outlet_spec};
 ghost use Rattle.r10_held.specs.Naming.{AreNamed, ring_for};
 ghost use Rattle.r10_medium.specs.MemoryDisk.{memory_disk};
 
-use crate::between::{LAST, LEAP_DAY, formatted, locked, new_recorder, recorder_over, text, two};
+use crate::between::{
+    LAST, LEAP_DAY, cabinet_of, formatted_medium, new_recorder, recorder_over, text, two,
+};
 use crate::locks::{BEGUN, otherwise};
 use r10_count::Items;
 use r10_medium::Memory;
@@ -46,7 +48,7 @@ fn start(alloc: Global, name: &[u8]) -> Result<Order, AllocError> {
 }
 
 /// These orders in a list.
-fn listed<const COUNT: usize>(
+fn order_list<const COUNT: usize>(
     alloc: Global,
     orders: [Order; COUNT],
 ) -> Result<Vec<Order>, AllocError> {
@@ -54,7 +56,7 @@ fn listed<const COUNT: usize>(
 }
 
 /// The report of a session that is over.
-fn ended<N: Rings>(
+fn report_of<N: Rings>(
     alloc: Global,
     cabinet: Cabinet<Memory, N>,
     session: Session<N>,
@@ -66,7 +68,7 @@ fn ended<N: Rings>(
 }
 
 /// A session of orders alone.
-fn ordered<N: Rings + Send + Sync, R: Threads + Wait + Sync>(
+fn run_orders<N: Rings + Send + Sync, R: Threads + Wait + Sync>(
     rt: &R,
     alloc: Global,
     gauged: Gauged<Memory>,
@@ -78,10 +80,10 @@ fn ordered<N: Rings + Send + Sync, R: Threads + Wait + Sync>(
     requires gauge { gauged.cell ≡ N.gauge }
 {
     let _unused = port;
-    let (cabinet, _pass) = locked::<N>(gauged);
+    let (cabinet, _pass) = cabinet_of::<N>(gauged);
     let (feeds, players) = (Vec::new(alloc), Vec::new(alloc));
     match run_session(rt, alloc, &cabinet, &OrdersAlone, feeds, orders, players) {
-        Ok(session) => ended(alloc, cabinet, session),
+        Ok(session) => report_of(alloc, cabinet, session),
         Err(_) => Err(Fail::new("no memory")),
     }
 }
@@ -94,13 +96,14 @@ fn left_by<R: Threads + Wait + Sync>(
     orders: Vec<Order>,
 ) -> Result<(Option<(usize, u64)>, Memory), Fail> {
     let (gauged, port) = recorder_over(alloc, medium)?;
-    let report = ordered::<Brand, R>(rt, alloc, gauged, port, orders)?;
+    let report = run_orders::<Brand, R>(rt, alloc, gauged, port, orders)?;
     let recorder = report.recorder;
     Ok((recorder.last_shown(), recorder.into_medium()))
 }
 
-/// A setup, a time and an event have 32, 36 and 40 bytes, shown by the commit; the file is left open, and sealed by another recorder, which may begin the next one
-/// only after that. Its stop puts a node and a root behind setup and time: 68 and 60 bytes. An order that is not given, or given twice, leaves others.
+/// A setup, a time and an event have 32, 36 and 40 bytes, shown by the commit; the file is left open, and sealed by another
+/// recorder, which may begin the next one only after that. Its stop puts a node and a root behind setup and time: 68 and 60 bytes.
+/// An order that is not given, or given twice, leaves others.
 #[test]
 fn orders_are_given(rt: HostRuntime) -> Result<(), Fail> {
     let alloc = rt.alloc();
@@ -115,7 +118,12 @@ fn orders_are_given(rt: HostRuntime) -> Result<(), Fail> {
         event,
         Order::Commit,
     ];
-    let (shown, medium) = left_by(&rt, alloc, formatted(alloc)?, listed(alloc, first)?)?;
+    let (shown, medium) = left_by(
+        &rt,
+        alloc,
+        formatted_medium(alloc)?,
+        order_list(alloc, first)?,
+    )?;
     assert_eq!(rt; shown, Some((0, 108)));
     let second = [
         Order::Mount,
@@ -124,10 +132,10 @@ fn orders_are_given(rt: HostRuntime) -> Result<(), Fail> {
         start(alloc, b"FLT2")?,
         Order::Stop,
     ];
-    let (shown, medium) = left_by(&rt, alloc, medium, listed(alloc, second)?)?;
+    let (shown, medium) = left_by(&rt, alloc, medium, order_list(alloc, second)?)?;
     assert_eq!(rt; shown, Some((1, 196)));
     let third = [Order::Mount, Order::Erase, Order::Dismount, Order::Mount];
-    let (shown, _medium) = left_by(&rt, alloc, medium, listed(alloc, third)?)?;
+    let (shown, _medium) = left_by(&rt, alloc, medium, order_list(alloc, third)?)?;
     assert_eq!(rt; shown, None);
     Ok(())
 }
@@ -178,7 +186,7 @@ fn reader<N: Rings, R: Wait>(
 }
 
 /// A session of a feed and a reader, of a file that is begun before.
-fn fed<N: Rings + Send + Sync, R: Threads + Wait + Sync>(
+fn run_feed<N: Rings + Send + Sync, R: Threads + Wait + Sync>(
     rt: &R,
     alloc: Global,
     gauged: Gauged<Memory>,
@@ -191,18 +199,18 @@ fn fed<N: Rings + Send + Sync, R: Threads + Wait + Sync>(
 {
     let source: Box<dyn ChannelSource + Send> = Box::new(alloc, two(alloc)?)?;
     let feeds = feeds(alloc, source, port)?;
-    let (cabinet, pass) = locked::<N>(gauged);
+    let (cabinet, pass) = cabinet_of::<N>(gauged);
     otherwise(rt, &mut cabinet.hold(rt), BEGUN);
     let player = reader(rt, alloc, &cabinet, pass)?;
     let players = players(alloc, player)?;
     match run_session(rt, alloc, &cabinet, &Open, feeds, Vec::new(alloc), players) {
-        Ok(session) => ended(alloc, cabinet, session),
+        Ok(session) => report_of(alloc, cabinet, session),
         Err(_) => Err(Fail::new("no memory")),
     }
 }
 
 /// What is told of the one feed: its channel, how many messages were accepted, refused, erased and filed, and how many are left.
-fn told(feeds: &[FeedReport]) -> Option<(u16, [u64; 4], usize)> {
+fn feed_numbers(feeds: &[FeedReport]) -> Option<(u16, [u64; 4], usize)> {
     let [
         FeedReport {
             channel,
@@ -232,7 +240,7 @@ fn entries_in(instalments: &[Instalment]) -> usize {
 }
 
 /// What the one reader read of which file, of how many channels, and how many entries.
-fn written(transcripts: &[Transcript]) -> Option<(usize, usize, [u64; 2], usize)> {
+fn transcript_numbers(transcripts: &[Transcript]) -> Option<(usize, usize, [u64; 2], usize)> {
     let [
         Transcript {
             file,
@@ -258,10 +266,13 @@ fn written(transcripts: &[Transcript]) -> Option<(usize, usize, [u64; 2], usize)
 fn a_feed_is_filed_and_read(rt: HostRuntime) -> Result<(), Fail> {
     let alloc = rt.alloc();
     let (gauged, port) = new_recorder(alloc)?;
-    let mut report = fed::<Brand, HostRuntime>(&rt, alloc, gauged, port)?;
-    assert_eq!(rt; told(report.feeds.as_slice()), Some((5, [2, 0, 0, 2], 0)));
+    let mut report = run_feed::<Brand, HostRuntime>(&rt, alloc, gauged, port)?;
     assert_eq!(rt;
-        written(report.transcripts.as_slice()),
+        feed_numbers(report.feeds.as_slice()),
+        Some((5, [2, 0, 0, 2], 0))
+    );
+    assert_eq!(rt;
+        transcript_numbers(report.transcripts.as_slice()),
         Some((0, 0, [0, LAST], 2))
     );
     assert_eq!(rt; audit(alloc, &mut report), Ok(true));

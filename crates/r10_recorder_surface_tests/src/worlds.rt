@@ -117,7 +117,7 @@ const STEPS: &[Ask] = &[
 
 /// What a reply tells, in a number.
 #[derive(Clone, Copy, Debug, PartialEq, Eq)]
-enum Told {
+enum ReplyParts {
     Done,
     Moved(usize),
     Stopped(usize, usize),
@@ -177,43 +177,46 @@ fn free_in(status: &Status) -> u64 {
     }
 }
 
-fn said(reply: &Reply) -> Told {
+fn reply_parts(reply: &Reply) -> ReplyParts {
     match reply {
-        Reply::Done => Told::Done,
-        Reply::Moved(moved) => Told::Moved(*moved),
-        Reply::Stopped(Stopped { taken, left }) => Told::Stopped(*taken, *left),
-        Reply::Files(files) => Told::Files(size_in(files)),
-        Reply::Status(status) => Told::Status(free_in(status)),
-        Reply::Cursor(id) => Told::Cursor(*id),
-        Reply::Advanced(queued) => Told::Advanced(*queued),
-        Reply::Next(Some(entry)) => Told::Next(entry.count.get()),
-        Reply::Found(Some(Found { number, entry })) => Told::Found(*number, entry.count.get()),
-        Reply::CountAt(Some(count)) => Told::CountAt(count.get()),
-        Reply::Refused(refusal) => Told::Refused(*refusal),
-        Reply::Next(None) | Reply::Found(None) | Reply::CountAt(None) => Told::Nothing,
+        Reply::Done => ReplyParts::Done,
+        Reply::Moved(moved) => ReplyParts::Moved(*moved),
+        Reply::Stopped(Stopped { taken, left }) => ReplyParts::Stopped(*taken, *left),
+        Reply::Files(files) => ReplyParts::Files(size_in(files)),
+        Reply::Status(status) => ReplyParts::Status(free_in(status)),
+        Reply::Cursor(id) => ReplyParts::Cursor(*id),
+        Reply::Advanced(queued) => ReplyParts::Advanced(*queued),
+        Reply::Next(Some(entry)) => ReplyParts::Next(entry.count.get()),
+        Reply::Found(Some(Found { number, entry })) => ReplyParts::Found(
+            *number,
+            entry.count.get(),
+        ),
+        Reply::CountAt(Some(count)) => ReplyParts::CountAt(count.get()),
+        Reply::Refused(refusal) => ReplyParts::Refused(*refusal),
+        Reply::Next(None) | Reply::Found(None) | Reply::CountAt(None) => ReplyParts::Nothing,
     }
 }
 
-const WANTED: &[Told] = &[
-    Told::Done,
-    Told::Done,
-    Told::Done,
-    Told::Done,
-    Told::Moved(1),
-    Told::Done,
-    Told::Done,
-    Told::Status(30_729),
-    Told::Stopped(0, 0),
-    Told::Refused(Refusal::NoSuchFile),
-    Told::Files(320),
-    Told::Cursor(0),
-    Told::Advanced(1),
-    Told::Next(1000),
-    Told::Found(0, 1000),
-    Told::CountAt(2_201_000),
-    Told::Done,
-    Told::Done,
-    Told::Done,
+const WANTED: &[ReplyParts] = &[
+    ReplyParts::Done,
+    ReplyParts::Done,
+    ReplyParts::Done,
+    ReplyParts::Done,
+    ReplyParts::Moved(1),
+    ReplyParts::Done,
+    ReplyParts::Done,
+    ReplyParts::Status(30_729),
+    ReplyParts::Stopped(0, 0),
+    ReplyParts::Refused(Refusal::NoSuchFile),
+    ReplyParts::Files(320),
+    ReplyParts::Cursor(0),
+    ReplyParts::Advanced(1),
+    ReplyParts::Next(1000),
+    ReplyParts::Found(0, 1000),
+    ReplyParts::CountAt(2_201_000),
+    ReplyParts::Done,
+    ReplyParts::Done,
+    ReplyParts::Done,
 ];
 
 /// A world of channel 5 over a formatted medium.
@@ -238,7 +241,7 @@ fn events(alloc: Global) -> Result<Vec<Event>, AllocError> {
 fn same(replies: &[Reply]) -> usize {
     let mut place = 0usize;
     for (reply, wanted) in replies.iter().zip(WANTED) {
-        if said(reply) != *wanted {
+        if reply_parts(reply) != *wanted {
             return place;
         }
         place = place.wrapping_add(1);
@@ -304,10 +307,10 @@ fn a_world_marks_losses_from_outside(rt: HostRuntime) -> Result<(), Fail> {
         (done, gap_in(replies.last())),
         (Ok(11), Some(Gap::Lost(41)))
     );
-    assert_eq!(rt; replies.get(3).map(said), Some(Told::Done));
+    assert_eq!(rt; replies.get(3).map(reply_parts), Some(ReplyParts::Done));
     assert_eq!(rt;
-        replies.get(4).map(said),
-        Some(Told::Refused(Refusal::NoSuchChannel))
+        replies.get(4).map(reply_parts),
+        Some(ReplyParts::Refused(Refusal::NoSuchChannel))
     );
     Ok(())
 }

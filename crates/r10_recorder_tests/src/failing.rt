@@ -26,13 +26,13 @@ const LINES: &str = "1 refused 2 NotMounted\n";
 
 /// A reader that gives these bytes a few at a time, with an interruption before each, and then ends or fails.
 #[derive(Drop)]
-struct Slow {
+struct SlowReader {
     left: &'static [u8],
     interrupted: bool,
     fails: bool,
 }
 
-impl Read for Slow {
+impl Read for SlowReader {
     fn read(&mut self, buf: &mut [u8]) -> io::Result<usize> {
         self.interrupted = !self.interrupted;
         if self.interrupted {
@@ -48,12 +48,12 @@ impl Read for Slow {
 
 /// A writer that takes so many bytes, and then no more; whether it can pass them on.
 #[derive(Drop)]
-struct Full {
+struct FullWriter {
     room: usize,
     flushes: bool,
 }
 
-impl Write for Full {
+impl Write for FullWriter {
     fn write(&mut self, buf: &[u8]) -> io::Result<usize> {
         if self.room == 0 {
             return Err(io::Error::from(ErrorKind::StorageFull));
@@ -88,7 +88,7 @@ fn words_of(alloc: Global, line: &[&str]) -> Result<Vec<String>, AllocError> {
 
 /// The status, how many bytes are left in the buffer, the lines and the fault of a run over a slow reader.
 fn read_slowly(alloc: Global, fails: bool) -> Result<String, Fail> {
-    let mut reader = Slow {
+    let mut reader = SlowReader {
         left: SCRIPT.as_bytes(),
         interrupted: false,
         fails,
@@ -108,7 +108,7 @@ fn read_slowly(alloc: Global, fails: bool) -> Result<String, Fail> {
 fn write_into(alloc: Global, line: &[&str], room: usize, flushes: bool) -> Result<String, Fail> {
     let words = words_of(alloc, line)?;
     let mut reader = SCRIPT.as_bytes();
-    let mut full = BufWriter::new(alloc, Full { room, flushes })?;
+    let mut full = BufWriter::new(alloc, FullWriter { room, flushes })?;
     let mut said = Vec::new(alloc);
     let status = r10_command::run(alloc, words.as_slice(), &mut reader, &mut full, &mut said);
     let said = String::from_utf8(said)?;

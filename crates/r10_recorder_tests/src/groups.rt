@@ -13,7 +13,7 @@ use std::test::Fail;
 
 /// A file as a listing is to tell it.
 #[derive(Clone, Copy)]
-struct Listed {
+struct FileListing {
     name: &'static [u8],
     size: u64,
     blocks: u64,
@@ -32,11 +32,11 @@ enum Ask {
     /// The hundredth time of a file.
     Find(usize),
     /// The files, which are to be these.
-    Files(&'static [Listed]),
+    Files(&'static [FileListing]),
 }
 
 /// A file of 101 packets, 3,632 bytes, that nobody closed.
-const LEFT: Listed = Listed {
+const LEFT: FileListing = FileListing {
     name: b"FLT1",
     size: 3632,
     blocks: 8,
@@ -44,7 +44,7 @@ const LEFT: Listed = Listed {
 };
 
 /// Behind such packets two groups, a node of 2,028 bytes and one of 48, and behind each a root of 60.
-const CHAINED: Listed = Listed {
+const CHAINED: FileListing = FileListing {
     name: b"FLT1",
     size: 5828,
     blocks: 12,
@@ -52,14 +52,14 @@ const CHAINED: Listed = Listed {
 };
 
 /// Both nodes, and a root of 76 bytes.
-const ALONE: Listed = Listed {
+const ALONE: FileListing = FileListing {
     name: b"FLT3",
     size: 5784,
     blocks: 12,
     closed: true,
 };
 
-const SECOND: Listed = Listed {
+const SECOND: FileListing = FileListing {
     name: b"FLT2",
     ..CHAINED
 };
@@ -87,7 +87,7 @@ fn event_of(alloc: Global, ask: Ask) -> Result<Event, Fail> {
     })
 }
 
-fn listing(alloc: Global, files: &[Listed]) -> Result<Items<FileInfo>, Fail> {
+fn listing(alloc: Global, files: &[FileListing]) -> Result<Items<FileInfo>, Fail> {
     let mut found = Vec::new(alloc);
     for file in files {
         found.push(FileInfo {
@@ -121,7 +121,7 @@ fn reply_of(alloc: Global, ask: Ask) -> Result<Reply, Fail> {
 }
 
 /// A recorder with groups of so many nodes gives the replies that are wanted to what stands before 99 ticks and behind them.
-fn recorded(
+fn answers_wanted(
     rt: &impl Abort,
     alloc: Global,
     medium: Memory,
@@ -162,7 +162,7 @@ fn recorders_of_different_nodes_share_a_medium(rt: HostRuntime) -> Result<(), Fa
     assert_eq!(rt; format(&mut medium, &settings), Ok(()));
     let before = [Ask::Mount, Ask::Tick(1000), Ask::Start(b"FLT1")];
     let behind = [Ask::Commit, Ask::Files(&[LEFT])];
-    let medium = recorded(&rt, alloc, medium, 2, &before, &behind)?;
+    let medium = answers_wanted(&rt, alloc, medium, 2, &before, &behind)?;
     let before = [Ask::Mount, Ask::Seal, Ask::Tick(1000), Ask::Start(b"FLT2")];
     let behind = [
         Ask::Stop,
@@ -170,7 +170,7 @@ fn recorders_of_different_nodes_share_a_medium(rt: HostRuntime) -> Result<(), Fa
         Ask::Find(1),
         Ask::Files(&[CHAINED, SECOND]),
     ];
-    let medium = recorded(&rt, alloc, medium, 1, &before, &behind)?;
+    let medium = answers_wanted(&rt, alloc, medium, 1, &before, &behind)?;
     let before = [
         Ask::Mount,
         Ask::Find(0),
@@ -183,8 +183,8 @@ fn recorders_of_different_nodes_share_a_medium(rt: HostRuntime) -> Result<(), Fa
         Ask::Find(2),
         Ask::Files(&[CHAINED, SECOND, ALONE]),
     ];
-    let medium = recorded(&rt, alloc, medium, 2, &before, &behind)?;
+    let medium = answers_wanted(&rt, alloc, medium, 2, &before, &behind)?;
     let before = [Ask::Mount, Ask::Find(0), Ask::Find(1), Ask::Find(2)];
-    recorded(&rt, alloc, medium, 1, &before, &[])?;
+    answers_wanted(&rt, alloc, medium, 1, &before, &[])?;
     Ok(())
 }

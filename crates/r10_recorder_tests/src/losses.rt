@@ -16,7 +16,8 @@ time = 1
 event = 2
 channel = [{ id = 5, kind = \"uart\", capacity = 2, check = 0, bytes = 524288, number = 65535 }]
 step = [{ do = \"mount\" }, { do = \"tick\", count = 1000, civil = \"2024-02-29 12:34:56.78\" },
-{ do = \"start\", name = \"FLT1\", setup = \"\" }, { do = \"offer\", channel = 5, count = 1001 }, { do = \"offer\", channel = 5, count = 1002 },
+{ do = \"start\", name = \"FLT1\", setup = \"\" }, { do = \"offer\", channel = 5, count = 1001 }, \
+{ do = \"offer\", channel = 5, count = 1002 },
 ";
 
 /// A message that is refused.
@@ -24,11 +25,14 @@ const REFUSED: &str = "{ do = \"offer\", channel = 5, count = 1003 },\n";
 
 /// One message behind the loss goes into this file. Three more are lost, and the next one goes into another file.
 const BEHIND: &str =
-    "{ do = \"pump\", channel = 5, k = 2 }, { do = \"offer\", channel = 5, count = 1004 }, { do = \"offer\", channel = 5, count = 1005 },
-{ do = \"offer\", channel = 5, count = 1006 }, { do = \"offer\", channel = 5, count = 1007 }, { do = \"offer\", channel = 5, count = 1008 },
+    "{ do = \"pump\", channel = 5, k = 2 }, { do = \"offer\", channel = 5, count = 1004 }, \
+    { do = \"offer\", channel = 5, count = 1005 },
+{ do = \"offer\", channel = 5, count = 1006 }, { do = \"offer\", channel = 5, count = 1007 }, \
+{ do = \"offer\", channel = 5, count = 1008 },
 { do = \"stop\" }, { do = \"seal\" }, { do = \"tick\", count = 2000, civil = \"2024-02-29 12:34:56.78\" },
 { do = \"start\", name = \"FLT2\", setup = \"\" }, { do = \"offer\", channel = 5, count = 2000 }, { do = \"stop\" },
-{ do = \"cursor\", file = 0, channels = [5], from = 1003, to = 9999 }, { do = \"advance\", id = 0 }, { do = \"next\", id = 0 }, { do = \"next\", id = 0 },
+{ do = \"cursor\", file = 0, channels = [5], from = 1003, to = 9999 }, { do = \"advance\", id = 0 }, { do = \"next\", id = 0 }, \
+{ do = \"next\", id = 0 },
 { do = \"cursor\", file = 1, channels = [5], from = 0, to = 9999 }, { do = \"advance\", id = 1 }, { do = \"next\", id = 1 }]
 ";
 

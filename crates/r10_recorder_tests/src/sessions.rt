@@ -20,7 +20,7 @@ number = 65535
 ";
 
 /// How many steps, feeds, items of the first feed, orders and readers a session has, or why the text is none.
-fn told(alloc: Global, tables: &str) -> Result<String, AllocError> {
+fn session_numbers(alloc: Global, tables: &str) -> Result<String, AllocError> {
     let mut text = String::from_str(alloc, HEAD)?;
     text.push_str(tables)?;
     match read_session(alloc, text.as_bytes()) {
@@ -44,7 +44,8 @@ fn told(alloc: Global, tables: &str) -> Result<String, AllocError> {
 fn sessions_are_read(rt: HostRuntime) -> Result<(), Fail> {
     for (tables, said) in [
         (
-            "[[step]]\ndo = \"mount\"\n[[feed]]\nchannel = 5\nitems = [{ count = 2000, bytes = \"00\" }, { count = 2001 }]\n[[order]]\ndo = \"commit\"\n[[reader]]\nfile = 0\nchannels = [5]\nfrom = 0\nto = 9\n",
+            "[[step]]\ndo = \"mount\"\n[[feed]]\nchannel = 5\nitems = [{ count = 2000, bytes = \"00\" }, { count = 2001 }]\n\
+            [[order]]\ndo = \"commit\"\n[[reader]]\nfile = 0\nchannels = [5]\nfrom = 0\nto = 9\n",
             "1 1 2 1 1",
         ),
         (
@@ -68,7 +69,7 @@ fn sessions_are_read(rt: HostRuntime) -> Result<(), Fail> {
             "line 16, item 1 of feed table 1: unknown key \"kind\", the keys here are: count, parity, sub, bytes",
         ),
     ] {
-        assert_eq!(rt; told(rt.alloc(), tables)?.as_str(), said);
+        assert_eq!(rt; session_numbers(rt.alloc(), tables)?.as_str(), said);
     }
     Ok(())
 }

@@ -16,7 +16,7 @@ use Rattle.r10_refinement.specs.Means.{HasFiles, KeptStandsFor}
 use Rattle.r10_medium.proofs.Stops.{stayed, weakened}
 use Rattle.r10_medium.specs.Disk.{Disk, Image, IsSynced, Unchanged}
 use Rattle.r10_medium.specs.Stop.{Leaves, Settled}
-use Rattle.r10_volume.specs.Holding.{Open}
+use Rattle.r10_volume.specs.Holding.{OpenState}
 use Rattle.r10_refinement.proofs.Keeping.{safe_parts, safe_says, safe_shown, safe_synced, safe_unchanged}
 use Rattle.r10_refinement.proofs.Showing.{refused_shows_or_fails, step_shows}
 use Rattle.r10_refinement.specs.Left.{IsEither, StaysSafe}
@@ -82,7 +82,7 @@ quiet_safely known k later event reply old new config alike plain fine same = re
 }
 
 -- a file is recorded before and behind it, and a stop leaves what was shown
-pub shown_safely : (known : Machine → Type 0) (k later : Kept) (event : EventValue) (reply : ReplyValue) (old new : Disk) (chain made : List ChainBlock) (o p : Open) → k.work ≡ recording chain o → later.work ≡ recording made p
+pub shown_safely : (known : Machine → Type 0) (k later : Kept) (event : EventValue) (reply : ReplyValue) (old new : Disk) (chain made : List ChainBlock) (o p : OpenState) → k.work ≡ recording chain o → later.work ≡ recording made p
     → later.config ≡ k.config → may_make event ≡ false → IsNoFailure reply
     → ((m : Machine) → KeptStandsFor k old.blocks old.failures m → Settled (SaysLast k.config m.files old.blocks) old → Leaves (SaysLast k.config m.files old.blocks) old new) → StaysSafe known k event reply old later new
 shown_safely known k later event reply old new chain made o p at then config plain fine leaves = record {

@@ -12,7 +12,7 @@ use Rattle.r10_body.specs.declared.entry.Entry.{Entry}
 use Rattle.r10_body.specs.declared.spec.ChannelSpec.{ChannelSpec}
 use Rattle.r10_medium.specs.Disk.{Image}
 use Rattle.r10_dirchain.specs.declared.chain.ChainBlock.{ChainBlock}
-use Rattle.r10_volume.specs.Holding.{HoldsFiles, Open}
+use Rattle.r10_volume.specs.Holding.{HoldsFiles, OpenState}
 use Rattle.r10_machine.specs.Calls.{TicksIn, shown_whole, empty_file, time_entry}
 use Rattle.r10_machine.specs.Checks.{is_recording}
 use Rattle.r10_machine.specs.Config.{Config}
@@ -108,7 +108,7 @@ numbers_begin files g own specs taken grown erased lanes grows are =
 grown_last : (files later : List File) (f : File) (more : List Entry) → later ≡ files ++ f ∷ [] → files ++ with_entries more f ∷ [] ≡ change_last (with_entries more) later
 grown_last files later f more is = sym (last_changes (with_entries more) files f) ∙ ap (λ (l : List File). change_last (with_entries more) l) (sym is)
 
-pub tick_recorded : StepsStaySound → (k : Kept) (old new : Image) (before now : ℕ) (m : Machine) (chain : List ChainBlock) (o later : Open) (files : List File) (f : File) (count : ℕ) (parts : Parts) (grown : List ℕ)
+pub tick_recorded : StepsStaySound → (k : Kept) (old new : Image) (before now : ℕ) (m : Machine) (chain : List ChainBlock) (o later : OpenState) (files : List File) (f : File) (count : ℕ) (parts : Parts) (grown : List ℕ)
     → IsConfig k.config → KeptStandsFor k old before m → k.work ≡ recording chain o → m.files ≡ files ++ f ∷ [] → f.own ≡ true → refusal k.config m (Tick count parts) ≡ None
     → fits k.config f (time_entry k.config (record { count = count; civil = parts })) ≡ true → AreGrown (time_entry k.config (record { count = count; civil = parts }) ∷ []) k.config.channels k.taken grown
     → HoldsFiles k.config new chain (Some later) (files ++ with_entries (time_entry k.config (record { count = count; civil = parts }) ∷ []) f ∷ []) → before ≤ now
@@ -139,7 +139,7 @@ tick_recorded law k old new before now m chain o later files f count parts grown
       };
     }
 
-pub event_recorded : StepsStaySound → (k : Kept) (old new : Image) (before now : ℕ) (m : Machine) (chain : List ChainBlock) (o later : Open) (files : List File) (f : File) (number count : ℕ) (grown : List ℕ)
+pub event_recorded : StepsStaySound → (k : Kept) (old new : Image) (before now : ℕ) (m : Machine) (chain : List ChainBlock) (o later : OpenState) (files : List File) (f : File) (number count : ℕ) (grown : List ℕ)
     → IsConfig k.config → KeptStandsFor k old before m → k.work ≡ recording chain o → m.files ≡ files ++ f ∷ [] → f.own ≡ true → refusal k.config m (Event number count) ≡ None
     → fits k.config f (event_entry k.config number count f) ≡ true → AreGrown (event_entry k.config number count f ∷ []) k.config.channels k.taken grown
     → HoldsFiles k.config new chain (Some later) (files ++ with_entries (event_entry k.config number count f ∷ []) f ∷ []) → before ≤ now
@@ -169,7 +169,7 @@ event_recorded law k old new before now m chain o later files f number count gro
       };
     }
 
-pub file_started : StepsStaySound → (k : Kept) (old new : Image) (before now : ℕ) (m : Machine) (chain made : List ChainBlock) (later : Open) (clock : MachineTick) (name setup : List ℕ) (size : ℕ) (grown : List ℕ)
+pub file_started : StepsStaySound → (k : Kept) (old new : Image) (before now : ℕ) (m : Machine) (chain made : List ChainBlock) (later : OpenState) (clock : MachineTick) (name setup : List ℕ) (size : ℕ) (grown : List ℕ)
     → IsConfig k.config → KeptStandsFor k old before m → k.work ≡ idle chain → k.tick ≡ Some clock → refusal k.config m (Start name setup) ≡ None
     → fits k.config (empty_file k.config m.files name setup) (time_entry k.config clock) ≡ true → AreGrown (time_entry k.config clock ∷ []) k.config.channels k.taken grown
     → HoldsFiles k.config new made (Some later) (m.files ++ shown_whole size (with_entries (time_entry k.config clock ∷ []) (empty_file k.config m.files name setup)) ∷ []) → before ≤ now

@@ -8,7 +8,7 @@ use Rattle.r10_body.specs.declared.entry.Entry.{Entry}
 use Rattle.r10_body.specs.declared.spec.ChannelSpec.{ChannelSpec}
 use Rattle.r10_medium.specs.Disk.{Image}
 use Rattle.r10_dirchain.specs.declared.chain.ChainBlock.{ChainBlock}
-use Rattle.r10_volume.specs.Holding.{HoldsFiles, Open}
+use Rattle.r10_volume.specs.Holding.{HoldsFiles, OpenState}
 use Rattle.r10_machine.specs.Calls.{shown_whole}
 use Rattle.r10_machine.specs.Checks.{recording_checks}
 use Rattle.r10_machine.specs.Limits.{IsConfig}
@@ -77,7 +77,7 @@ numbers_stay files later f g own same is specs taken erased lanes are =
 may_record : (mode : Mode) → mode ≡ modes.Recording → first_broken (recording_checks mode) ≡ None
 may_record mode is = subst (λ v. first_broken (recording_checks v) ≡ None) (sym is) refl
 
-pub committed : StepsStaySound → (k : Kept) (old new : Image) (before now : ℕ) (m : Machine) (chain made : List ChainBlock) (o later : Open) (files : List File) (f : File) (size : ℕ)
+pub committed : StepsStaySound → (k : Kept) (old new : Image) (before now : ℕ) (m : Machine) (chain made : List ChainBlock) (o later : OpenState) (files : List File) (f : File) (size : ℕ)
     → IsConfig k.config → KeptStandsFor k old before m → k.work ≡ recording chain o → m.files ≡ files ++ f ∷ [] → HoldsFiles k.config new made (Some later) (files ++ shown_whole size f ∷ []) → before ≤ now
     → KeptStepsTo k m Commit replies.Done (record k { work = recording made later }) new now (record m { files = files ++ shown_whole size f ∷ []; failures = now })
 committed law k old new before now m chain made o later files f size limits means at is holds more =

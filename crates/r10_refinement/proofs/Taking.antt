@@ -4,7 +4,7 @@ use Rattle.r10_body.specs.declared.entry.Entry.{Entry}
 use Rattle.r10_body.specs.declared.spec.ChannelSpec.{ChannelSpec}
 use Rattle.r10_medium.specs.Disk.{Image}
 use Rattle.r10_dirchain.specs.declared.chain.ChainBlock.{ChainBlock}
-use Rattle.r10_volume.specs.Holding.{HoldsFiles, Open}
+use Rattle.r10_volume.specs.Holding.{HoldsFiles, OpenState}
 use Rattle.r10_machine.specs.Calls.{Pumps, Stops, lanes_without, without}
 use Rattle.r10_machine.specs.Limits.{IsConfig}
 use Rattle.r10_machine.specs.Machine.{File, Lane, Machine, change_first, is_channel, with_entries}
@@ -55,7 +55,7 @@ counts_stopped entries files (x ∷ specs) (t ∷ taken) (e ∷ erased) [] are =
 
 -- ---- calls
 
-pub pumped : StepsStaySound → (k : Kept) (old new : Image) (before now : ℕ) (m : Machine) (chain : List ChainBlock) (o later : Open) (files : List File) (f : File) (channel most n : ℕ) (more : List Entry) (grown : List ℕ)
+pub pumped : StepsStaySound → (k : Kept) (old new : Image) (before now : ℕ) (m : Machine) (chain : List ChainBlock) (o later : OpenState) (files : List File) (f : File) (channel most n : ℕ) (more : List Entry) (grown : List ℕ)
     → IsConfig k.config → KeptStandsFor k old before m → k.work ≡ recording chain o → m.files ≡ files ++ f ∷ [] → f.own ≡ true → refusal k.config m (Pump channel most) ≡ None
     → Pumps k.config (failing now m) channel most n (record m { lanes = change_first (is_channel channel) (without n) m.lanes; files = files ++ with_entries more f ∷ []; failures = now })
     → AreGrown more k.config.channels k.taken grown → HoldsFiles k.config new chain (Some later) (files ++ with_entries more f ∷ []) → before ≤ now
@@ -81,7 +81,7 @@ pumped law k old new before now m chain o later files f channel most n more grow
       };
     }
 
-pub stopped : StepsStaySound → (k : Kept) (old new : Image) (before now : ℕ) (m : Machine) (chain made : List ChainBlock) (o : Open) (files : List File) (f g : File) (said : Stopped) (entries : List Entry) (grown : List ℕ)
+pub stopped : StepsStaySound → (k : Kept) (old new : Image) (before now : ℕ) (m : Machine) (chain made : List ChainBlock) (o : OpenState) (files : List File) (f g : File) (said : Stopped) (entries : List Entry) (grown : List ℕ)
     → IsConfig k.config → KeptStandsFor k old before m → k.work ≡ recording chain o → m.files ≡ files ++ f ∷ [] → f.own ≡ true → g.own ≡ true → g.entries ≡ f.entries ++ entries → refusal k.config m Stop ≡ None
     → Stops k.config (failing now m) said (record m { mode = modes.Idle; lanes = lanes_without entries m.lanes; files = files ++ g ∷ []; failures = now })
     → AreGrown entries k.config.channels k.taken grown → HoldsFiles k.config new made None (files ++ g ∷ []) → before ≤ now

@@ -1,7 +1,7 @@
 -- What a recorder keeps beside its lanes and its medium: its settings, its clock, and what it does.
 use Rattle.std.specs.Prelude.{ℕ, List, Option}
 use Rattle.r10_dirchain.specs.declared.chain.ChainBlock.{ChainBlock}
-pub use Rattle.r10_volume.specs.Holding.{Open}
+pub use Rattle.r10_volume.specs.Holding.{OpenState}
 use Rattle.r10_machine.specs.Config.{Config}
 use Rattle.r10_machine.specs.Machine.{Tick}
 use Rattle.r10_machine.specs.declared.mode.Mode.{Mode}
@@ -11,7 +11,7 @@ use Rattle.r10_machine.specs.declared.mode.Mode.TheVariants as modes
 pub data Work : Type 0 where
   unmounted : Work
   idle : List ChainBlock → Work
-  recording : List ChainBlock → Open → Work
+  recording : List ChainBlock → OpenState → Work
   failed : Work
 
 abbrev pub mode_of : Work → Mode

@@ -25,16 +25,19 @@ pub fn an_image_is_found_again()
 
 /// What a medium says of files is what it says of others that show the same.
 pub fn shown_parts_are_said()
-    ensures { (s : Config) (image : Image) (files : List File) (others : List File) → map shown_part files ≡ map shown_part others → MediumSays s image files → MediumSays s image others }
+    ensures { (s : Config) (image : Image) (files : List File) (others : List File) → map shown_part files ≡ map shown_part others
+        → MediumSays s image files → MediumSays s image others }
 {}
 
 /// Only a start, a commit, a stop, a seal, an erase and a failure of the medium change what a machine's files show.
 pub fn other_events_show_no_more()
-    ensures { (s : Config) (m : Machine) (event : EventValue) (reply : ReplyValue) (later : Machine) → IsSound s m → Step s m event reply later → may_make event ≡ false → IsNoFailure reply
+    ensures { (s : Config) (m : Machine) (event : EventValue) (reply : ReplyValue) (later : Machine)
+        → IsSound s m → Step s m event reply later → may_make event ≡ false → IsNoFailure reply
         → map shown_part later.files ≡ map shown_part m.files }
 {}
 
 /// A synced medium is safe for each machine that a recorder over it stands for, whatever was before: a stop leaves what is read.
 pub fn synced_media_are_safe<M: BlockMedium>(medium: &M)
-    ensures { (k : Kept) (m : Machine) → KeptStandsFor k (M.disk medium.now).blocks (M.disk medium.now).failures m → IsSynced (M.disk medium.now) → IsSafeOrFailed k.config k.work m.files (M.disk medium.now) }
+    ensures { (k : Kept) (m : Machine) → KeptStandsFor k (M.disk medium.now).blocks (M.disk medium.now).failures m
+        → IsSynced (M.disk medium.now) → IsSafeOrFailed k.config k.work m.files (M.disk medium.now) }
 {}

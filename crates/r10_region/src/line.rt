@@ -26,7 +26,8 @@ pub struct Link {
     pub(crate) before: Snapshot<Producer<Operation, Global>>,
 }
 
-/// Where the operations for a disk go in. Where the ring in use is full a further one is begun, whose other end goes out through the links.
+/// Where the operations for a disk go in. Where the ring in use is full a further one is begun, whose other end goes out through
+/// the links.
 #[derive(Drop)]
 pub struct Line {
     alloc: Global,
@@ -63,7 +64,8 @@ impl Line {
     ghost use Rattle.rtrb.specs.Ring.{received, sent, IsPair, producer_capacity};
     ghost use Rattle.r10_region.specs.Line.{sent_links};
 
-    /// A line, the two ends at which its operations come out, of which as many as `room` may wait before more memory is asked for, and where a spare ring goes in.
+    /// A line, the two ends at which its operations come out, of which as many as `room` may wait before more memory is asked for,
+    /// and where a spare ring goes in.
     pub(crate) fn new(
         alloc: Global,
         room: usize,

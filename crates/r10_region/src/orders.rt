@@ -92,7 +92,8 @@ impl Orders {
     ghost use Rattle.std.specs.Prelude.{◌/◌, ◌-◌, [], ◌∷◌, ◌++◌, MatchOption};
     ghost use Rattle.rtrb.specs.Ring.{consumer_capacity, known_items};
     ghost use Rattle.r10_region.specs.Joining.{JoinsMore, JoinsOne};
-    ghost use Rattle.r10_region.specs.Orders.{taken, CountsQueue, HandsOne, HandsOrderOut, HandsRunOut, HandsSome, HasNone, HasTold, IsSameEnd, LooksAhead, MakesRoom, MovesOn};
+    ghost use Rattle.r10_region.specs.Orders.{taken, CountsQueue, HandsOne, HandsOrderOut, HandsRunOut, HandsSome, HasNone};
+    ghost use Rattle.r10_region.specs.Orders.{HasTold, IsSameEnd, LooksAhead, MakesRoom, MovesOn};
 
     /// Takes the next ring in hand where the one in hand has nothing more.
     fn move_on(&mut self)
@@ -177,8 +178,8 @@ impl Orders {
         count
     }
 
-    /// Hands out the next operations that a disk may do at once, and the bytes of their writes, if there are some: a sync alone, or a write and those behind it
-    /// that write its block, or blocks side by side with it, as many as there is room for.
+    /// Hands out the next operations that a disk may do at once, and the bytes of their writes, if there are some: a sync alone, or
+    /// a write and those behind it that write its block, or blocks side by side with it, as many as there is room for.
     pub fn hand_out_run(&mut self, out: &mut RunOut, bytes: &mut [u8])
         requires { 512 ≤ length bytes.old }
         ensures { HandsRunOut self.old self.new out.new bytes.old bytes.new }
@@ -244,7 +245,8 @@ impl Orders {
         let _told = self.news.push(true);
     }
 
-    /// Sees to a place for each of `room` operations more, so many as the region was opened with, before memory is asked for. False where memory for them is refused.
+    /// Sees to a place for each of `room` operations more, so many as the region was opened with, before memory is asked for. False
+    /// where memory for them is refused.
     pub fn make_room(&mut self, alloc: Global) -> bool
         ensures { MakesRoom result self.old self.new }
     {
@@ -264,7 +266,8 @@ impl Orders {
     // Whether the ring in hand has them, and none waits after it.
     fn has_places(&mut self) -> bool
         ensures looked { LooksAhead self.old self.new }
-        ensures value { result ≡ true → (known_items self.new.links ≡ []) × (self.old.room ≤ consumer_capacity self.new.ring - length (known_items self.new.ring)) }
+        ensures value { result ≡ true → (known_items self.new.links ≡ [])
+            × (self.old.room ≤ consumer_capacity self.new.ring - length (known_items self.new.ring)) }
     {
         if !self.links.is_empty() {
             return false;

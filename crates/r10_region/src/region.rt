@@ -15,9 +15,9 @@ use rtrb::{Consumer, RingBuffer};
 use std::alloc::{AllocError, Global};
 use std::snapshot::Snapshot;
 
-/// A medium over memory that a program lends. The memory reads as it was last written. What a stop leaves is what it leaves of a disk that held what
-/// was lent, and does the operations that `Orders` hands out, in order. A write or a sync fails only where memory for one operation more is refused,
-/// or where `Orders` was told that the disk failed.
+/// A medium over memory that a program lends. The memory reads as it was last written. What a stop leaves is what it leaves of a
+/// disk that held what was lent, and does the operations that `Orders` hands out, in order. A write or a sync fails only where
+/// memory for one operation more is refused, or where `Orders` was told that the disk failed.
 #[derive(Drop)]
 pub struct Region {
     blocks: &'static mut [[u8; 512]],
@@ -49,8 +49,8 @@ impl Region {
     ghost use Rattle.r10_region.specs.Queue.{queue_room, places_known};
     ghost use Rattle.r10_region.specs.RegionDisk.{region_disk, lent_to, asked};
 
-    /// The medium of these blocks, and the orders of its disk, of which as many as `room` may wait before more memory is asked for. The disk holds what
-    /// the blocks hold.
+    /// The medium of these blocks, and the orders of its disk, of which as many as `room` may wait before more memory is asked for.
+    /// The disk holds what the blocks hold.
     pub fn over(alloc: Global, strip: Strip, room: usize) -> Result<(Region, Orders), AllocError>
         ensures blocks { IfOk result (λ r. (region_disk r.0).blocks ≡ strip.held) }
         ensures lent { IfOk result (λ r. lent_to r.0 ≡ strip.held) }
@@ -64,7 +64,7 @@ impl Region {
         let (line, ring, links, spares) = Line::new(alloc, room)?;
         let (tell, news) = RingBuffer::new(alloc, 1)?;
         let was = Snapshot::of(&strip);
-        let blocks = strip.lent();
+        let blocks = strip.into_slice();
         are_whole(blocks);
         let _count = blocks.len();
         let region = Region {

@@ -4,8 +4,8 @@ ghost use Rattle.std.specs.Prelude.{◌≡◌, ◌*◌, ◌<◌, ◌^◌, ℕ, L
 
 use std::marker::Model;
 
-/// So many blocks of 512 bytes, side by side from this address on, of fewer than 2^63 bytes together, as any memory. Who makes one in another language lends
-/// this memory for good: it is there, it may be written, and nothing else reads or writes it.
+/// So many blocks of 512 bytes, side by side from this address on, of fewer than 2^63 bytes together, as any memory. Who makes one
+/// in another language lends this memory for good: it is there, it may be written, and nothing else reads or writes it.
 #[repr(C)]
 #[derive(Drop)]
 pub struct Strip {
@@ -27,7 +27,7 @@ impl Model for Strip {
 
 impl Strip {
     /// The blocks, as a slice of this language.
-    pub fn lent<'a>(self) -> &'a mut [[u8; 512]]
+    pub fn into_slice<'a>(self) -> &'a mut [[u8; 512]]
         ensures { result.now ≡ self.held }
     {
         let Strip { at, blocks } = self;

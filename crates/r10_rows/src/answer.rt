@@ -3,7 +3,8 @@
 ghost use Rattle.std.specs.Prelude.{◌≡◌, ◌↔◌, ◌++◌, ◌∷◌, [], IsTrue, IfOk, OnOk, map, string_bytes};
 ghost use Rattle.hex.specs.Hex.{encode_lower};
 ghost use Rattle.std.specs.Io.KnownBytes.{Appends};
-ghost use Rattle.r10_rows.specs.Answer.{AnswersCase, AreBoth, AsksJudge, IsAnswer, IsCommanded, PrintsJudgement, bytes_between, front_text, printed, shown};
+ghost use Rattle.r10_rows.specs.Answer.{AnswersCase, AreBoth, AsksJudge, IsAnswer, IsCommanded, PrintsJudgement, bytes_between};
+ghost use Rattle.r10_rows.specs.Answer.{front_text, printed, shown};
 
 use crate::case::{Case, head_line};
 use crate::fault::RowsFault;

@@ -17,7 +17,8 @@ pub struct Case {
     pub wanted: u8,
     /// Whether the input is given in hex digits.
     pub is_hex: bool,
-    /// The bytes of the output that are shown, in hex digits: from a place up to another. Where there is none, all is shown as it is.
+    /// The bytes of the output that are shown, in hex digits: from a place up to another. Where there is none, all is shown as it
+    /// is.
     pub window: Option<(usize, usize)>,
     /// The input, as it is given.
     pub body: String,

@@ -1,7 +1,7 @@
 //! Reads a script: the settings and the steps of a run, in TOML, and those of a session.
 #![tactic(auto)]
 
-mod found;
+mod key_content;
 mod limits;
 mod offer;
 mod script;

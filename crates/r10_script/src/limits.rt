@@ -38,7 +38,7 @@ pub fn limit_fault(top: Fields<'_>, fault: SettingsFault) -> ScriptFault {
                 Some(id) => channel_with(top, id, 0),
                 None => top,
             };
-            fields.refused(key, wanted)
+            fields.fault_at(key, wanted)
         }
     }
 }
@@ -80,17 +80,17 @@ fn zero_fault(top: Fields<'_>) -> ScriptFault {
     } else {
         (channel_with(top, 0, 0), "id")
     };
-    fields.refused(key, ID)
+    fields.fault_at(key, ID)
 }
 
 /// The fault of an ID that is there before.
 fn twice_fault(top: Fields<'_>, id: u16) -> ScriptFault {
     let (time, event) = (top.is_number("time", id), top.is_number("event", id));
     if time && event {
-        return top.refused("event", "another number than `time` has");
+        return top.fault_at("event", "another number than `time` has");
     }
     let before = if time || event { 0 } else { 1 };
-    channel_with(top, id, before).refused("id", OTHER_ID)
+    channel_with(top, id, before).fault_at("id", OTHER_ID)
 }
 
 /// The channel table with this ID behind so many others with it, or else the keys above the tables.

@@ -25,18 +25,20 @@ pub struct Script {
 /// The script that the text spells, in UTF-8: the settings, the channels and the steps under their keys.
 pub fn read_script(alloc: Global, text: &[u8]) -> Result<Script, ScriptFault>
     ensures text { IfOk result (λ _. IsUtf8 text.now) }
-    ensures script { IfOk result (λ script. (table : Members) × (parse_document text.now ≡ Some table) × HasOnly script_keys table × AreScriptSettings table script.settings × AreSteps script.settings.channels table script.events.items) }
+    ensures script { IfOk result (λ script. (table : Members) × (parse_document text.now ≡ Some table) × HasOnly script_keys table
+        × AreScriptSettings table script.settings × AreSteps script.settings.channels table script.events.items) }
 {
     match script_of(alloc, text) {
         Ok(script) => Ok(script),
-        Err(fault) => Err(fault.located(text)),
+        Err(fault) => Err(fault.with_line(text)),
     }
 }
 
 /// The script that the text spells. A fault behind the text's form names no line.
 fn script_of(alloc: Global, text: &[u8]) -> Result<Script, ScriptFault>
     ensures text { IfOk result (λ _. IsUtf8 text.now) }
-    ensures script { IfOk result (λ script. (table : Members) × (parse_document text.now ≡ Some table) × HasOnly script_keys table × AreScriptSettings table script.settings × AreSteps script.settings.channels table script.events.items) }
+    ensures script { IfOk result (λ script. (table : Members) × (parse_document text.now ≡ Some table) × HasOnly script_keys table
+        × AreScriptSettings table script.settings × AreSteps script.settings.channels table script.events.items) }
 {
     let table = match toml::table_from_slice(alloc, text) {
         Ok(table) => table,

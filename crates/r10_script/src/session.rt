@@ -70,7 +70,8 @@ pub struct SessionScript {
 /// keys, at most one feed for a channel.
 pub fn read_session(alloc: Global, text: &[u8]) -> Result<SessionScript, ScriptFault>
     ensures text { IfOk result (λ _. IsUtf8 text.now) }
-    ensures session { IfOk result (λ session. (table : Members) × (parse_document text.now ≡ Some table) × HasOnly session_keys table × AreScriptSettings table session.settings
+    ensures session { IfOk result (λ session. (table : Members) × (parse_document text.now ≡ Some table)
+        × HasOnly session_keys table × AreScriptSettings table session.settings
         × AreOrders session.settings.channels table (codes "step") session.steps.items
         × ItemsAsk (IsFeed session.settings.channels) (items_or_none_at table (codes "feed")) session.feeds.items
         × AreOrders session.settings.channels table (codes "order") session.orders.items
@@ -79,14 +80,15 @@ pub fn read_session(alloc: Global, text: &[u8]) -> Result<SessionScript, ScriptF
 {
     match session_of(alloc, text) {
         Ok(session) => Ok(session),
-        Err(fault) => Err(fault.located(text)),
+        Err(fault) => Err(fault.with_line(text)),
     }
 }
 
 /// The session script that the text spells. A fault behind the text's form names no line.
 fn session_of(alloc: Global, text: &[u8]) -> Result<SessionScript, ScriptFault>
     ensures text { IfOk result (λ _. IsUtf8 text.now) }
-    ensures session { IfOk result (λ session. (table : Members) × (parse_document text.now ≡ Some table) × HasOnly session_keys table × AreScriptSettings table session.settings
+    ensures session { IfOk result (λ session. (table : Members) × (parse_document text.now ≡ Some table)
+        × HasOnly session_keys table × AreScriptSettings table session.settings
         × AreOrders session.settings.channels table (codes "step") session.steps.items
         × ItemsAsk (IsFeed session.settings.channels) (items_or_none_at table (codes "feed")) session.feeds.items
         × AreOrders session.settings.channels table (codes "order") session.orders.items
@@ -159,13 +161,13 @@ fn order_of(channels: &[ChannelSpec], fields: Fields<'_>) -> Result<Event, Scrip
     match word {
         "mount" | "dismount" | "tick" | "start" | "stop" | "event" | "commit" | "seal" | "erase" =>
             (),
-        _ => return Err(fields.refused("do", ORDERS)),
+        _ => return Err(fields.fault_at("do", ORDERS)),
     }
     let event = event_of(channels, fields)?;
     if is_an_order(&event) {
         Ok(event)
     } else {
-        Err(fields.refused("do", ORDERS))
+        Err(fields.fault_at("do", ORDERS))
     }
 }
 
@@ -191,7 +193,8 @@ fn feeds_of(
     channels: &[ChannelSpec],
     top: Fields<'_>,
 ) -> Result<Vec<FeedTable>, ScriptFault>
-    ensures feeds { IfOk result (λ feeds. ItemsAsk (IsFeed channels.now) (items_or_none_at (table_view top.entry.table.now) (codes "feed")) feeds.items) }
+    ensures feeds { IfOk result
+        (λ feeds. ItemsAsk (IsFeed channels.now) (items_or_none_at (table_view top.entry.table.now) (codes "feed")) feeds.items) }
     ensures apart { IfOk result (λ feeds. AreApart feeds.items) }
 {
     let mut feeds: Vec<FeedTable> = Vec::new(alloc);
@@ -201,7 +204,7 @@ fn feeds_of(
         let fields = top.table_of(value, "feed", Place::Feed(number))?;
         let feed = feed_of(alloc, channels, fields, number)?;
         if has_channel_of(&feeds, &feed) {
-            return Err(fields.refused("channel", OTHER_CHANNEL));
+            return Err(fields.fault_at("channel", OTHER_CHANNEL));
         }
         feeds.push(feed)?;
     }
@@ -227,7 +230,7 @@ fn feed_of(
     fields.only(&["channel", "items"])?;
     let channel = fields.short_of("channel", CHANNEL)?;
     let Some(spec) = spec_of(channels, channel) else {
-        return Err(fields.refused("channel", CHANNEL));
+        return Err(fields.fault_at("channel", CHANNEL));
     };
     let items = items_of(alloc, spec.kind, fields, number)?;
     Ok(FeedTable {
@@ -242,7 +245,8 @@ fn items_of(
     fields: Fields<'_>,
     feed: usize,
 ) -> Result<Vec<FeedItem>, ScriptFault>
-    ensures { IfOk result (λ items. ItemsAsk (IsItem kind) (items_at (table_view fields.entry.table.now) (codes "items")) items.items) }
+    ensures { IfOk result
+        (λ items. ItemsAsk (IsItem kind) (items_at (table_view fields.entry.table.now) (codes "items")) items.items) }
 {
     let mut items = Vec::new(alloc);
     let mut number = 0usize;
@@ -268,7 +272,8 @@ fn item_of(kind: Kind, fields: Fields<'_>) -> Result<FeedItem, ScriptFault>
 
 /// How many messages were lost, the one key of such an item.
 fn lost_of(fields: Fields<'_>) -> Result<u64, ScriptFault>
-    ensures { IfOk result (λ lost. (integer_at (table_view fields.entry.table.now) (codes "lost") ≡ Some (pos lost)) × HasOnly (codes "lost" ∷ []) (table_view fields.entry.table.now)) }
+    ensures { IfOk result (λ lost. (integer_at (table_view fields.entry.table.now) (codes "lost") ≡ Some (pos lost))
+        × HasOnly (codes "lost" ∷ []) (table_view fields.entry.table.now)) }
 {
     fields.only(&["lost"])?;
     fields.count("lost")
@@ -279,14 +284,15 @@ fn timed_of(kind: Kind, fields: Fields<'_>) -> Result<Timed, ScriptFault>
 {
     only_item(kind, fields)?;
     let Some(count) = Count::of(fields.count("count")?) else {
-        return Err(fields.refused("count", COUNT));
+        return Err(fields.fault_at("count", COUNT));
     };
     let message = message_of(kind, fields)?;
     Ok(Timed { count, message })
 }
 
 fn readers_of(alloc: Global, top: Fields<'_>) -> Result<Vec<ReaderTable>, ScriptFault>
-    ensures { IfOk result (λ readers. ItemsAsk IsReader (items_or_none_at (table_view top.entry.table.now) (codes "reader")) readers.items) }
+    ensures { IfOk result
+        (λ readers. ItemsAsk IsReader (items_or_none_at (table_view top.entry.table.now) (codes "reader")) readers.items) }
 {
     let mut readers = Vec::new(alloc);
     let mut number = 0usize;

@@ -35,7 +35,8 @@ pub fn settings_of(alloc: Global, top: Fields<'_>) -> Result<Settings, ScriptFau
 }
 
 fn channels_of(alloc: Global, top: Fields<'_>) -> Result<Vec<ChannelSpec>, ScriptFault>
-    ensures { IfOk result (λ channels. ItemsAsk IsChannelTable (items_or_none_at (table_view top.entry.table.now) (codes "channel")) channels.items) }
+    ensures { IfOk result
+        (λ channels. ItemsAsk IsChannelTable (items_or_none_at (table_view top.entry.table.now) (codes "channel")) channels.items) }
 {
     let mut channels = Vec::new(alloc);
     let mut number = 0usize;
@@ -65,7 +66,8 @@ fn channel_of(fields: Fields<'_>) -> Result<ChannelSpec, ScriptFault>
 
 /// The number of bits of a discrete channel, 0 of any other. A key that the table of such a channel does not have is refused.
 fn bits_of(kind: Kind, fields: Fields<'_>) -> Result<usize, ScriptFault>
-    ensures { IfOk result (λ bits. IsBits kind (table_view fields.entry.table.now) bits × HasOnly (channel_keys kind) (table_view fields.entry.table.now)) }
+    ensures { IfOk result (λ bits. IsBits kind (table_view fields.entry.table.now) bits
+        × HasOnly (channel_keys kind) (table_view fields.entry.table.now)) }
 {
     match kind {
         Kind::Discrete => {
@@ -89,6 +91,6 @@ pub fn kind_of(fields: Fields<'_>) -> Result<Kind, ScriptFault>
         "arinc" => Ok(Kind::Arinc),
         "discrete" => Ok(Kind::Discrete),
         "message" => Ok(Kind::Message),
-        _ => Err(fields.refused("kind", KINDS)),
+        _ => Err(fields.fault_at("kind", KINDS)),
     }
 }

@@ -18,7 +18,8 @@ const CIVIL: &str = "a text of the form YYYY-MM-DD hh:mm:ss.cc";
 
 /// The words of the steps, as a fault says them.
 const STEPS: &str =
-    "one of: mount, dismount, tick, start, offer, lose, pump, event, commit, stop, seal, erase, files, status, cursor, advance, next, close, find, count_at";
+    "one of: mount, dismount, tick, start, offer, lose, pump, event, commit, stop, seal, erase, files, status, cursor, advance, \
+    next, close, find, count_at";
 
 /// The event that a step's table spells.
 pub fn event_of(channels: &[ChannelSpec], fields: Fields<'_>) -> Result<Event, ScriptFault>
@@ -51,13 +52,14 @@ pub fn event_of(channels: &[ChannelSpec], fields: Fields<'_>) -> Result<Event, S
         }
         "find" => find_of(fields),
         "count_at" => count_at_of(fields),
-        _ => Err(fields.refused("do", STEPS)),
+        _ => Err(fields.fault_at("do", STEPS)),
     }
 }
 
 /// The event that this word alone spells.
 fn bare_of(word: &str) -> Option<Event>
-    ensures { IfSome result (λ event. (channels : List ChannelSpecValue) → (table : Members) → IsBareStep word.now table → IsStep channels table event) }
+    ensures { IfSome result (λ event. (channels : List ChannelSpecValue) → (table : Members) → IsBareStep word.now table
+        → IsStep channels table event) }
 {
     match word {
         "mount" => Some(Event::Mount),
@@ -73,7 +75,8 @@ fn bare_of(word: &str) -> Option<Event>
 }
 
 fn tick_of(fields: Fields<'_>) -> Result<Event, ScriptFault>
-    ensures { IfOk result (λ event. (channels : List ChannelSpecValue) → text_at (table_view fields.entry.table.now) (codes "do") ≡ Some (codes "tick") → IsStep channels (table_view fields.entry.table.now) event) }
+    ensures { IfOk result (λ event. (channels : List ChannelSpecValue) → text_at (table_view fields.entry.table.now) (codes "do")
+        ≡ Some (codes "tick") → IsStep channels (table_view fields.entry.table.now) event) }
 {
     fields.only(&["do", "count", "civil"])?;
     let count = fields.count("count")?;
@@ -87,12 +90,13 @@ fn civil_of(fields: Fields<'_>) -> Result<Parts, ScriptFault>
 {
     match parts_of(fields.text("civil", CIVIL)?.as_bytes()) {
         Some(parts) => Ok(parts),
-        None => Err(fields.refused("civil", CIVIL)),
+        None => Err(fields.fault_at("civil", CIVIL)),
     }
 }
 
 fn start_of(fields: Fields<'_>) -> Result<Event, ScriptFault>
-    ensures { IfOk result (λ event. (channels : List ChannelSpecValue) → text_at (table_view fields.entry.table.now) (codes "do") ≡ Some (codes "start") → IsStep channels (table_view fields.entry.table.now) event) }
+    ensures { IfOk result (λ event. (channels : List ChannelSpecValue) → text_at (table_view fields.entry.table.now) (codes "do")
+        ≡ Some (codes "start") → IsStep channels (table_view fields.entry.table.now) event) }
 {
     fields.only(&["do", "name", "setup"])?;
     let name = fields.text_bytes("name", "a text")?;
@@ -104,7 +108,8 @@ fn start_of(fields: Fields<'_>) -> Result<Event, ScriptFault>
 }
 
 fn offer_of(channels: &[ChannelSpec], fields: Fields<'_>) -> Result<Event, ScriptFault>
-    ensures { IfOk result (λ event. text_at (table_view fields.entry.table.now) (codes "do") ≡ Some (codes "offer") → IsStep channels.now (table_view fields.entry.table.now) event) }
+    ensures { IfOk result (λ event. text_at (table_view fields.entry.table.now) (codes "do") ≡ Some (codes "offer")
+        → IsStep channels.now (table_view fields.entry.table.now) event) }
 {
     let channel = fields.short("channel")?;
     let count = fields.count("count")?;
@@ -117,7 +122,8 @@ fn offer_of(channels: &[ChannelSpec], fields: Fields<'_>) -> Result<Event, Scrip
 }
 
 fn lose_of(fields: Fields<'_>) -> Result<Event, ScriptFault>
-    ensures { IfOk result (λ event. (channels : List ChannelSpecValue) → text_at (table_view fields.entry.table.now) (codes "do") ≡ Some (codes "lose") → IsStep channels (table_view fields.entry.table.now) event) }
+    ensures { IfOk result (λ event. (channels : List ChannelSpecValue) → text_at (table_view fields.entry.table.now) (codes "do")
+        ≡ Some (codes "lose") → IsStep channels (table_view fields.entry.table.now) event) }
 {
     fields.only(&["do", "channel", "count"])?;
     let channel = fields.short("channel")?;
@@ -126,7 +132,8 @@ fn lose_of(fields: Fields<'_>) -> Result<Event, ScriptFault>
 }
 
 fn pump_of(fields: Fields<'_>) -> Result<Event, ScriptFault>
-    ensures { IfOk result (λ event. (channels : List ChannelSpecValue) → text_at (table_view fields.entry.table.now) (codes "do") ≡ Some (codes "pump") → IsStep channels (table_view fields.entry.table.now) event) }
+    ensures { IfOk result (λ event. (channels : List ChannelSpecValue) → text_at (table_view fields.entry.table.now) (codes "do")
+        ≡ Some (codes "pump") → IsStep channels (table_view fields.entry.table.now) event) }
 {
     fields.only(&["do", "channel", "k"])?;
     let channel = fields.short("channel")?;
@@ -136,7 +143,8 @@ fn pump_of(fields: Fields<'_>) -> Result<Event, ScriptFault>
 
 /// A recording event.
 fn recorded_of(fields: Fields<'_>) -> Result<Event, ScriptFault>
-    ensures { IfOk result (λ event. (channels : List ChannelSpecValue) → text_at (table_view fields.entry.table.now) (codes "do") ≡ Some (codes "event") → IsStep channels (table_view fields.entry.table.now) event) }
+    ensures { IfOk result (λ event. (channels : List ChannelSpecValue) → text_at (table_view fields.entry.table.now) (codes "do")
+        ≡ Some (codes "event") → IsStep channels (table_view fields.entry.table.now) event) }
 {
     fields.only(&["do", "number", "count"])?;
     let number = fields.short("number")?;
@@ -145,7 +153,8 @@ fn recorded_of(fields: Fields<'_>) -> Result<Event, ScriptFault>
 }
 
 fn cursor_of(fields: Fields<'_>) -> Result<Event, ScriptFault>
-    ensures { IfOk result (λ event. (channels : List ChannelSpecValue) → text_at (table_view fields.entry.table.now) (codes "do") ≡ Some (codes "cursor") → IsStep channels (table_view fields.entry.table.now) event) }
+    ensures { IfOk result (λ event. (channels : List ChannelSpecValue) → text_at (table_view fields.entry.table.now) (codes "do")
+        ≡ Some (codes "cursor") → IsStep channels (table_view fields.entry.table.now) event) }
 {
     fields.only(&["do", "file", "channels", "from", "to"])?;
     let file = fields.size("file")?;
@@ -162,14 +171,16 @@ fn cursor_of(fields: Fields<'_>) -> Result<Event, ScriptFault>
 
 /// The number of a cursor, the one key of a step.
 fn id_of(fields: Fields<'_>) -> Result<usize, ScriptFault>
-    ensures { IfOk result (λ id. (integer_at (table_view fields.entry.table.now) (codes "id") ≡ Some (pos id)) × HasOnly (codes "do" ∷ codes "id" ∷ []) (table_view fields.entry.table.now)) }
+    ensures { IfOk result (λ id. (integer_at (table_view fields.entry.table.now) (codes "id") ≡ Some (pos id))
+        × HasOnly (codes "do" ∷ codes "id" ∷ []) (table_view fields.entry.table.now)) }
 {
     fields.only(&["do", "id"])?;
     fields.size("id")
 }
 
 fn find_of(fields: Fields<'_>) -> Result<Event, ScriptFault>
-    ensures { IfOk result (λ event. (channels : List ChannelSpecValue) → text_at (table_view fields.entry.table.now) (codes "do") ≡ Some (codes "find") → IsStep channels (table_view fields.entry.table.now) event) }
+    ensures { IfOk result (λ event. (channels : List ChannelSpecValue) → text_at (table_view fields.entry.table.now) (codes "do")
+        ≡ Some (codes "find") → IsStep channels (table_view fields.entry.table.now) event) }
 {
     fields.only(&["do", "file", "channel", "count"])?;
     let file = fields.size("file")?;
@@ -183,7 +194,8 @@ fn find_of(fields: Fields<'_>) -> Result<Event, ScriptFault>
 }
 
 fn count_at_of(fields: Fields<'_>) -> Result<Event, ScriptFault>
-    ensures { IfOk result (λ event. (channels : List ChannelSpecValue) → text_at (table_view fields.entry.table.now) (codes "do") ≡ Some (codes "count_at") → IsStep channels (table_view fields.entry.table.now) event) }
+    ensures { IfOk result (λ event. (channels : List ChannelSpecValue) → text_at (table_view fields.entry.table.now) (codes "do")
+        ≡ Some (codes "count_at") → IsStep channels (table_view fields.entry.table.now) event) }
 {
     fields.only(&["do", "file", "civil"])?;
     let file = fields.size("file")?;

@@ -1,15 +1,17 @@
 //! The keys of one table of a script.
 
-ghost use Rattle.std.specs.Prelude.{◌≡◌, pos, Some, None, is_some, map, option_map, IfOk, IfErr, IfSome, IfNone, string_bytes, true};
+ghost use Rattle.std.specs.Prelude.{◌≡◌, pos, Some, None, is_some, map, option_map, IfOk, IfErr};
+ghost use Rattle.std.specs.Prelude.{IfSome, IfNone, string_bytes, true};
 ghost use Rattle.std.specs.BTreeMap.{keys};
 ghost use Rattle.std.specs.List.{All, list_any};
 ghost use Rattle.std.specs.Str.{bytes_eq};
 ghost use Rattle.toml.specs.Data.{get_member, as_table};
 ghost use Rattle.toml.specs.View.{view, table_view};
 ghost use Rattle.r10_text.specs.Line.{words_high_first};
-ghost use Rattle.r10_script.specs.Keys.{integer_at, integer_or_zero_at, integers_at, text_at, bytes_at, bytes_or_none_at, flag_or_false_at, items_at, items_or_none_at, HasOnly};
+ghost use Rattle.r10_script.specs.Keys.{integer_at, integer_or_zero_at, integers_at, text_at, bytes_at, bytes_or_none_at};
+ghost use Rattle.r10_script.specs.Keys.{flag_or_false_at, items_at, items_or_none_at, HasOnly};
 
-use crate::found::{cut, found_of, listed};
+use crate::key_content::{comma_list, cut, found_of};
 use r10_text::{Place, ScriptFault, Spot, Wrong};
 use std::alloc::{AllocError, Global};
 use toml::{Table, Value};
@@ -70,7 +72,7 @@ impl<'a> Fields<'a> {
     {
         match self.table_in(value, place) {
             Some(fields) => Ok(fields),
-            None => Err(self.mistaken(key, TABLES, value)),
+            None => Err(self.type_fault(key, TABLES, value)),
         }
     }
 
@@ -87,15 +89,15 @@ impl<'a> Fields<'a> {
     }
 
     /// The fault of a key that is not there, or has not what is wanted.
-    pub fn refused(&self, key: &'static str, wanted: &'static str) -> ScriptFault {
-        match self.found(key) {
-            Some(value) => self.mistaken(key, wanted, value),
+    pub fn fault_at(&self, key: &'static str, wanted: &'static str) -> ScriptFault {
+        match self.value_at(key) {
+            Some(value) => self.type_fault(key, wanted, value),
             None => self.fault(Wrong::Missing { key }),
         }
     }
 
     /// The fault of a value that is not what is wanted.
-    fn mistaken(&self, key: &'static str, wanted: &'static str, value: &Value) -> ScriptFault {
+    fn type_fault(&self, key: &'static str, wanted: &'static str, value: &Value) -> ScriptFault {
         match found_of(self.alloc, value) {
             Ok(found) => self.fault(Wrong::Value { key, wanted, found }),
             Err(error) => ScriptFault::OutOfMemory(error),
@@ -104,14 +106,14 @@ impl<'a> Fields<'a> {
 
     /// The fault of a key that is not one of these.
     fn unknown(&self, key: &str, known: &[&str]) -> ScriptFault {
-        match (cut(self.alloc, key), listed(self.alloc, known)) {
+        match (cut(self.alloc, key), comma_list(self.alloc, known)) {
             (Ok(key), Ok(known)) => self.fault(Wrong::Unknown { key, known }),
             _ => ScriptFault::OutOfMemory(AllocError),
         }
     }
 
     /// The value under the key.
-    fn found(&self, key: &str) -> Option<&'a Value>
+    fn value_at(&self, key: &str) -> Option<&'a Value>
         ensures { option_map (λ v. view v.now) result ≡ get_member key.now (table_view self.now.table.now) }
     {
         self.table.get(key)
@@ -121,12 +123,12 @@ impl<'a> Fields<'a> {
     pub fn has(&self, key: &str) -> bool
         ensures { result ≡ is_some (get_member key.now (table_view self.now.table.now)) }
     {
-        self.found(key).is_some()
+        self.value_at(key).is_some()
     }
 
     /// Whether the key has this number.
     pub fn is_number(&self, key: &str, number: u16) -> bool {
-        match self.found(key) {
+        match self.value_at(key) {
             Some(value) => value.as_integer() == Some(i64::from(number)),
             None => false,
         }
@@ -146,7 +148,7 @@ impl<'a> Fields<'a> {
         ensures found { IfOk result (λ v. get_member key.now (table_view self.now.table.now) ≡ Some (view v.now)) }
         ensures missing { IfErr result (λ _. get_member key.now (table_view self.now.table.now) ≡ None) }
     {
-        match self.found(key) {
+        match self.value_at(key) {
             Some(value) => Ok(value),
             None => Err(self.fault(Wrong::Missing { key })),
         }
@@ -158,7 +160,7 @@ impl<'a> Fields<'a> {
         let value = self.value(key)?;
         match value.as_integer() {
             Some(number) => Ok(number),
-            None => Err(self.mistaken(key, wanted, value)),
+            None => Err(self.type_fault(key, wanted, value)),
         }
     }
 
@@ -168,7 +170,7 @@ impl<'a> Fields<'a> {
     {
         match u64::try_from(self.integer(key, NATURAL)?) {
             Ok(number) => Ok(number),
-            Err(_) => Err(self.refused(key, NATURAL)),
+            Err(_) => Err(self.fault_at(key, NATURAL)),
         }
     }
 
@@ -185,7 +187,7 @@ impl<'a> Fields<'a> {
     {
         match usize::try_from(self.integer(key, wanted)?) {
             Ok(number) => Ok(number),
-            Err(_) => Err(self.refused(key, wanted)),
+            Err(_) => Err(self.fault_at(key, wanted)),
         }
     }
 
@@ -202,7 +204,7 @@ impl<'a> Fields<'a> {
     {
         match u16::try_from(self.integer(key, wanted)?) {
             Ok(number) => Ok(number),
-            Err(_) => Err(self.refused(key, wanted)),
+            Err(_) => Err(self.fault_at(key, wanted)),
         }
     }
 
@@ -223,7 +225,7 @@ impl<'a> Fields<'a> {
     {
         match u8::try_from(self.integer_or_zero(key, BYTE)?) {
             Ok(number) => Ok(number),
-            Err(_) => Err(self.refused(key, BYTE)),
+            Err(_) => Err(self.fault_at(key, BYTE)),
         }
     }
 
@@ -233,7 +235,7 @@ impl<'a> Fields<'a> {
     {
         match u16::try_from(self.integer_or_zero(key, SHORT)?) {
             Ok(number) => Ok(number),
-            Err(_) => Err(self.refused(key, SHORT)),
+            Err(_) => Err(self.fault_at(key, SHORT)),
         }
     }
 
@@ -243,7 +245,7 @@ impl<'a> Fields<'a> {
     {
         match u32::try_from(self.integer_or_zero(key, LONG)?) {
             Ok(number) => Ok(number),
-            Err(_) => Err(self.refused(key, LONG)),
+            Err(_) => Err(self.fault_at(key, LONG)),
         }
     }
 
@@ -254,7 +256,7 @@ impl<'a> Fields<'a> {
         let value = self.value(key)?;
         match value.as_array() {
             Some(values) => Ok(values.as_slice()),
-            None => Err(self.mistaken(key, wanted, value)),
+            None => Err(self.type_fault(key, wanted, value)),
         }
     }
 
@@ -265,11 +267,11 @@ impl<'a> Fields<'a> {
         let mut numbers = Vec::new(self.alloc);
         for value in self.elements(key, SHORTS)? {
             let Some(number) = value.as_integer() else {
-                return Err(self.mistaken(key, SHORTS, value));
+                return Err(self.type_fault(key, SHORTS, value));
             };
             match u16::try_from(number) {
                 Ok(number) => numbers.push(number)?,
-                Err(_) => return Err(self.mistaken(key, SHORTS, value)),
+                Err(_) => return Err(self.type_fault(key, SHORTS, value)),
             }
         }
         Ok(numbers)
@@ -281,7 +283,7 @@ impl<'a> Fields<'a> {
         let value = self.value(key)?;
         match value.as_str() {
             Some(text) => Ok(text),
-            None => Err(self.mistaken(key, wanted, value)),
+            None => Err(self.type_fault(key, wanted, value)),
         }
     }
 
@@ -301,23 +303,23 @@ impl<'a> Fields<'a> {
     pub fn truth_or_false(&self, key: &'static str) -> Result<bool, ScriptFault>
         ensures { IfOk result (λ b. flag_or_false_at (table_view self.now.table.now) key.now ≡ Some b) }
     {
-        let Some(value) = self.found(key) else {
+        let Some(value) = self.value_at(key) else {
             return Ok(false);
         };
         match value.as_bool() {
             Some(truth) => Ok(truth),
-            None => Err(self.mistaken(key, "true or false", value)),
+            None => Err(self.type_fault(key, "true or false", value)),
         }
     }
 
     /// The bytes that a text of hex digits stands for. Of another text it is said what is wanted.
-    fn decoded(&self, key: &'static str, wanted: &'static str) -> Result<Vec<u8>, ScriptFault>
+    fn hex_bytes(&self, key: &'static str, wanted: &'static str) -> Result<Vec<u8>, ScriptFault>
         ensures { IfOk result (λ v. bytes_at (table_view self.now.table.now) key.now ≡ Some v.items) }
     {
         match hex::decode(self.alloc, self.text(key, wanted)?) {
             Ok(bytes) => Ok(bytes),
             Err(hex::FromHexError::OutOfMemory) => Err(ScriptFault::OutOfMemory(AllocError)),
-            Err(_) => Err(self.refused(key, wanted)),
+            Err(_) => Err(self.fault_at(key, wanted)),
         }
     }
 
@@ -325,7 +327,7 @@ impl<'a> Fields<'a> {
     pub fn bytes(&self, key: &'static str) -> Result<Vec<u8>, ScriptFault>
         ensures { IfOk result (λ v. bytes_at (table_view self.now.table.now) key.now ≡ Some v.items) }
     {
-        self.decoded(key, HEX)
+        self.hex_bytes(key, HEX)
     }
 
     /// The bytes that a text of hex digits stands for, none where the key is absent.
@@ -346,10 +348,10 @@ impl<'a> Fields<'a> {
         if !self.has(key) {
             return Ok(Vec::new(self.alloc));
         }
-        let bytes = self.decoded(key, WORDS)?;
+        let bytes = self.hex_bytes(key, WORDS)?;
         match words_of(self.alloc, &bytes)? {
             Some(words) => Ok(words),
-            None => Err(self.refused(key, WORDS)),
+            None => Err(self.fault_at(key, WORDS)),
         }
     }
 
@@ -381,7 +383,8 @@ fn is_among(known: &[&str], key: &str) -> bool
 
 /// The first key of the table that is not one of these.
 fn unknown_key<'a>(table: &'a Table, known: &[&str]) -> Option<&'a String>
-    ensures { IfNone result (All (λ key. list_any (λ word. bytes_eq word.now (string_bytes key)) known.now ≡ true) (keys table.now)) }
+    ensures { IfNone result
+        (All (λ key. list_any (λ word. bytes_eq word.now (string_bytes key)) known.now ≡ true) (keys table.now)) }
 {
     table.keys().find(|key| !is_among(known, key.as_str()))
 }

@@ -22,7 +22,7 @@ use Rattle.r10_dirchain.specs.Chain.{listed_files}
 use Rattle.r10_dirchain.specs.Mount.{mount_rules}
 use Rattle.r10_dirchain.specs.declared.chain.ChainBlock.{ChainBlock}
 use Rattle.r10_dirchain.proofs.Unique.{one_directory}
-use Rattle.r10_volume.specs.Holding.{HoldsFiles, Open}
+use Rattle.r10_volume.specs.Holding.{HoldsFiles, OpenState}
 use Rattle.r10_volume.proofs.Ends.{all_front}
 use Rattle.r10_volume.proofs.Relisting.{last_file_listed, last_file_said}
 use Rattle.r10_index.specs.Written.{index_of}
@@ -151,7 +151,7 @@ most_cost f = omega (arith, sum_front f.shown f.entries)
 pub whole_cost : (f : File) → f.shown ≡ length f.entries → shown_cost f ≡ cost_of f
 whole_cost f whole = ap (file_cost f.setup) (take_all f.shown f.entries (omega (arith, whole)))
 
-pub others_cost : (s : Config) (image : Image) (chain : List ChainBlock) (written : Option Open) (files : List File) (f : File) → HoldsFiles s image chain written (files ++ f ∷ []) → f.own ≡ false → shown_cost f ≡ cost_of f
+pub others_cost : (s : Config) (image : Image) (chain : List ChainBlock) (written : Option OpenState) (files : List File) (f : File) → HoldsFiles s image chain written (files ++ f ∷ []) → f.own ≡ false → shown_cost f ≡ cost_of f
 others_cost s image chain written files f held own = whole_cost f ((all_front (λ (h : File). h.own ≡ false → IsFound image h) files f held.found).1 own).shown
 
 -- ---- as laws

@@ -1,6 +1,6 @@
 //! Why a file isn't closed.
 
-use r10_packet_rules::Fault;
+use r10_packet_rules::FirstFault;
 use thiserror::Error;
 
 /// Why a last file that was left open isn't closed.
@@ -8,7 +8,7 @@ use thiserror::Error;
 pub enum SealFault {
     /// It is not strict: the first fault of its bytes.
     #[error("{0}")]
-    BadFile(Fault),
+    BadFile(FirstFault),
     /// It costs more than there is of the medium behind its first block.
     #[error("the closed file has no room on the medium")]
     MediumFull,

@@ -17,21 +17,21 @@ use Rattle.r10_shared.specs.Settling.{IsSettledReport}
 use Rattle.r10_shared.specs.declared.report.FeedReport.{FeedReport}
 use Rattle.r10_shared.specs.declared.source.Tally.{Tally}
 use Rattle.r10_source.specs.Pumps.{accepted_of, is_accepted, is_refused}
-use Rattle.r10_source.specs.declared.source.Turn.{Turn}
+use Rattle.r10_source.specs.declared.source.SourceItem.{SourceItem}
 use Rattle.r10_session.specs.Turns.{turns_in}
 
 -- ---- from places to pairs
 
-module _ {S F : Type 0} (rest_of : S → List Turn) (own : List Entry) (source_of : F → Option S) (line_of : F → SendingLine) (tally_of : F → Tally) where
-  one_comes : (items : List Turn) (source : Option S) (line later : SendingLine) (tally told : Tally) (report : FeedReport) → IsSomeAnd source (λ s. rest_of s ≡ items) → HasRun rest_of source line tally later told → IsSettledReport own later told report
+module _ {S F : Type 0} (rest_of : S → List SourceItem) (own : List Entry) (source_of : F → Option S) (line_of : F → SendingLine) (tally_of : F → Tally) where
+  one_comes : (items : List SourceItem) (source : Option S) (line later : SendingLine) (tally told : Tally) (report : FeedReport) → IsSomeAnd source (λ s. rest_of s ≡ items) → HasRun rest_of source line tally later told → IsSettledReport own later told report
       → Comes own items line report
-  one_comes items (Some s) line later tally told report given run settled = record { later = later; told = told; fed = subst (λ (l : List Turn). FedLine l line later told) given run; settled = settled }
+  one_comes items (Some s) line later tally told report given run settled = record { later = later; told = told; fed = subst (λ (l : List SourceItem). FedLine l line later told) given run; settled = settled }
   one_comes items None line later tally told report given run settled = absurd given
 
   pub came_each : (feeds later : List F) (reports : List FeedReport) → length later ≡ length feeds
       → ((i : ℕ) (d : F) → i < length feeds → HasRun rest_of (source_of (get_or feeds i d)) (line_of (get_or feeds i d)) (tally_of (get_or feeds i d)) (line_of (get_or later i d)) (tally_of (get_or later i d)))
       → length reports ≡ length later → ((i : ℕ) (d : F) (r : FeedReport) → i < length later → IsSettledReport own (line_of (get_or later i d)) (tally_of (get_or later i d)) (get_or reports i r))
-      → AllZip (λ (feed : F) (report : FeedReport). (items : List Turn) → IsSomeAnd (source_of feed) (λ s. rest_of s ≡ items) → Comes own items (line_of feed) report) feeds reports
+      → AllZip (λ (feed : F) (report : FeedReport). (items : List SourceItem) → IsSomeAnd (source_of feed) (λ s. rest_of s ≡ items) → Comes own items (line_of feed) report) feeds reports
   came_each [] [] [] same run many settled = tt
   came_each (f ∷ feeds) (g ∷ later) (r ∷ reports) same run many settled = (
     λ items given. one_comes items (source_of f) (line_of f) (line_of g) (tally_of f) (tally_of g) r given (run 0 f (omega arith)) (settled 0 g r (omega arith)),

@@ -12,13 +12,13 @@ use Rattle.r10_session.specs.Readers.{AreOpened, AreRead, IsReadBy, IsReadOf, Op
 use Rattle.r10_script.specs.declared.session.ReaderTable.{ReaderTable}
 use Rattle.r10_shared.specs.Readings.{EachGoesOn, HasReadAll}
 use Rattle.r10_shared.specs.Settling.{IsWrittenDown}
-use Rattle.r10_shared.specs.declared.reading.Reading.{Reading}
+use Rattle.r10_shared.specs.declared.reading.Transcribing.{Transcribing}
 use Rattle.r10_held.specs.declared.transcript.Instalment.{Instalment}
 use Rattle.r10_held.specs.declared.transcript.Transcript.{Transcript}
 
 -- ---- from places to pairs
 
-one_read : (player : Player) (reading : Reading) (t : Transcript) → HasReadAll player reading → IsWrittenDown reading t → IsReadOf player.cursor t
+one_read : (player : Player) (reading : Transcribing) (t : Transcript) → HasReadAll player reading → IsWrittenDown reading t → IsReadOf player.cursor t
 one_read player reading t read down = record {
   file = down.0.file ∙ read.alike.file;
   channels = down.0.channels ∙ read.alike.channels;
@@ -28,9 +28,9 @@ one_read player reading t read down = record {
   goes_on = subst (λ (l : List Instalment). EachGoesOn player.cursor.reading.covered l reading.player.cursor.reading.covered) (sym (down.1 ∙ read.written)) read.goes_on;
 }
 
-pub read_each : (players : List Player) (readings : List Reading) (transcripts : List Transcript) → length readings ≡ length players
-    → ((i : ℕ) (d : Player) (e : Reading) → i < length players → HasReadAll (get_or players i d) (get_or readings i e)) → length transcripts ≡ length readings
-    → ((i : ℕ) (a : Reading) (b : Transcript) → i < length readings → IsWrittenDown (get_or readings i a) (get_or transcripts i b)) → AllZip (λ (player : Player) (t : Transcript). IsReadOf player.cursor t) players transcripts
+pub read_each : (players : List Player) (readings : List Transcribing) (transcripts : List Transcript) → length readings ≡ length players
+    → ((i : ℕ) (d : Player) (e : Transcribing) → i < length players → HasReadAll (get_or players i d) (get_or readings i e)) → length transcripts ≡ length readings
+    → ((i : ℕ) (a : Transcribing) (b : Transcript) → i < length readings → IsWrittenDown (get_or readings i a) (get_or transcripts i b)) → AllZip (λ (player : Player) (t : Transcript). IsReadOf player.cursor t) players transcripts
 read_each [] [] [] same read many down = tt
 read_each (p ∷ players) (r ∷ readings) (t ∷ transcripts) same read many down = (
   one_read p r t (read 0 p r (omega arith)) (down 0 r t (omega arith)),

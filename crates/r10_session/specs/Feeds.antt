@@ -17,7 +17,7 @@ use Rattle.r10_shared.specs.Settling.{IsSettledReport}
 use Rattle.r10_shared.specs.declared.report.FeedReport.{FeedReport}
 use Rattle.r10_shared.specs.declared.source.Tally.{Tally}
 use Rattle.r10_source.specs.Pumps.{OffersAll, Tried, accepted_of, is_refused, turn_of}
-use Rattle.r10_source.specs.declared.source.Turn.{Turn}
+use Rattle.r10_source.specs.declared.source.SourceItem.{SourceItem}
 use Rattle.r10_session.specs.Turns.{turns_in}
 
 -- each of these, with the one at its place
@@ -30,7 +30,7 @@ pub record WaitsAsLine (specs : List ChannelSpec) (table : FeedTable) (line : Se
   pub unused : IsUnused specs table.channel line.port
 
 -- a feed of these items was run, and its report tells what became of its messages, by the entries of the recorder's own files
-pub record Comes (own : List Entry) (items : List Turn) (line : SendingLine) (report : FeedReport) : Type 0 where
+pub record Comes (own : List Entry) (items : List SourceItem) (line : SendingLine) (report : FeedReport) : Type 0 where
   pub later : SendingLine
   pub told : Tally
   pub fed : FedLine items line later told
@@ -46,7 +46,7 @@ pub record FeedCame (specs : List ChannelSpec) (own : List Entry) (table : FeedT
   pub port : Sending
   pub unused : IsUnused specs table.channel port
   pub tried : List Tried
-  pub left : List Turn
+  pub left : List SourceItem
   pub given : turns_in table.items ≡ map turn_of tried ++ left
   pub later : Sending
   pub offers : OffersAll port tried later

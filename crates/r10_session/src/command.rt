@@ -26,11 +26,11 @@ use std::io::{BufWriter, ErrorKind, Read, Write};
 use std::sync::Wait;
 use std::thread::Threads;
 
-/// Runs the command that the words name, the program's own name first, and answers the exit status: 0, 1 where an audit says no, an image
-/// refused it or a recording is faulty, 2 for wrong words or a wrong script, 3 for want of memory and for what can't be read or written.
-/// A fault goes to `faults`, as one line; with 0 and 1 nothing goes there, and nothing is left in the writer's buffer. With 2 nothing goes to
-/// the writer. The reader is called only where the words ask for a command that reads its input, and wrong words are refused before that.
-/// Only a session starts threads and waits.
+/// Runs the command that the words name, the program's own name first, and answers the exit status: 0, 1 where an audit says no, an
+/// image refused it or a recording is faulty, 2 for wrong words or a wrong script, 3 for want of memory and for what can't be read
+/// or written. A fault goes to `faults`, as one line; with 0 and 1 nothing goes there, and nothing is left in the writer's buffer.
+/// With 2 nothing goes to the writer. The reader is called only where the words ask for a command that reads its input, and wrong
+/// words are refused before that. Only a session starts threads and waits.
 pub fn run<T: Threads + Wait + Sync, R: Read, W: Write + Drop, E: Write>(
     rt: &T,
     alloc: Global,
@@ -39,12 +39,15 @@ pub fn run<T: Threads + Wait + Sync, R: Read, W: Write + Drop, E: Write>(
     writer: &mut BufWriter<W>,
     faults: &mut E,
 ) -> u8
-    ensures does { EndsWithStatus result (DoesAny (map string_bytes words.now) (R.remaining reader.old) (writer_contents W.contents writer.old) (writer_contents W.contents writer.new)) }
+    ensures does { EndsWithStatus result (DoesAny (map string_bytes words.now) (R.remaining reader.old)
+        (writer_contents W.contents writer.old) (writer_contents W.contents writer.new)) }
     ensures sent { EndsWithStatus result (λ _. writer_buffer writer.new ≡ []) }
     ensures silent { EndsWithStatus result (λ _. faults.new ≡ faults.old) }
     ensures quiet { result ≡ 2 → writer.new ≡ writer.old }
-    ensures unread { (AsksSession (map string_bytes words.now) → ⊥) → (AsksInput (map string_bytes words.now) → ⊥) → reader.new ≡ reader.old }
-    ensures wrong { (AsksSession (map string_bytes words.now) → ⊥) → (AsksScript (map string_bytes words.now) → ⊥) → result ≡ 2 → reader.new ≡ reader.old }
+    ensures unread { (AsksSession (map string_bytes words.now) → ⊥)
+        → (AsksInput (map string_bytes words.now) → ⊥) → reader.new ≡ reader.old }
+    ensures wrong { (AsksSession (map string_bytes words.now) → ⊥) → (AsksScript (map string_bytes words.now) → ⊥)
+        → result ≡ 2 → reader.new ≡ reader.old }
 {
     if !asks_session(words) {
         return r10_command::run(alloc, words, reader, writer, faults);
@@ -65,8 +68,10 @@ fn perform<T: Threads + Wait + Sync, R: Read, W: Write + Drop>(
     writer: &mut BufWriter<W>,
 ) -> Result<Outcome, Fault>
     requires asks { AsksSession (map string_bytes words.now) }
-    ensures run { AsksRun (map string_bytes words.now) → IfOk result (λ outcome. IfSome (R.remaining reader.old) (λ text. Sessions text outcome (writer_contents W.contents writer.old) (writer_contents W.contents writer.new))) }
-    ensures image { AsksRunImage (map string_bytes words.now) → IfOk result (λ outcome. IfSome (R.remaining reader.old) (λ text. SessionLeaves text outcome (writer_contents W.contents writer.old) (writer_contents W.contents writer.new))) }
+    ensures run { AsksRun (map string_bytes words.now) → IfOk result (λ outcome. IfSome (R.remaining reader.old)
+        (λ text. Sessions text outcome (writer_contents W.contents writer.old) (writer_contents W.contents writer.new))) }
+    ensures image { AsksRunImage (map string_bytes words.now) → IfOk result (λ outcome. IfSome (R.remaining reader.old)
+        (λ text. SessionLeaves text outcome (writer_contents W.contents writer.old) (writer_contents W.contents writer.new))) }
     ensures sent { OnOk result (writer_buffer writer.new ≡ []) }
     ensures quiet { IfErr result (λ fault. fault_status fault ≡ 2 → writer.new ≡ writer.old) }
 {
@@ -94,7 +99,8 @@ fn session_left<T: Threads + Wait + Sync, R: Read>(
     alloc: Global,
     reader: &mut R,
 ) -> Result<Left, Fault>
-    ensures { IfOk result (λ left. IfSome (R.remaining reader.old) (λ text. TextCame text (memory_disk left.medium).blocks left.ended)) }
+    ensures { IfOk result
+        (λ left. IfSome (R.remaining reader.old) (λ text. TextCame text (memory_disk left.medium).blocks left.ended)) }
 {
     let text = read_whole(alloc, reader)?;
     let script = session_script(alloc, text.as_slice())?;
@@ -104,15 +110,16 @@ fn session_left<T: Threads + Wait + Sync, R: Read>(
     }
 }
 
-/// Runs the session script that is read, and writes the lines of what came of it. Refused is a session whose audit does not say yes. The
-/// writer's buffer is flushed. Of a wrong script nothing is written.
+/// Runs the session script that is read, and writes the lines of what came of it. Refused is a session whose audit does not say
+/// yes. The writer's buffer is flushed. Of a wrong script nothing is written.
 fn session<T: Threads + Wait + Sync, R: Read, W: Write + Drop>(
     rt: &T,
     alloc: Global,
     reader: &mut R,
     writer: &mut BufWriter<W>,
 ) -> Result<Outcome, Fault>
-    ensures ends { IfOk result (λ outcome. IfSome (R.remaining reader.old) (λ text. Sessions text outcome (writer_contents W.contents writer.old) (writer_contents W.contents writer.new))) }
+    ensures ends { IfOk result (λ outcome. IfSome (R.remaining reader.old)
+        (λ text. Sessions text outcome (writer_contents W.contents writer.old) (writer_contents W.contents writer.new))) }
     ensures sent { OnOk result (writer_buffer writer.new ≡ []) }
     ensures quiet { IfErr result (λ fault. fault_status fault ≡ 2 → writer.new ≡ writer.old) }
 {
@@ -129,7 +136,8 @@ fn session_image<T: Threads + Wait + Sync, R: Read, W: Write + Drop>(
     reader: &mut R,
     writer: &mut BufWriter<W>,
 ) -> Result<Outcome, Fault>
-    ensures leaves { IfOk result (λ outcome. IfSome (R.remaining reader.old) (λ text. SessionLeaves text outcome (writer_contents W.contents writer.old) (writer_contents W.contents writer.new))) }
+    ensures leaves { IfOk result (λ outcome. IfSome (R.remaining reader.old)
+        (λ text. SessionLeaves text outcome (writer_contents W.contents writer.old) (writer_contents W.contents writer.new))) }
     ensures sent { OnOk result (writer_buffer writer.new ≡ []) }
     ensures quiet { IfErr result (λ fault. fault_status fault ≡ 2 → writer.new ≡ writer.old) }
 {

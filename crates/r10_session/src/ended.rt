@@ -4,8 +4,8 @@ use r10_body::Refusal;
 use r10_machine::Reply;
 use r10_medium::Memory;
 
-/// What became of the messages of a feed: how many were accepted and refused, and of the accepted ones how many erases took, the recorder's
-/// own files have, and the recorder did not take in.
+/// What became of the messages of a feed: how many were accepted and refused, and of the accepted ones how many erases took, the
+/// recorder's own files have, and the recorder did not take in.
 #[derive(Debug, Drop)]
 pub struct FeedEnd {
     pub channel: u16,

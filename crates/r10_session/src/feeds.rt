@@ -13,7 +13,7 @@ ghost use Rattle.r10_script.specs.Session.{AreApart};
 
 use crate::ends::{Sender, take_port};
 use crate::fault::SessionFault;
-use crate::listed::Listed;
+use crate::list_source::ListSource;
 use crate::session::run_to_end;
 use r10_held::{Cabinet, Player, Rings};
 use r10_medium::Memory;
@@ -33,7 +33,8 @@ fn feed_of<N: Rings>(
     requires named { All (IsRingNamed N.rings) senders.old.items }
     requires there { HasSender senders.old.items channel }
     ensures named { All (IsRingNamed N.rings) senders.new.items }
-    ensures others { (other : ℕ) → (channel == other) ≡ false → HasSender senders.old.items other → HasSender senders.new.items other }
+    ensures others { (other : ℕ) → (channel == other) ≡ false → HasSender senders.old.items other
+        → HasSender senders.new.items other }
     ensures fresh { (specs : List SpecValue) → All (IsFresh specs) senders.old.items → All (IsFresh specs) senders.new.items }
     ensures unused { (specs : List SpecValue) → All (IsFresh specs) senders.old.items → IsUnused specs channel result.line.port }
     ensures channel { result.line.channel ≡ channel }
@@ -45,7 +46,8 @@ fn feed_of<N: Rings>(
     }
 }
 
-/// Runs a feed for each of these tables, orders and players at the same time, to their report: each source, of a table's items, is made here, and the run uses it up.
+/// Runs a feed for each of these tables, orders and players at the same time, to their report: each source, of a table's items, is
+/// made here, and the run uses it up.
 pub(crate) fn run_tables<N: Rings + Send + Sync, T: Threads + Wait + Sync>(
     rt: &T,
     alloc: Global,
@@ -59,14 +61,17 @@ pub(crate) fn run_tables<N: Rings + Send + Sync, T: Threads + Wait + Sync>(
     requires there { AllByRecursion (λ table. HasSender senders.items table.channel) tables.items }
     requires apart { AreApart tables.items }
     requires players { All (λ player. player.pass.cell ≡ cabinet) players.items }
-    ensures feeds { (specs : List SpecValue) → All (IsFresh specs) senders.items → IfOk result (λ report. (own : List EntryValue) × AreOwn report.recorder.kept (memory_disk report.recorder.medium).blocks own × AllZip (FeedCame specs own) tables.items (map feed_end report.feeds.items)) }
-    ensures readers { IfOk result (λ report. AllZip (λ player transcript. IsReadOf player.cursor transcript) players.items report.transcripts.items) }
+    ensures feeds { (specs : List SpecValue) → All (IsFresh specs) senders.items → IfOk result
+        (λ report. (own : List EntryValue) × AreOwn report.recorder.kept (memory_disk report.recorder.medium).blocks own
+        × AllZip (FeedCame specs own) tables.items (map feed_end report.feeds.items)) }
+    ensures readers { IfOk result
+        (λ report. AllZip (λ player transcript. IsReadOf player.cursor transcript) players.items report.transcripts.items) }
 {
     let mut left = senders;
     let mut feeds = Vec::new(alloc);
     for table in tables {
         let FeedTable { channel, items } = table;
-        let source: Box<dyn ChannelSource + Send> = Box::new(alloc, Listed::of(items))?;
+        let source: Box<dyn ChannelSource + Send> = Box::new(alloc, ListSource::of(items))?;
         feeds.push(feed_of::<N>(&mut left, channel, source))?;
     }
     run_to_end(rt, alloc, cabinet, feeds, orders, players)

@@ -1,5 +1,5 @@
-//! The command `run`: a session script on a recorder between threads, over a fresh medium in memory, to what came of it and the lines that
-//! tell it; and with it all commands of the program.
+//! The command `run`: a session script on a recorder between threads, over a fresh medium in memory, to what came of it and the
+//! lines that tell it; and with it all commands of the program.
 #![tactic(auto)]
 
 mod beginning;
@@ -8,7 +8,7 @@ mod ended;
 mod ends;
 mod fault;
 mod feeds;
-mod listed;
+mod list_source;
 mod readers;
 mod reports;
 mod running;

@@ -1,6 +1,7 @@
 //! Readers: their cursors, and what they come to.
 
-ghost use Rattle.std.specs.Prelude.{◌≡◌, ◌<◌, ◌≤◌, ◌+◌, ◌-◌, ◌^◌, ◌++◌, ◌∷◌, [], All, IfOk, List, OnOk, Option, drop, map, slice_index_or};
+ghost use Rattle.std.specs.Prelude.{◌≡◌, ◌<◌, ◌≤◌, ◌+◌, ◌-◌, ◌^◌, ◌++◌, ◌∷◌, [], All, IfOk, List, OnOk};
+ghost use Rattle.std.specs.Prelude.{Option, drop, map, slice_index_or};
 ghost use Rattle.r10_body.specs.declared.refusal.Refusal.{Refusal as RefusalValue};
 ghost use Rattle.r10_session.specs.Readers.{AreOpened, BeginsReading, OpensCursor, cursors_in, fill, refusal_of};
 
@@ -33,7 +34,7 @@ fn open<M: BlockMedium, N: Rings>(
 ) -> Result<Result<Cursor, Refusal>, AllocError>
     ensures { IfOk result (λ opened. OpensCursor M.disk held.old table.now opened held.new) }
 {
-    let channels = table.channels.copied(alloc)?;
+    let channels = table.channels.duplicate(alloc)?;
     Ok(held.cursor(table.file, channels, table.from, table.to))
 }
 
@@ -84,7 +85,8 @@ fn begin_held<M: BlockMedium, N: Rings, T: Wait>(
     steps: &[Order],
     tables: &[ReaderTable],
 ) -> Result<Begun, AllocError>
-    ensures { IfOk result (λ begun. BeginsReading M.disk steps.now tables.now begun.replies.items begun.refused.items begun.cursors.items) }
+    ensures { IfOk result
+        (λ begun. BeginsReading M.disk steps.now tables.now begun.replies.items begun.refused.items begun.cursors.items) }
 {
     let replies = ask_all(rt, alloc, held, steps)?;
     let (refused, cursors) = open_all(alloc, held, tables)?;
@@ -103,7 +105,8 @@ pub(crate) fn begin<M: BlockMedium, N: Rings, T: Wait>(
     steps: &[Order],
     tables: &[ReaderTable],
 ) -> Result<Begun, AllocError>
-    ensures { IfOk result (λ begun. BeginsReading M.disk steps.now tables.now begun.replies.items begun.refused.items begun.cursors.items) }
+    ensures { IfOk result
+        (λ begun. BeginsReading M.disk steps.now tables.now begun.replies.items begun.refused.items begun.cursors.items) }
 {
     let mut held = cabinet.hold(rt);
     begin_held(rt, alloc, &mut held, steps, tables)
@@ -139,7 +142,8 @@ fn number_at(numbers: &[usize], place: usize) -> usize
 /// The end of a reader, and which number is next: its refusal, or else the number at this place.
 fn reader_end(refused: Option<Refusal>, numbers: &[usize], next: usize) -> (ReaderEnd, usize)
     requires { next < 2 ^ 64 - 1 }
-    ensures end { (others : List (Option RefusalValue)) → fill (refused ∷ others) (drop next numbers.now) ≡ result.0 ∷ fill others (drop result.1 numbers.now) }
+    ensures end { (others : List (Option RefusalValue))
+        → fill (refused ∷ others) (drop next numbers.now) ≡ result.0 ∷ fill others (drop result.1 numbers.now) }
     ensures step { result.1 ≤ next + 1 }
 {
     match refused {
@@ -148,8 +152,8 @@ fn reader_end(refused: Option<Refusal>, numbers: &[usize], next: usize) -> (Read
     }
 }
 
-/// The ends of readers: of each the refusal of its cursor, or else how many entries it read, by these numbers of those that were not refused,
-/// in order.
+/// The ends of readers: of each the refusal of its cursor, or else how many entries it read, by these numbers of those that were
+/// not refused, in order.
 pub(crate) fn reader_ends(
     alloc: Global,
     refused: &[Option<Refusal>],

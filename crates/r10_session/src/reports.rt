@@ -65,11 +65,12 @@ fn numbers_of(alloc: Global, transcripts: &[Transcript]) -> Result<Vec<usize>, A
 }
 
 /// What an audit of the report says. Where memory is refused it says nothing. The medium is only read.
-fn audited(
+fn audit_answer(
     alloc: Global,
     report: &mut SessionReport<Memory>,
 ) -> Result<Result<bool, Refusal>, AllocError>
-    ensures says { IfOk result (λ answer. IfOk answer (λ yes. IsTrue yes ↔ AllAgree report.old.recorder.kept.work (memory_disk report.old.recorder.medium).blocks report.old.transcripts.items)) }
+    ensures says { IfOk result (λ answer. IfOk answer (λ yes. IsTrue yes
+        ↔ AllAgree report.old.recorder.kept.work (memory_disk report.old.recorder.medium).blocks report.old.transcripts.items)) }
     ensures same { (report.new.feeds ≡ report.old.feeds) × (report.new.transcripts ≡ report.old.transcripts) }
     ensures medium { (memory_disk report.new.recorder.medium).blocks ≡ (memory_disk report.old.recorder.medium).blocks }
 {
@@ -89,12 +90,14 @@ pub(crate) fn settle(
 ) -> Result<Left, SessionFault>
     ensures replies { IfOk result (λ left. left.ended.replies.items ≡ replies.items) }
     ensures feeds { IfOk result (λ left. left.ended.feeds.items ≡ map feed_end report.feeds.items) }
-    ensures readers { IfOk result (λ left. left.ended.readers.items ≡ fill refused.now (map (λ transcript. entries_in transcript.instalments.items) report.transcripts.items)) }
-    ensures audited { IfOk result (λ left. IfOk left.ended.audit (λ yes. IsTrue yes ↔ AllAgree report.recorder.kept.work (memory_disk report.recorder.medium).blocks report.transcripts.items)) }
+    ensures readers { IfOk result (λ left. left.ended.readers.items
+        ≡ fill refused.now (map (λ transcript. entries_in transcript.instalments.items) report.transcripts.items)) }
+    ensures audited { IfOk result (λ left. IfOk left.ended.audit (λ yes. IsTrue yes
+        ↔ AllAgree report.recorder.kept.work (memory_disk report.recorder.medium).blocks report.transcripts.items)) }
     ensures medium { IfOk result (λ left. (memory_disk left.medium).blocks ≡ (memory_disk report.recorder.medium).blocks) }
 {
     let mut report = report;
-    let audit = audited(alloc, &mut report)?;
+    let audit = audit_answer(alloc, &mut report)?;
     let feeds = feed_ends(alloc, report.feeds.as_slice())?;
     let numbers = numbers_of(alloc, report.transcripts.as_slice())?;
     let readers = reader_ends(alloc, refused, numbers.as_slice())?;

@@ -33,21 +33,21 @@ use std::thread::Threads;
 
 /// What a session script asks for of a recorder.
 #[derive(Drop)]
-struct Asked {
+struct SessionRequest {
     steps: Vec<Order>,
     feeds: Vec<FeedTable>,
     orders: Vec<Order>,
     readers: Vec<ReaderTable>,
 }
 
-/// Asks for the steps, and then runs feeds, orders and readers at the same time, each feed with a source of its messages. The senders are the
-/// sending ends of the recorder's lanes, whose rings `N` names, as it names the recorder's gauge.
+/// Asks for the steps, and then runs feeds, orders and readers at the same time, each feed with a source of its messages. The
+/// senders are the sending ends of the recorder's lanes, whose rings `N` names, as it names the recorder's gauge.
 fn run_between<N: Rings + Send + Sync, T: Threads + Wait + Sync>(
     rt: &T,
     alloc: Global,
     gauged: Gauged<Memory>,
     senders: Vec<Sender>,
-    asked: Asked,
+    asked: SessionRequest,
 ) -> Result<Left, SessionFault>
     requires new { IsNew memory_disk outlet_spec outlet_received gauged.recorder }
     requires lanes { AreNamed N.rings gauged.recorder.lanes }
@@ -56,10 +56,11 @@ fn run_between<N: Rings + Send + Sync, T: Threads + Wait + Sync>(
     requires fresh { All (IsFresh gauged.recorder.kept.config.channels) senders.items }
     requires there { AllByRecursion (λ table. HasSender senders.items table.channel) asked.feeds.items }
     requires apart { AreApart asked.feeds.items }
-    ensures { IfOk result (λ left. CameOf gauged.recorder.kept.config.channels asked.steps.items asked.feeds.items asked.readers.items (memory_disk left.medium).blocks left.ended) }
+    ensures { IfOk result (λ left. CameOf gauged.recorder.kept.config.channels asked.steps.items asked.feeds.items
+        asked.readers.items (memory_disk left.medium).blocks left.ended) }
 {
     new_recorders_account_for_their_lanes::<Memory, N>();
-    let Asked {
+    let SessionRequest {
         steps,
         feeds: tables,
         orders,
@@ -122,7 +123,9 @@ pub fn run_script<T: Threads + Wait + Sync>(
     requires orders { All (λ event. IsSome (order_of event)) script.orders.items }
     requires feeds { HaveChannels script.settings.channels script.feeds.items }
     requires apart { AreApart script.feeds.items }
-    ensures { IfOk result (λ left. (steps : List OrderValue) × (map order_of script.steps.items ≡ map (λ order. Some order) steps) × CameOf script.settings.channels steps script.feeds.items script.readers.items (memory_disk left.medium).blocks left.ended) }
+    ensures { IfOk result
+        (λ left. (steps : List OrderValue) × (map order_of script.steps.items ≡ map (λ order. Some order) steps) × CameOf
+        script.settings.channels steps script.feeds.items script.readers.items (memory_disk left.medium).blocks left.ended) }
 {
     let SessionScript {
         settings,
@@ -135,7 +138,7 @@ pub fn run_script<T: Threads + Wait + Sync>(
     let orders = orders_of(alloc, orders)?;
     let (senders, lanes) = lanes_of(alloc, settings.channels())?;
     let recorder = recorder_of(alloc, settings, lanes)?;
-    let asked = Asked {
+    let asked = SessionRequest {
         steps,
         feeds,
         orders,

@@ -3,7 +3,7 @@
 ghost use Rattle.std.specs.Prelude.{◌≡◌, All, IfOk, IsSomeAnd, List};
 ghost use Rattle.std.specs.List.{AllZip};
 ghost use Rattle.r10_body.specs.declared.entry.Entry.{Entry as EntryValue};
-ghost use Rattle.r10_source.specs.declared.source.Turn.{Turn as TurnValue};
+ghost use Rattle.r10_source.specs.declared.source.SourceItem.{SourceItem as TurnValue};
 ghost use Rattle.r10_control.specs.Own.{AreOwn};
 ghost use Rattle.r10_medium.specs.MemoryDisk.{memory_disk};
 ghost use Rattle.r10_session.specs.Feeds.{Comes, Zipped};
@@ -24,7 +24,8 @@ fn finish<N: Rings>(
     cabinet: Cabinet<Memory, N>,
     session: Session<N>,
 ) -> Result<SessionReport<Memory>, SessionFault>
-    ensures settled { IfOk result (λ report. Settles (λ feed. feed.line) (λ feed. feed.tally) report.recorder.kept (memory_disk report.recorder.medium).blocks session.feeds.items report.feeds.items) }
+    ensures settled { IfOk result (λ report. Settles (λ feed. feed.line) (λ feed. feed.tally) report.recorder.kept
+        (memory_disk report.recorder.medium).blocks session.feeds.items report.feeds.items) }
     ensures transcripts { IfOk result (λ report. AreWrittenDown session.readings.items report.transcripts.items) }
 {
     match end_session(alloc, cabinet, session) {
@@ -43,8 +44,12 @@ pub(crate) fn run_to_end<N: Rings + Send + Sync, T: Threads + Wait + Sync>(
     players: Vec<Player>,
 ) -> Result<SessionReport<Memory>, SessionFault>
     requires { All (λ player. player.pass.cell ≡ cabinet) players.items }
-    ensures feeds { IfOk result (λ report. (own : List EntryValue) × AreOwn report.recorder.kept (memory_disk report.recorder.medium).blocks own × Zipped feeds.items report.feeds.items (λ feed told. (items : List TurnValue) → IsSomeAnd feed.source (λ s. rest (s.vtable, s.value) ≡ items) → Comes own items feed.line told)) }
-    ensures readers { IfOk result (λ report. AllZip (λ player transcript. IsReadOf player.cursor transcript) players.items report.transcripts.items) }
+    ensures feeds { IfOk result
+        (λ report. (own : List EntryValue) × AreOwn report.recorder.kept (memory_disk report.recorder.medium).blocks own
+        × Zipped feeds.items report.feeds.items (λ feed told. (items : List TurnValue)
+        → IsSomeAnd feed.source (λ s. rest (s.vtable, s.value) ≡ items) → Comes own items feed.line told)) }
+    ensures readers { IfOk result
+        (λ report. AllZip (λ player transcript. IsReadOf player.cursor transcript) players.items report.transcripts.items) }
 {
     let Ok(session) = run_session(rt, alloc, &cabinet, &Open, feeds, orders, players) else {
         return Err(SessionFault::Memory(AllocError));

@@ -2,7 +2,8 @@
 
 ghost use Rattle.std.specs.Prelude.{◌≡◌, ◌++◌, ℕ, List, IfOk, codes, string_bytes};
 ghost use Rattle.std.specs.List.{flat_map};
-ghost use Rattle.r10_session.specs.Text.{audit_line, feed_line, kept_text, offered_text, reader_line, reader_lines, refused_line, session_text, step_lines};
+ghost use Rattle.r10_session.specs.Text.{audit_line, feed_line, kept_text, offered_text, reader_line};
+ghost use Rattle.r10_session.specs.Text.{reader_lines, refused_line, session_text, step_lines};
 
 use crate::ended::{Ended, FeedEnd, ReaderEnd};
 use r10_body::Refusal;

@@ -5,7 +5,7 @@ ghost use Rattle.r10_held.specs.Account.{IsNew};
 ghost use Rattle.r10_held.specs.LockFact.{outlet_received, outlet_spec};
 ghost use Rattle.r10_held.specs.Naming.{AreNamed};
 
-use crate::fault::Fault;
+use crate::fault::SessionBenchFault;
 use r10_body::{ChannelSpec, Kind};
 use r10_control::Recorder;
 use r10_held::Gauged;
@@ -49,19 +49,23 @@ fn blocks_for(messages: u32) -> usize {
 }
 
 /// Settings with these channels.
-fn settings_for(alloc: Global, blocks: usize, channels: [ChannelSpec; 4]) -> Result<Settings, Fault>
+fn settings_for(
+    alloc: Global,
+    blocks: usize,
+    channels: [ChannelSpec; 4],
+) -> Result<Settings, SessionBenchFault>
     ensures { IfOk result (λ s. s.channels ≡ channels) }
 {
     let channels = Vec::from_slice(alloc, &channels)?;
     let volume = Vec::from_slice(alloc, b"BENCH")?;
     let Ok(settings) = Settings::of(blocks, 2, volume, 32_765, 1, 2, channels) else {
-        return Err(Fault::Settings);
+        return Err(SessionBenchFault::Settings);
     };
     Ok(settings)
 }
 
 /// A medium that is formatted for a recorder with room for so many messages of each feed.
-pub fn medium_for(alloc: Global, messages: u32) -> Result<Memory, Fault> {
+pub fn medium_for(alloc: Global, messages: u32) -> Result<Memory, SessionBenchFault> {
     let settings = settings_of(alloc, messages)?;
     let mut medium = Memory::new(alloc, settings.blocks())?;
     format(&mut medium, &settings)?;
@@ -87,7 +91,7 @@ fn lanes_of(
 }
 
 /// Settings with room for so many messages of each feed.
-fn settings_of(alloc: Global, messages: u32) -> Result<Settings, Fault> {
+fn settings_of(alloc: Global, messages: u32) -> Result<Settings, SessionBenchFault> {
     let at_four = ChannelSpec { id: 4, ..CHANNEL };
     let at_five = ChannelSpec { id: 5, ..CHANNEL };
     let at_six = ChannelSpec { id: 6, ..CHANNEL };
@@ -99,13 +103,15 @@ fn settings_of(alloc: Global, messages: u32) -> Result<Settings, Fault> {
 }
 
 /// A new recorder over a medium that was formatted with room for so many messages of each feed.
-pub fn made<M: BlockMedium + Drop>(
+pub fn new_recorder<M: BlockMedium + Drop>(
     alloc: Global,
     messages: u32,
     medium: M,
-) -> Result<Apparatus<M>, Fault>
+) -> Result<Apparatus<M>, SessionBenchFault>
     ensures new { IfOk result (λ a. IsNew M.disk outlet_spec outlet_received a.gauged.recorder) }
-    ensures named { IfOk result (λ a. AreNamed (record { channel = 3; ring = a.three.ring } ∷ record { channel = 4; ring = a.four.ring } ∷ record { channel = 5; ring = a.five.ring } ∷ record { channel = 6; ring = a.six.ring } ∷ []) a.gauged.recorder.lanes) }
+    ensures named { IfOk result
+        (λ a. AreNamed (record { channel = 3; ring = a.three.ring } ∷ record { channel = 4; ring = a.four.ring }
+        ∷ record { channel = 5; ring = a.five.ring } ∷ record { channel = 6; ring = a.six.ring } ∷ []) a.gauged.recorder.lanes) }
 {
     let at_three = CHANNEL;
     let at_four = ChannelSpec { id: 4, ..CHANNEL };
@@ -117,7 +123,7 @@ pub fn made<M: BlockMedium + Drop>(
         [at_three, at_four, at_five, at_six],
     )?;
     if medium.blocks() != settings.blocks() {
-        return Err(Fault::Settings);
+        return Err(SessionBenchFault::Settings);
     }
     let (three, first) = lane(alloc, at_three)?;
     let (four, second) = lane(alloc, at_four)?;
@@ -125,7 +131,7 @@ pub fn made<M: BlockMedium + Drop>(
     let (six, fourth) = lane(alloc, at_six)?;
     let lanes = lanes_of(alloc, first, second, third, fourth)?;
     let Ok(recorder) = Recorder::new(alloc, settings, medium, lanes) else {
-        return Err(Fault::Memory(AllocError));
+        return Err(SessionBenchFault::Memory(AllocError));
     };
     match Gauged::new(alloc, recorder) {
         Ok(gauged) => Ok(Apparatus {
@@ -135,6 +141,6 @@ pub fn made<M: BlockMedium + Drop>(
             five,
             six,
         }),
-        Err(_) => Err(Fault::Memory(AllocError)),
+        Err(_) => Err(SessionBenchFault::Memory(AllocError)),
     }
 }

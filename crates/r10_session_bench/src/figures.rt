@@ -5,7 +5,7 @@ use std::time::Duration;
 
 /// What was measured.
 #[derive(Clone, Copy, Default)]
-pub struct Figures {
+pub struct SessionFigures {
     /// How many bytes each message has.
     pub bytes: usize,
     pub offered: u64,
@@ -24,7 +24,7 @@ fn a_second(amount: u64, time: Duration) -> u128 {
     u128::from(amount) * 1_000_000_000 / time.as_nanos().max(1)
 }
 
-impl fmt::Display for Figures {
+impl fmt::Display for SessionFigures {
     fn fmt<W: fmt::Write>(&self, f: &mut fmt::Formatter<W>) -> fmt::Result {
         let (offered, accepted, refused) = (self.offered, self.accepted, self.refused);
         let (filed, rest, read, bytes) = (self.filed, self.rest, self.read, self.bytes);
@@ -39,7 +39,9 @@ impl fmt::Display for Figures {
         };
         writeln!(
             f,
-            "session: 4 feeds, 2 readers, a stop in the middle: {offered} messages of {bytes} bytes, {accepted} accepted, {refused} refused ({percent}.{tenth} of 100), {filed} filed, {rest} left, {read} entries read, the audit {audit}, {micros} us {rate:>12} messages/s"
+            "session: 4 feeds, 2 readers, a stop in the middle: {offered} messages of {bytes} bytes, {accepted} accepted, \
+            {refused} refused ({percent}.{tenth} of 100), {filed} filed, {rest} left, {read} entries read, the audit {audit}, \
+            {micros} us {rate:>12} messages/s"
         )
     }
 }

@@ -3,7 +3,7 @@
 use r10_body::{Message, Timed};
 use r10_count::{Bytes, Count};
 use r10_shared::Gate;
-use r10_source::{ChannelSource, Given, Turn};
+use r10_source::{ChannelSource, Given, SourceItem};
 use std::alloc::{AllocError, Global};
 use std::collections::VecDeque;
 use std::sync::Arc;
@@ -16,13 +16,13 @@ const TURNS: u32 = 1_000_000;
 
 /// A source of messages that are there already.
 #[derive(Drop)]
-pub struct Listed {
-    left: VecDeque<Turn>,
+pub struct ListSource {
+    left: VecDeque<SourceItem>,
     half: usize,
     signal: Arc<AtomicBool, Global>,
 }
 
-impl ChannelSource for Listed {
+impl ChannelSource for ListSource {
     ghost rest = { λ source. source.left.items };
 
     fn next(&mut self) -> Given {
@@ -30,8 +30,8 @@ impl ChannelSource for Listed {
             self.signal.store(true, Ordering::SeqCst);
         }
         match self.left.pop_front() {
-            Some(Turn::Message(Timed { count, message })) => Given::Item(count, message),
-            Some(Turn::Lost(lost)) => Given::Lost(lost),
+            Some(SourceItem::Message(Timed { count, message })) => Given::Item(count, message),
+            Some(SourceItem::Lost(lost)) => Given::Lost(lost),
             None => Given::End,
         }
     }
@@ -56,14 +56,14 @@ pub fn source_of(
     messages: u32,
     bytes: &[u8],
     signal: &Arc<AtomicBool, Global>,
-) -> Result<Listed, AllocError> {
+) -> Result<ListSource, AllocError> {
     let signal = Arc::try_clone(signal)?;
     let mut left = VecDeque::new(alloc);
     for number in 0..messages {
-        left.push_back(Turn::Message(message(alloc, number, bytes)?))?;
+        left.push_back(SourceItem::Message(message(alloc, number, bytes)?))?;
     }
     let half = left.len() / 2;
-    Ok(Listed { left, half, signal })
+    Ok(ListSource { left, half, signal })
 }
 
 /// A gate at which this worker waits until half of the messages were asked for, as long as its turns last.

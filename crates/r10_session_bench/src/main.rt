@@ -10,7 +10,7 @@ mod halfway;
 mod session;
 mod slow;
 
-use fault::Fault;
+use fault::SessionBenchFault;
 use std::io;
 use std::process::ExitCode;
 use std::rt::Env;
@@ -23,7 +23,7 @@ fn number_at<R: Env + AllocGlobal>(rt: &R, place: usize) -> io::Result<Option<u3
     }
 }
 
-fn main(rt: HostRuntime) -> Result<ExitCode, Fault> {
+fn main(rt: HostRuntime) -> Result<ExitCode, SessionBenchFault> {
     let Some(number) = number_at(&rt, 1)? else {
         let Some(millis) = number_at(&rt, 2)? else {
             println!(rt; "usage: r10_session_bench MESSAGES | slow MILLISECONDS")?;

@@ -6,10 +6,10 @@ ghost use Rattle.r10_held.specs.LockFact.{outlet_received, outlet_spec};
 ghost use Rattle.r10_held.specs.Naming.{AreNamed, ring_for};
 ghost use Rattle.r10_medium.specs.MemoryDisk.{memory_disk};
 
-use crate::apparatus::{Apparatus, made, medium_for};
-use crate::fault::Fault;
-use crate::figures::Figures;
-use crate::halfway::{Halfway, Listed, source_of};
+use crate::apparatus::{Apparatus, medium_for, new_recorder};
+use crate::fault::SessionBenchFault;
+use crate::figures::SessionFigures;
+use crate::halfway::{Halfway, ListSource, source_of};
 use r10_body::Refusal;
 use r10_count::{Items, Parts};
 use r10_gauge::Pass;
@@ -73,7 +73,7 @@ fn four_of(
     messages: u32,
     bytes: &[u8],
     signal: &Arc<AtomicBool, Global>,
-) -> Result<[Listed; 4], AllocError> {
+) -> Result<[ListSource; 4], AllocError> {
     Ok([
         source_of(alloc, messages, bytes, signal)?,
         source_of(alloc, messages, bytes, signal)?,
@@ -82,9 +82,9 @@ fn four_of(
     ])
 }
 
-/// Counts in what became of a feed's messages. Whether its account adds up: each of so many that were offered was accepted or refused, and each that was
-/// accepted is filed or left.
-fn count_in(figures: &mut Figures, report: &FeedReport, offered: u64) -> bool {
+/// Counts in what became of a feed's messages. Whether its account adds up: each of so many that were offered was accepted or
+/// refused, and each that was accepted is filed or left.
+fn count_in(figures: &mut SessionFigures, report: &FeedReport, offered: u64) -> bool {
     let rest = report.rest.len() as u64;
     figures.offered = figures.offered.saturating_add(offered);
     figures.accepted = figures.accepted.saturating_add(report.accepted);
@@ -100,11 +100,14 @@ fn count_in(figures: &mut Figures, report: &FeedReport, offered: u64) -> bool {
 }
 
 /// What became of the messages of all feeds, if the accounts add up.
-fn count_all(report: &SessionReport<Memory>, offered: u64) -> Result<Figures, Fault> {
-    let mut figures = Figures::default();
+fn count_all(
+    report: &SessionReport<Memory>,
+    offered: u64,
+) -> Result<SessionFigures, SessionBenchFault> {
+    let mut figures = SessionFigures::default();
     for feed in &report.feeds {
         if !count_in(&mut figures, feed, offered) {
-            return Err(Fault::Lost);
+            return Err(SessionBenchFault::Lost);
         }
     }
     for transcript in &report.transcripts {
@@ -122,7 +125,7 @@ fn figures_of(
     report: SessionReport<Memory>,
     offered: u64,
     time: Duration,
-) -> Result<Figures, Fault> {
+) -> Result<SessionFigures, SessionBenchFault> {
     let mut report = report;
     let mut figures = count_all(&report, offered)?;
     figures.agrees = audit(alloc, &mut report)?;
@@ -137,7 +140,7 @@ fn player_of<N: Rings, R: Wait>(
     cabinet: &Cabinet<Memory, N>,
     pass: Pass,
     channels: [u16; 2],
-) -> Result<Player, Fault>
+) -> Result<Player, SessionBenchFault>
     ensures { IfOk result (λ player. player.pass ≡ pass) }
 {
     let channels = Items::of(Vec::from_slice(alloc, &channels)?);
@@ -151,7 +154,7 @@ fn players_of<N: Rings, R: Wait>(
     alloc: Global,
     cabinet: &Cabinet<Memory, N>,
     pass: Pass,
-) -> Result<Vec<Player>, Fault>
+) -> Result<Vec<Player>, SessionBenchFault>
     requires { pass.cell ≡ cabinet.now }
     ensures { IfOk result (λ players. All (λ player. player.pass.cell ≡ cabinet.now) players.items) }
 {
@@ -164,20 +167,20 @@ fn players_of<N: Rings, R: Wait>(
 }
 
 /// Runs a session, and measures how long it took.
-fn timed<N: Rings + Send + Sync, R: Threads + Wait + Clock + Sync>(
+fn run_and_time<N: Rings + Send + Sync, R: Threads + Wait + Clock + Sync>(
     rt: &R,
     alloc: Global,
     cabinet: &Cabinet<Memory, N>,
     gate: &Halfway<R>,
     feeds: Vec<Feed<N>>,
     players: Vec<Player>,
-) -> Result<(Session<N>, Duration), Fault>
+) -> Result<(Session<N>, Duration), SessionBenchFault>
     requires { All (λ player. player.pass.cell ≡ cabinet.now) players.items }
 {
     let orders = orders_of(alloc)?;
     let start = Instant::now(rt)?;
     let Ok(session) = run_session(rt, alloc, cabinet, gate, feeds, orders, players) else {
-        return Err(Fault::Memory(AllocError));
+        return Err(SessionBenchFault::Memory(AllocError));
     };
     Ok((session, start.elapsed(rt)?))
 }
@@ -192,7 +195,7 @@ fn run_over<N: Rings + Send + Sync, R: Threads + Wait + Clock + Sync>(
     second: AnySource,
     third: AnySource,
     fourth: AnySource,
-) -> Result<(SessionReport<Memory>, Duration), Fault>
+) -> Result<(SessionReport<Memory>, Duration), SessionBenchFault>
     requires new { IsNew memory_disk outlet_spec outlet_received made.gauged.recorder }
     requires named { AreNamed N.rings made.gauged.recorder.lanes }
     requires gauge { made.gauged.cell ≡ N.gauge }
@@ -217,10 +220,10 @@ fn run_over<N: Rings + Send + Sync, R: Threads + Wait + Clock + Sync>(
     feeds.push_reserved(Feed::new(4, second, four));
     feeds.push_reserved(Feed::new(5, third, five));
     feeds.push_reserved(Feed::new(6, fourth, six));
-    let (session, time) = timed(rt, alloc, &cabinet, gate, feeds, players)?;
+    let (session, time) = run_and_time(rt, alloc, &cabinet, gate, feeds, players)?;
     match end_session(alloc, cabinet, session) {
         Ok(report) => Ok((report, time)),
-        Err(_) => Err(Fault::Memory(AllocError)),
+        Err(_) => Err(SessionBenchFault::Memory(AllocError)),
     }
 }
 
@@ -230,27 +233,27 @@ pub fn run<R: Threads + Wait + Clock + Sync>(
     alloc: Global,
     messages: u32,
     bytes: &[u8],
-) -> Result<Figures, Fault> {
+) -> Result<SessionFigures, SessionBenchFault> {
     let signal = signal_of(alloc)?;
     let [first, second, third, fourth] = four_of(alloc, messages, bytes, &signal)?;
     let Ok(first) = Box::new(alloc, first) else {
-        return Err(Fault::Memory(AllocError));
+        return Err(SessionBenchFault::Memory(AllocError));
     };
     let Ok(second) = Box::new(alloc, second) else {
-        return Err(Fault::Memory(AllocError));
+        return Err(SessionBenchFault::Memory(AllocError));
     };
     let Ok(third) = Box::new(alloc, third) else {
-        return Err(Fault::Memory(AllocError));
+        return Err(SessionBenchFault::Memory(AllocError));
     };
     let Ok(fourth) = Box::new(alloc, fourth) else {
-        return Err(Fault::Memory(AllocError));
+        return Err(SessionBenchFault::Memory(AllocError));
     };
     let gate = Halfway {
         clock: rt,
         worker: CONTROL,
         signal,
     };
-    let made = made(alloc, messages, medium_for(alloc, messages)?)?;
+    let made = new_recorder(alloc, messages, medium_for(alloc, messages)?)?;
     let (report, time) = run_over::<Brand, _>(
         rt, alloc, &gate, made, first, second, third, fourth,
     )?;

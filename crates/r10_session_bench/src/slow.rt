@@ -5,8 +5,8 @@ ghost use Rattle.r10_held.specs.Account.{IsNew};
 ghost use Rattle.r10_held.specs.LockFact.{outlet_received, outlet_spec};
 ghost use Rattle.r10_held.specs.Naming.{AreNamed};
 
-use crate::apparatus::{Apparatus, made, medium_for};
-use crate::fault::Fault;
+use crate::apparatus::{Apparatus, medium_for, new_recorder};
+use crate::fault::SessionBenchFault;
 use crate::session::begin;
 use r10_body::Message;
 use r10_count::{Bytes, Count, Items};
@@ -28,13 +28,13 @@ const LOOKS: u32 = 1000;
 
 /// A medium in memory whose syncs take so long.
 #[derive(Drop)]
-pub struct Slow<'a, R: Clock> {
+pub struct SlowMedium<'a, R: Clock> {
     memory: Memory,
     clock: &'a R,
     sync: Duration,
 }
 
-impl<R: Clock> BlockMedium for Slow<'_, R> {
+impl<R: Clock> BlockMedium for SlowMedium<'_, R> {
     ghost use Rattle.std.specs.Prelude.{◌≡◌, ◌<◌, length, slice_set, OnOk};
     ghost use Rattle.r10_medium.specs.MemoryDisk.{memory_disk};
 
@@ -115,7 +115,7 @@ impl fmt::Display for Waits {
 fn commit_on<M: BlockMedium, N: Rings, R: Wait + Clock>(
     rt: &R,
     cabinet: &Cabinet<M, N>,
-) -> Result<Times, Fault> {
+) -> Result<Times, SessionBenchFault> {
     let mut times = Times::default();
     for _ in 0..COMMITS {
         let start = Instant::now(rt)?;
@@ -131,9 +131,14 @@ fn commit_on<M: BlockMedium, N: Rings, R: Wait + Clock>(
 }
 
 /// Offers a message of eight bytes at a count, and says how long that took.
-fn offer<R: Clock>(rt: &R, alloc: Global, port: &mut Port, number: u32) -> Result<Duration, Fault> {
+fn offer<R: Clock>(
+    rt: &R,
+    alloc: Global,
+    port: &mut Port,
+    number: u32,
+) -> Result<Duration, SessionBenchFault> {
     let Some(count) = Count::of(u64::from(number).wrapping_add(1)) else {
-        return Err(Fault::Lost);
+        return Err(SessionBenchFault::Lost);
     };
     let message = Message::Uart {
         parity: false,
@@ -150,7 +155,7 @@ fn glance<M: BlockMedium, N: Rings, R: Wait + Clock>(
     rt: &R,
     cabinet: &Cabinet<M, N>,
     pass: &mut Pass,
-) -> Result<Duration, Fault>
+) -> Result<Duration, SessionBenchFault>
     requires { pass.old.cell ≡ cabinet.now }
     ensures { pass.new.cell ≡ pass.old.cell }
 {
@@ -165,7 +170,7 @@ fn advance<M: BlockMedium, N: Rings, R: Wait + Clock>(
     alloc: Global,
     cabinet: &Cabinet<M, N>,
     player: &mut Player,
-) -> Result<Duration, Fault>
+) -> Result<Duration, SessionBenchFault>
     requires { player.old.pass.cell ≡ cabinet.now }
     ensures { player.new.pass.cell ≡ player.old.pass.cell }
 {
@@ -184,7 +189,7 @@ fn look_on<M: BlockMedium, N: Rings, R: Wait + Clock>(
     port: Port,
     pass: Pass,
     player: Player,
-) -> Result<Waits, Fault>
+) -> Result<Waits, SessionBenchFault>
     requires pass { pass.cell ≡ cabinet.now }
     requires player { player.pass.cell ≡ cabinet.now }
 {
@@ -209,7 +214,7 @@ fn player_of<M: BlockMedium, N: Rings, R: Wait>(
     alloc: Global,
     cabinet: &Cabinet<M, N>,
     pass: Pass,
-) -> Result<Player, Fault>
+) -> Result<Player, SessionBenchFault>
     ensures { IfOk result (λ player. player.pass ≡ pass) }
 {
     let channels = Items::of(Vec::new(alloc));
@@ -224,7 +229,7 @@ fn wait_on<M: BlockMedium + Drop + Send, N: Rings + Send + Sync, R: Threads + Wa
     rt: &R,
     alloc: Global,
     made: Apparatus<M>,
-) -> Result<Waits, Fault>
+) -> Result<Waits, SessionBenchFault>
     requires new { IsNew M.disk outlet_spec outlet_received made.gauged.recorder }
     requires named { AreNamed N.rings made.gauged.recorder.lanes }
     requires gauge { made.gauged.cell ≡ N.gauge }
@@ -251,12 +256,12 @@ pub fn run<R: Threads + Wait + Clock + Sync>(
     rt: &R,
     alloc: Global,
     millis: u32,
-) -> Result<Waits, Fault> {
-    let slow = Slow {
+) -> Result<Waits, SessionBenchFault> {
+    let slow = SlowMedium {
         memory: medium_for(alloc, LOOKS)?,
         clock: rt,
         sync: Duration::from_millis(u64::from(millis)),
     };
-    let made = made(alloc, LOOKS, slow)?;
+    let made = new_recorder(alloc, LOOKS, slow)?;
     wait_on::<_, Brand, _>(rt, alloc, made)
 }

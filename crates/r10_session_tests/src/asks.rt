@@ -32,7 +32,7 @@ fn none(done: Result<(), Refusal>) -> Result<usize, Refusal> {
 }
 
 /// What it answers: how many messages were taken, of those that take any.
-fn asked<M: BlockMedium, N: Rings, R: Wait>(
+fn answer_to<M: BlockMedium, N: Rings, R: Wait>(
     rt: &R,
     held: &mut Held<M, N>,
     ask: Ask,
@@ -63,7 +63,7 @@ pub fn otherwise<M: BlockMedium, N: Rings, R: Wait>(
     let mut wrong = 0usize;
     for (ask, want) in asks {
         let mut held = cabinet.hold(rt);
-        if asked(rt, &mut held, *ask) != *want {
+        if answer_to(rt, &mut held, *ask) != *want {
             wrong = wrong.wrapping_add(1);
         }
     }

@@ -51,7 +51,7 @@ fn settings(alloc: Global, channel: ChannelSpec) -> Result<Settings, Fail>
 }
 
 /// A medium of these settings without files.
-pub fn formatted(alloc: Global) -> Result<Memory, Fail> {
+pub fn formatted_medium(alloc: Global) -> Result<Memory, Fail> {
     let settings = settings(alloc, CHANNEL)?;
     let mut medium = Memory::new(alloc, settings.blocks())?;
     format(&mut medium, &settings)?;

@@ -30,7 +30,7 @@ impl Diary {
 
 /// A recorder under the lock: one of its pumps and each commit answer as they are to, and all other pumps move nothing.
 #[derive(Clone, Copy, Debug, PartialEq, Eq)]
-pub struct Pumped {
+pub struct PumpedRecorder {
     pub channels: usize,
     pub at: usize,
     pub pump: Result<usize, Refusal>,
@@ -38,7 +38,7 @@ pub struct Pumped {
     pub diary: Diary,
 }
 
-impl Recording for Pumped {
+impl Recording for PumpedRecorder {
     ghost number = { λ it. it.channels };
 
     ghost asked = { λ old asks new. (new.channels ≡ old.channels) × notes digit_asked old.diary.digits asks new.diary.digits };
@@ -63,22 +63,23 @@ impl Recording for Pumped {
 
     ghost stays = { λ a. (refl, refl) };
 
-    ghost joins = { λ a b c xs ys first then. (then.0 ∙ first.0, notes_join digit_asked a.diary.digits b.diary.digits c.diary.digits xs ys first.1 then.1) };
+    ghost joins = { λ a b c xs ys first then.
+        (then.0 ∙ first.0, notes_join digit_asked a.diary.digits b.diary.digits c.diary.digits xs ys first.1 then.1) };
 
     ghost keeps = { λ a b xs asked. asked.0 };
 }
 
-/// A recorder that a writer shares: its rounds come to these turns, one after the other, and commit if they move something or are the last. All are over after so
-/// many looks.
+/// A recorder that a writer shares: its rounds come to these turns, one after the other, and commit if they move something or are
+/// the last. All are over after so many looks.
 #[derive(Clone, Copy, Debug, PartialEq, Eq)]
-pub struct Written {
+pub struct WrittenRecorder {
     pub turns: [Turn; 4],
     pub rounds: usize,
     pub looks: u64,
     pub diary: Diary,
 }
 
-impl Writing for Written {
+impl Writing for WrittenRecorder {
     type Key = ();
 
     ghost asked = { λ old asks new. notes digit_turned old.diary.digits asks new.diary.digits };
@@ -114,7 +115,8 @@ impl Writing for Written {
 
     ghost stays = { λ a. refl };
 
-    ghost joins = { λ a b c xs ys first then. notes_join digit_turned a.diary.digits b.diary.digits c.diary.digits xs ys first then };
+    ghost joins = { λ a b c xs ys first then. notes_join digit_turned a.diary.digits b.diary.digits
+        c.diary.digits xs ys first then };
 }
 
 /// A recorder that refuses a stop so, and does all other orders.
@@ -154,11 +156,12 @@ impl Control for Ordered {
 
     ghost stays = { λ a. refl };
 
-    ghost joins = { λ a b c xs ys first then. notes_join digit_given a.diary.digits b.diary.digits c.diary.digits xs ys first then };
+    ghost joins = { λ a b c xs ys first then. notes_join digit_given a.diary.digits b.diary.digits
+        c.diary.digits xs ys first then };
 }
 
-/// A recorder that a reader shares: so many commits were made at each look, and the writer has ended at the last. A reading is how many instalments were taken; the
-/// second is refused so.
+/// A recorder that a reader shares: so many commits were made at each look, and the writer has ended at the last. A reading is how
+/// many instalments were taken; the second is refused so.
 #[derive(Clone, Copy, Debug, PartialEq, Eq)]
 pub struct Watched {
     pub shown: [u64; 4],
@@ -185,7 +188,7 @@ impl Watching<u64> for Watched {
         self.looks >= 3
     }
 
-    fn shown(&mut self) -> u64 {
+    fn commit_count(&mut self) -> u64 {
         self.diary.note(3);
         let shown = self.shown[self.looks % 4];
         self.looks = self.looks.wrapping_add(1);
@@ -204,7 +207,8 @@ impl Watching<u64> for Watched {
 
     ghost stays = { λ a. refl };
 
-    ghost joins = { λ a b c xs ys first then. notes_join digit_watched a.diary.digits b.diary.digits c.diary.digits xs ys first then };
+    ghost joins = { λ a b c xs ys first then. notes_join digit_watched a.diary.digits b.diary.digits
+        c.diary.digits xs ys first then };
 
     ghost keeps = { λ a b xs r s asked reads is. tt };
 

@@ -6,9 +6,9 @@ ghost use Rattle.r10_held.specs.LockFact.{outlet_received, outlet_spec};
 ghost use Rattle.r10_held.specs.Naming.{AreNamed, ring_for};
 ghost use Rattle.r10_medium.specs.MemoryDisk.{memory_disk};
 
-use crate::inputs::{Made, cabinet_of, make};
-use crate::run::{begun, one_feed};
-use crate::sources::Listed;
+use crate::inputs::{NewRecorder, cabinet_of, make};
+use crate::run::{begin_session, one_feed};
+use crate::sources::ListSource;
 use crossbeam_utils::Backoff;
 use r10_shared::{
     AnySource, Handing, Instalment, Never, Open, Player, Rings, Session, Sink, end_session,
@@ -87,7 +87,7 @@ impl Sink for Basket {
 /// A source of ten messages that waits, after the fifth, until the sink has an instalment.
 #[derive(Drop)]
 struct Waiting {
-    source: Listed,
+    source: ListSource,
     counter: Arc<Counter, Global>,
     given: u64,
 }
@@ -126,7 +126,7 @@ fn entries_in(instalments: &[Instalment]) -> usize {
 fn run_handing<N: Rings + Send + Sync, R: Threads + Wait + Sync>(
     rt: &R,
     alloc: Global,
-    made: Made,
+    made: NewRecorder,
     source: AnySource,
     sink: Basket,
 ) -> Result<(Vec<Instalment>, Vec<Instalment>), Fail>
@@ -135,9 +135,9 @@ fn run_handing<N: Rings + Send + Sync, R: Threads + Wait + Sync>(
     requires gauge { made.gauged.cell ≡ N.gauge }
     requires five { ring_for 5 N.rings ≡ Some made.five.ring }
 {
-    let Made { gauged, five, .. } = made;
+    let NewRecorder { gauged, five, .. } = made;
     let (cabinet, pass) = cabinet_of::<N>(gauged);
-    let cursor = begun(rt, alloc, &cabinet)?;
+    let cursor = begin_session(rt, alloc, &cabinet)?;
     let mut feeds = one_feed(alloc, five, source)?;
     let mut players = alone(alloc, Player::new(cursor, pass), sink)?;
     run_session_handing(
@@ -164,8 +164,8 @@ fn run_handing<N: Rings + Send + Sync, R: Threads + Wait + Sync>(
     }
 }
 
-/// What came of a sink: whether the source waited for it in vain, and how many instalments and entries it accepted. How many instalments
-/// were kept, and whether the first of these begins where the last accepted one ended.
+/// What came of a sink: whether the source waited for it in vain, and how many instalments and entries it accepted. How many
+/// instalments were kept, and whether the first of these begins where the last accepted one ended.
 #[derive(Clone, Copy, Debug, PartialEq, Eq)]
 struct Handed {
     vain: bool,
@@ -191,7 +191,7 @@ fn hand_to<R: Threads + Wait + Sync>(rt: &R, alloc: Global, room: usize) -> Resu
     let source: AnySource = Box::new(
         alloc,
         Waiting {
-            source: Listed::of(alloc, 10)?,
+            source: ListSource::of(alloc, 10)?,
             counter: Arc::try_clone(&counter)?,
             given: 0,
         },

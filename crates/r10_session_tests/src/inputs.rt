@@ -28,7 +28,7 @@ fn settings(alloc: Global, one: ChannelSpec, other: ChannelSpec) -> Result<Setti
 }
 
 /// A medium of these settings without files.
-fn formatted(alloc: Global, settings: &Settings) -> Result<Memory, Fail> {
+fn formatted_medium(alloc: Global, settings: &Settings) -> Result<Memory, Fail> {
     let mut medium = Memory::new(alloc, settings.blocks())?;
     format(&mut medium, settings)?;
     Ok(medium)
@@ -46,16 +46,18 @@ fn both(alloc: Global, one: Outlet, other: Outlet) -> Result<Vec<Outlet>, AllocE
 
 /// A recorder of the UART channels 5 and 6, of which nothing was asked, and the sending ends of its lanes.
 #[derive(Drop)]
-pub struct Made {
+pub struct NewRecorder {
     pub gauged: Gauged<Memory>,
     pub five: Port,
     pub six: Port,
 }
 
 /// A recorder over a medium without files, with lanes of this capacity.
-pub fn make(alloc: Global, capacity: usize) -> Result<Made, Fail>
+pub fn make(alloc: Global, capacity: usize) -> Result<NewRecorder, Fail>
     ensures new { IfOk result (λ made. IsNew memory_disk outlet_spec outlet_received made.gauged.recorder) }
-    ensures named { IfOk result (λ made. AreNamed (record { channel = 5; ring = made.five.ring } ∷ record { channel = 6; ring = made.six.ring } ∷ []) made.gauged.recorder.lanes) }
+    ensures named { IfOk result
+        (λ made. AreNamed (record { channel = 5; ring = made.five.ring } ∷ record { channel = 6; ring = made.six.ring } ∷ [])
+        made.gauged.recorder.lanes) }
 {
     let one = ChannelSpec {
         id: 5,
@@ -68,7 +70,7 @@ pub fn make(alloc: Global, capacity: usize) -> Result<Made, Fail>
     };
     let other = ChannelSpec { id: 6, ..one };
     let settings = settings(alloc, one, other)?;
-    let medium = formatted(alloc, &settings)?;
+    let medium = formatted_medium(alloc, &settings)?;
     if medium.blocks() != settings.blocks() {
         return Err(Fail::new("a medium of other settings"));
     }
@@ -79,7 +81,7 @@ pub fn make(alloc: Global, capacity: usize) -> Result<Made, Fail>
         return Err(Fail::new("no memory"));
     };
     match Gauged::new(alloc, recorder) {
-        Ok(gauged) => Ok(Made { gauged, five, six }),
+        Ok(gauged) => Ok(NewRecorder { gauged, five, six }),
         Err(_) => Err(Fail::new("no memory")),
     }
 }

@@ -6,13 +6,13 @@ ghost use Rattle.r10_held.specs.LockFact.{outlet_received, outlet_spec};
 ghost use Rattle.r10_held.specs.Naming.{AreNamed, ring_for};
 ghost use Rattle.r10_medium.specs.MemoryDisk.{memory_disk};
 
-use crate::inputs::{Made, cabinet_of, make};
+use crate::inputs::{NewRecorder, cabinet_of, make};
 use crate::run::{mount_and_tick, run_and_end};
-use crate::sources::Listed;
+use crate::sources::ListSource;
 use crate::window::Window;
 use r10_medium::Memory;
 use r10_shared::{AnySource, Feed, Gauge, Level, Levels, Open, Rings, SessionReport};
-use r10_source::{ChannelSource, Given, Turn};
+use r10_source::{ChannelSource, Given, SourceItem};
 use std::alloc::Global;
 use std::marker::Brand;
 use std::sync::atomic::{AtomicU64, Ordering};
@@ -20,8 +20,8 @@ use std::sync::{Arc, Wait};
 use std::test::Fail;
 use std::thread::Threads;
 
-/// How many messages were sent and lost, and how many wait, before each turn: of six messages for a lane of four, of a loss of 70, and of
-/// the end.
+/// How many messages were sent and lost, and how many wait, before each turn: of six messages for a lane of four, of a loss of 70,
+/// and of the end.
 const SEEN: [(u64, u64, u64); 8] = [
     (0, 0, 0),
     (1, 0, 1),
@@ -36,7 +36,7 @@ const SEEN: [(u64, u64, u64); 8] = [
 /// A source that looks at its own lane's level in each turn, and counts how often it sees what the turns before came to.
 #[derive(Drop)]
 struct Looking<R: Wait + Copy> {
-    source: Listed,
+    source: ListSource,
     rt: R,
     window: Window,
     turn: usize,
@@ -70,7 +70,7 @@ impl<R: Wait + Copy> ChannelSource for Looking<R> {
 fn run_watched<N: Rings + Send + Sync, R: Threads + Wait + Sync>(
     rt: &R,
     alloc: Global,
-    made: Made,
+    made: NewRecorder,
     gauge: Gauge<Levels>,
     source: AnySource,
 ) -> Result<SessionReport<Memory>, Fail>
@@ -79,10 +79,10 @@ fn run_watched<N: Rings + Send + Sync, R: Threads + Wait + Sync>(
     requires gauge { made.gauged.cell ≡ N.gauge }
     requires five { ring_for 5 N.rings ≡ Some made.five.ring }
 {
-    let Made { gauged, five, .. } = made;
+    let NewRecorder { gauged, five, .. } = made;
     let (cabinet, _pass) = cabinet_of::<N>(gauged);
     let mut feeds = Vec::with_capacity(alloc, 1)?;
-    feeds.push_reserved(Feed::new(5, source, five).watched(rt, gauge));
+    feeds.push_reserved(Feed::new(5, source, five).with_gauge(rt, gauge));
     let orders = mount_and_tick(alloc)?;
     run_and_end(rt, alloc, &Open, cabinet, feeds, orders, Vec::new(alloc))
 }
@@ -92,8 +92,8 @@ fn a_feed_shows_its_level_before_its_next_turn(rt: HostRuntime) -> Result<(), Fa
     let alloc = rt.alloc();
     let right = Arc::new(alloc, AtomicU64::new(0))?;
     let (gauge, watch, pass) = Gauge::<Levels>::new(alloc)?;
-    let mut listed = Listed::of(alloc, 6)?;
-    listed.left.push_back(Turn::Lost(70))?;
+    let mut listed = ListSource::of(alloc, 6)?;
+    listed.left.push_back(SourceItem::Lost(70))?;
     let source: AnySource = Box::new(
         alloc,
         Looking {

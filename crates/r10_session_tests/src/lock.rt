@@ -7,7 +7,7 @@ ghost use Rattle.r10_held.specs.Naming.{AreNamed};
 ghost use Rattle.r10_medium.specs.MemoryDisk.{memory_disk};
 
 use crate::asks::{Ask, otherwise};
-use crate::beside::{LEAP_DAY, cabinet_of, formatted, offer, recorder_over};
+use crate::beside::{LEAP_DAY, cabinet_of, formatted_medium, offer, recorder_over};
 use r10_body::Refusal;
 use r10_count::Items;
 use r10_held::{Gauged, Held, Rings};
@@ -44,10 +44,10 @@ const CLOSED: &[(Ask, Result<usize, Refusal>)] = &[
     (Ask::Erase, Ok(0)),
 ];
 
-/// What is told without a change: how often something was published, how many files there are, the last file and its shown bytes, how many
-/// messages of the channel were taken in, how many of them erases took, and the bytes that are free.
+/// What is told without a change: how often something was published, how many files there are, the last file and its shown bytes,
+/// how many messages of the channel were taken in, how many of them erases took, and the bytes that are free.
 #[derive(Debug, Drop, PartialEq, Eq)]
-struct Told {
+struct LockNumbers {
     published: u64,
     files: usize,
     shown: Option<(usize, u64)>,
@@ -56,8 +56,8 @@ struct Told {
     free: u64,
 }
 
-fn tell<M: BlockMedium, N: Rings>(held: &mut Held<M, N>) -> Result<Told, Refusal> {
-    Ok(Told {
+fn tell<M: BlockMedium, N: Rings>(held: &mut Held<M, N>) -> Result<LockNumbers, Refusal> {
+    Ok(LockNumbers {
         published: held.commits(),
         files: held.files()?.len(),
         shown: held.last_shown(),
@@ -67,10 +67,10 @@ fn tell<M: BlockMedium, N: Rings>(held: &mut Held<M, N>) -> Result<Told, Refusal
     })
 }
 
-/// What is read of the first file: the number of the first message with at least a count, the count at a time, and how many messages there are
-/// before a place.
+/// What is read of the first file: the number of the first message with at least a count, the count at a time, and how many
+/// messages there are before a place.
 #[derive(Debug, Drop, PartialEq, Eq)]
-struct Found {
+struct FileNumbers {
     number: Option<usize>,
     count: Option<u64>,
     taken: Result<usize, Refusal>,
@@ -105,7 +105,7 @@ fn record<N: Rings, R: Wait>(
     alloc: Global,
     gauged: Gauged<Memory>,
     port: Port,
-) -> Result<(usize, Told, Found, Memory), Fail>
+) -> Result<(usize, LockNumbers, FileNumbers, Memory), Fail>
     requires new { IsNew memory_disk outlet_spec outlet_received gauged.recorder }
     requires named { AreNamed N.rings gauged.recorder.lanes }
     requires gauge { gauged.cell ≡ N.gauge }
@@ -116,7 +116,7 @@ fn record<N: Rings, R: Wait>(
     let wrong = otherwise(rt, &cabinet, RECORDED);
     let (mut held, _watch) = cabinet.into_parts();
     let told = tell(&mut held)?;
-    let found = Found {
+    let found = FileNumbers {
         number: number_from(&mut held, 1001),
         count: count_at(&mut held),
         taken: take_to(&mut held, alloc, 2),
@@ -130,7 +130,7 @@ fn close<N: Rings, R: Wait>(
     alloc: Global,
     gauged: Gauged<Memory>,
     port: Port,
-) -> Result<(usize, Told), Fail>
+) -> Result<(usize, LockNumbers), Fail>
     requires new { IsNew memory_disk outlet_spec outlet_received gauged.recorder }
     requires named { AreNamed N.rings gauged.recorder.lanes }
     requires gauge { gauged.cell ≡ N.gauge }
@@ -146,14 +146,14 @@ fn close<N: Rings, R: Wait>(
 #[test]
 fn each_call_under_the_lock_answers(rt: HostRuntime) -> Result<(), Fail> {
     let alloc = rt.alloc();
-    let (gauged, port) = recorder_over(alloc, formatted(alloc)?)?;
+    let (gauged, port) = recorder_over(alloc, formatted_medium(alloc)?)?;
     let (wrong, told, found, medium) = record::<Brand, _>(&rt, alloc, gauged, port)?;
     let (gauged, port) = recorder_over(alloc, medium)?;
     let (wrong_then, told_then) = close::<Brand, _>(&rt, alloc, gauged, port)?;
     assert_eq!(rt; (wrong, wrong_then), (0, 0));
     assert_eq!(rt;
         told,
-        Told {
+        LockNumbers {
             published: 2,
             files: 1,
             shown: Some((0, 152)),
@@ -164,7 +164,7 @@ fn each_call_under_the_lock_answers(rt: HostRuntime) -> Result<(), Fail> {
     );
     assert_eq!(rt;
         found,
-        Found {
+        FileNumbers {
             number: Some(0),
             count: Some(1000),
             taken: Ok(1)
@@ -172,7 +172,7 @@ fn each_call_under_the_lock_answers(rt: HostRuntime) -> Result<(), Fail> {
     );
     assert_eq!(rt;
         told_then,
-        Told {
+        LockNumbers {
             published: 4,
             files: 0,
             shown: None,

@@ -1,6 +1,6 @@
 // A loss that is longer than 16 bits count: messages at a full lane while the writer is held back, and what is seen of them.
 
-use crate::sources::Listed;
+use crate::sources::ListSource;
 use crossbeam_utils::Backoff;
 use r10_body::{Entry, Gap};
 use r10_shared::Gate;
@@ -31,7 +31,8 @@ const LATER: u32 = 100_000;
 /// How many turns are waited at most: on a busy machine a million were over before the messages were lost.
 const TURNS: u32 = 100_000_000;
 
-/// A gate that lets everybody pass, the writer of one feed only when it is opened, and what it saw: whether the writer waited in vain.
+/// A gate that lets everybody pass, the writer of one feed only when it is opened, and what it saw: whether the writer waited in
+/// vain.
 #[derive(Drop)]
 pub struct Barrier {
     open: AtomicBool,
@@ -74,11 +75,11 @@ impl Gate for Barrier {
     }
 }
 
-/// A source that fills the lane and loses messages while the writer is held back; then lets the writer go, has nothing for a while, and gives
-/// the others slowly.
+/// A source that fills the lane and loses messages while the writer is held back; then lets the writer go, has nothing for a while,
+/// and gives the others slowly.
 #[derive(Drop)]
 pub struct Losing {
-    source: Listed,
+    source: ListSource,
     barrier: Arc<Barrier, Global>,
     given: u64,
     later: u32,
@@ -87,7 +88,7 @@ pub struct Losing {
 
 impl Losing {
     pub fn of(alloc: Global, barrier: &Arc<Barrier, Global>) -> Result<Losing, Fail> {
-        let source = Listed::of(alloc, ALL)?;
+        let source = ListSource::of(alloc, ALL)?;
         let barrier = Arc::try_clone(barrier)?;
         Ok(Losing {
             source,

@@ -1,6 +1,6 @@
 // Gates, one of them one at which all workers meet, and sources that meet.
 
-use crate::sources::Listed;
+use crate::sources::ListSource;
 use crossbeam_utils::Backoff;
 use r10_shared::Gate;
 use r10_source::{ChannelSource, Given};
@@ -62,15 +62,15 @@ impl Gate for Shut {
 
 /// What two sources that meet tell each other: of which the first message was asked for, and whether one waited in vain.
 #[derive(Drop)]
-pub struct Place {
+pub struct MeetingPlace {
     first: AtomicBool,
     second: AtomicBool,
     vain: AtomicBool,
 }
 
-impl Place {
-    pub fn new(alloc: Global) -> Result<Arc<Place, Global>, AllocError> {
-        let place = Place {
+impl MeetingPlace {
+    pub fn new(alloc: Global) -> Result<Arc<MeetingPlace, Global>, AllocError> {
+        let place = MeetingPlace {
             first: AtomicBool::new(false),
             second: AtomicBool::new(false),
             vain: AtomicBool::new(false),
@@ -103,24 +103,24 @@ impl Place {
 
 /// A source that waits, before it gives its second message, until the first of the other was asked for.
 #[derive(Drop)]
-pub struct Meeting {
-    source: Listed,
-    place: Arc<Place, Global>,
+pub struct MeetingSource {
+    source: ListSource,
+    place: Arc<MeetingPlace, Global>,
     side: bool,
     asked: u32,
 }
 
-impl Meeting {
+impl MeetingSource {
     /// A source of so many messages on one side.
     pub fn of(
         alloc: Global,
-        place: &Arc<Place, Global>,
+        place: &Arc<MeetingPlace, Global>,
         side: bool,
         messages: u64,
-    ) -> Result<Meeting, Fail> {
-        let source = Listed::of(alloc, messages)?;
+    ) -> Result<MeetingSource, Fail> {
+        let source = ListSource::of(alloc, messages)?;
         let place = Arc::try_clone(place)?;
-        Ok(Meeting {
+        Ok(MeetingSource {
             source,
             place,
             side,
@@ -138,7 +138,7 @@ impl Meeting {
     }
 }
 
-impl ChannelSource for Meeting {
+impl ChannelSource for MeetingSource {
     ghost rest = { λ meeting. meeting.source.left.items };
 
     fn next(&mut self) -> Given {

@@ -7,7 +7,7 @@ ghost use Rattle.r10_held.specs.Naming.{AreNamed};
 ghost use Rattle.r10_medium.specs.MemoryDisk.{memory_disk};
 
 use crate::asks::{Ask, otherwise};
-use crate::beside::{cabinet_of, formatted, offer, recorder_over};
+use crate::beside::{cabinet_of, formatted_medium, offer, recorder_over};
 use r10_body::{Glance, Refusal};
 use r10_count::Items;
 use r10_cursor::Cursor;
@@ -60,7 +60,7 @@ fn look<M: BlockMedium, N: Rings, R: Wait>(
 
 /// What a reader's advance answers, the counts that it gives then, and what the reader has seen.
 #[derive(Debug, Drop, PartialEq, Eq)]
-struct Reading {
+struct AdvanceAnswer {
     answer: Result<usize, Refusal>,
     counts: [Option<u64>; 2],
     seen: Glance,
@@ -77,12 +77,12 @@ fn read<M: BlockMedium, N: Rings, R: Wait>(
     rt: &R,
     cabinet: &Cabinet<M, N>,
     player: &mut Player,
-) -> Reading
+) -> AdvanceAnswer
     requires { player.old.pass.cell ≡ cabinet.now }
     ensures { player.new.pass.cell ≡ player.old.pass.cell }
 {
     let answer = player.advance(rt, cabinet);
-    Reading {
+    AdvanceAnswer {
         answer,
         counts: [count_of(player), count_of(player)],
         seen: player.seen(),
@@ -91,7 +91,7 @@ fn read<M: BlockMedium, N: Rings, R: Wait>(
 
 /// What passes saw: one that was split before a commit, before it and behind it, and the one that it was split from, behind it.
 #[derive(Debug, Drop, PartialEq, Eq)]
-struct Seen {
+struct PassGlances {
     before: Glance,
     behind: [Glance; 2],
 }
@@ -102,7 +102,7 @@ fn watch<N: Rings, R: Wait>(
     alloc: Global,
     gauged: Gauged<Memory>,
     port: Port,
-) -> Result<(usize, Seen, [Reading; 3], Player), Fail>
+) -> Result<(usize, PassGlances, [AdvanceAnswer; 3], Player), Fail>
     requires new { IsNew memory_disk outlet_spec outlet_received gauged.recorder }
     requires named { AreNamed N.rings gauged.recorder.lanes }
     requires gauge { gauged.cell ≡ N.gauge }
@@ -117,7 +117,7 @@ fn watch<N: Rings, R: Wait>(
     let wrong = wrong.wrapping_add(otherwise(rt, &cabinet, SHOWN));
     let cursor = open(rt, alloc, &cabinet)?;
     let mut player = Player::new(cursor, cabinet.split(&mut split));
-    let seen = Seen {
+    let seen = PassGlances {
         before,
         behind: [
             look(rt, &cabinet, &mut split),
@@ -153,9 +153,9 @@ fn beside<N: Rings, R: Wait>(
 #[test]
 fn a_reader_takes_what_was_published(rt: HostRuntime) -> Result<(), Fail> {
     let alloc = rt.alloc();
-    let (gauged, port) = recorder_over(alloc, formatted(alloc)?)?;
+    let (gauged, port) = recorder_over(alloc, formatted_medium(alloc)?)?;
     let (wrong, seen, reads, player) = watch::<Brand, _>(&rt, alloc, gauged, port)?;
-    let (gauged, port) = recorder_over(alloc, formatted(alloc)?)?;
+    let (gauged, port) = recorder_over(alloc, formatted_medium(alloc)?)?;
     let beside = beside::<Brand, _>(&rt, alloc, gauged, port, player)?;
     let glance = |commits, bytes| Glance {
         commits,
@@ -165,12 +165,12 @@ fn a_reader_takes_what_was_published(rt: HostRuntime) -> Result<(), Fail> {
     assert_eq!(rt; wrong, 0);
     assert_eq!(rt;
         seen,
-        Seen {
+        PassGlances {
             before: glance(1, 68),
             behind: [glance(2, 112), glance(2, 112)],
         }
     );
-    let read = |answer, first, seen| Reading {
+    let read = |answer, first, seen| AdvanceAnswer {
         answer,
         counts: [first, None],
         seen,

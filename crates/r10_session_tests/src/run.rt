@@ -6,7 +6,7 @@ ghost use Rattle.r10_held.specs.LockFact.{outlet_received, outlet_spec};
 ghost use Rattle.r10_held.specs.Naming.{AreNamed, ring_for};
 ghost use Rattle.r10_medium.specs.MemoryDisk.{memory_disk};
 
-use crate::inputs::{Made, cabinet_of};
+use crate::inputs::{NewRecorder, cabinet_of};
 use crate::losing::Seen;
 use r10_body::Refusal;
 use r10_count::{Items, Parts};
@@ -57,7 +57,7 @@ fn begin(alloc: Global) -> Result<Vec<Order>, AllocError> {
 }
 
 /// A session that only begins a file, and then a cursor on both channels in it.
-pub fn begun<M: BlockMedium + Send, N: Rings + Send + Sync, R: Threads + Wait + Sync>(
+pub fn begin_session<M: BlockMedium + Send, N: Rings + Send + Sync, R: Threads + Wait + Sync>(
     rt: &R,
     alloc: Global,
     cabinet: &Cabinet<M, N>,
@@ -150,7 +150,7 @@ pub fn run_two<N: Rings + Send + Sync, R: Threads + Wait + Sync, G: Gate + Sync>
     rt: &R,
     alloc: Global,
     gate: &G,
-    made: Made,
+    made: NewRecorder,
     first: AnySource,
     second: AnySource,
 ) -> Result<SessionReport<Memory>, Fail>
@@ -160,9 +160,9 @@ pub fn run_two<N: Rings + Send + Sync, R: Threads + Wait + Sync, G: Gate + Sync>
     requires five { ring_for 5 N.rings ≡ Some made.five.ring }
     requires six { ring_for 6 N.rings ≡ Some made.six.ring }
 {
-    let Made { gauged, five, six } = made;
+    let NewRecorder { gauged, five, six } = made;
     let (cabinet, pass) = cabinet_of::<N>(gauged);
-    let cursor = begun(rt, alloc, &cabinet)?;
+    let cursor = begin_session(rt, alloc, &cabinet)?;
     let feeds = two_feeds(alloc, five, six, first, second)?;
     let players = alone(alloc, Player::new(cursor, pass))?;
     run_and_end(rt, alloc, gate, cabinet, feeds, Vec::new(alloc), players)
@@ -173,7 +173,7 @@ pub fn run_recorded<N: Rings + Send + Sync, R: Threads + Wait + Sync, G: Gate + 
     rt: &R,
     alloc: Global,
     gate: &G,
-    made: Made,
+    made: NewRecorder,
     source: AnySource,
 ) -> Result<SessionReport<Memory>, Fail>
     requires new { IsNew memory_disk outlet_spec outlet_received made.gauged.recorder }
@@ -181,9 +181,9 @@ pub fn run_recorded<N: Rings + Send + Sync, R: Threads + Wait + Sync, G: Gate + 
     requires gauge { made.gauged.cell ≡ N.gauge }
     requires five { ring_for 5 N.rings ≡ Some made.five.ring }
 {
-    let Made { gauged, five, .. } = made;
+    let NewRecorder { gauged, five, .. } = made;
     let (cabinet, pass) = cabinet_of::<N>(gauged);
-    let cursor = begun(rt, alloc, &cabinet)?;
+    let cursor = begin_session(rt, alloc, &cabinet)?;
     let feeds = one_feed(alloc, five, source)?;
     let players = alone(alloc, Player::new(cursor, pass))?;
     run_and_end(rt, alloc, gate, cabinet, feeds, Vec::new(alloc), players)
@@ -195,7 +195,7 @@ pub fn run_twice<N: Rings + Send + Sync, R: Threads + Wait + Sync>(
     rt: &R,
     alloc: Global,
     stop: &StopFlag,
-    made: Made,
+    made: NewRecorder,
     source: AnySource,
     other: AnySource,
 ) -> Result<(u64, SessionReport<Memory>), Fail>
@@ -204,9 +204,9 @@ pub fn run_twice<N: Rings + Send + Sync, R: Threads + Wait + Sync>(
     requires gauge { made.gauged.cell ≡ N.gauge }
     requires five { ring_for 5 N.rings ≡ Some made.five.ring }
 {
-    let Made { gauged, five, .. } = made;
+    let NewRecorder { gauged, five, .. } = made;
     let (cabinet, pass) = cabinet_of::<N>(gauged);
-    let cursor = begun(rt, alloc, &cabinet)?;
+    let cursor = begin_session(rt, alloc, &cabinet)?;
     let feeds = one_feed(alloc, five, source)?;
     let players = alone(alloc, Player::new(cursor, pass))?;
     let orders = Vec::new(alloc);
@@ -229,7 +229,7 @@ pub fn run_twice<N: Rings + Send + Sync, R: Threads + Wait + Sync>(
 pub fn run_one<N: Rings + Send + Sync, R: Threads + Wait + Sync>(
     rt: &R,
     alloc: Global,
-    made: Made,
+    made: NewRecorder,
     source: AnySource,
 ) -> Result<SessionReport<Memory>, Fail>
     requires new { IsNew memory_disk outlet_spec outlet_received made.gauged.recorder }
@@ -237,7 +237,7 @@ pub fn run_one<N: Rings + Send + Sync, R: Threads + Wait + Sync>(
     requires gauge { made.gauged.cell ≡ N.gauge }
     requires five { ring_for 5 N.rings ≡ Some made.five.ring }
 {
-    let Made { gauged, five, .. } = made;
+    let NewRecorder { gauged, five, .. } = made;
     let (cabinet, _pass) = cabinet_of::<N>(gauged);
     let feeds = one_feed(alloc, five, source)?;
     let orders = mount_and_tick(alloc)?;
@@ -245,9 +245,9 @@ pub fn run_one<N: Rings + Send + Sync, R: Threads + Wait + Sync>(
 }
 
 /// What is told of a feed: its channel, how many messages were accepted, refused, erased and filed, and how many are left.
-pub type Told = (u16, u64, u64, u64, u64, usize);
+pub type FeedNumbers = (u16, u64, u64, u64, u64, usize);
 
-fn told_of(report: &FeedReport) -> Told {
+fn told_of(report: &FeedReport) -> FeedNumbers {
     (
         report.channel,
         report.accepted,
@@ -260,8 +260,8 @@ fn told_of(report: &FeedReport) -> Told {
 
 /// What is told of a session: of the first two feeds, how many entries were read, and what the audit says.
 #[derive(Debug, Drop, PartialEq, Eq)]
-pub struct Outcome {
-    pub feeds: [Option<Told>; 2],
+pub struct SessionNumbers {
+    pub feeds: [Option<FeedNumbers>; 2],
     pub entries: usize,
     pub audited: Result<bool, Refusal>,
 }
@@ -290,11 +290,11 @@ pub fn seen_in<M: BlockMedium>(report: &SessionReport<M>) -> Seen {
     seen
 }
 
-pub fn end_of<M: BlockMedium + Drop>(alloc: Global, report: SessionReport<M>) -> Outcome {
+pub fn end_of<M: BlockMedium + Drop>(alloc: Global, report: SessionReport<M>) -> SessionNumbers {
     let mut report = report;
     let audited = audit(alloc, &mut report);
     let feeds = report.feeds.as_slice();
-    Outcome {
+    SessionNumbers {
         feeds: [feeds.get(0).map(told_of), feeds.get(1).map(told_of)],
         entries: entries_in(&report),
         audited,

@@ -2,17 +2,17 @@
 
 use crate::inputs::make;
 use crate::losing::{ALL, Barrier, LOST, Losing};
-use crate::meeting::{Meet, Meeting, Place, Shut};
-use crate::run::{Outcome, end_of, run_one, run_recorded, run_twice, run_two, seen_in};
-use crate::sources::{Listed, Stopping};
+use crate::meeting::{Meet, MeetingPlace, MeetingSource, Shut};
+use crate::run::{SessionNumbers, end_of, run_one, run_recorded, run_twice, run_two, seen_in};
+use crate::sources::{ListSource, Stopping};
 use r10_shared::{AnySource, Open, StopFlag};
 use std::marker::Brand;
 use std::sync::Arc;
 use std::test::Fail;
 
 /// What is told of two feeds of ten messages that were all filed, and all read by one reader.
-fn all_filed_and_read() -> Outcome {
-    Outcome {
+fn all_filed_and_read() -> SessionNumbers {
+    SessionNumbers {
         feeds: [Some((5, 10, 0, 0, 10, 0)), Some((6, 10, 0, 0, 10, 0))],
         entries: 20,
         audited: Ok(true),
@@ -22,8 +22,8 @@ fn all_filed_and_read() -> Outcome {
 #[test]
 fn two_feeds_are_filed_and_read(rt: HostRuntime) -> Result<(), Fail> {
     let alloc = rt.alloc();
-    let first: AnySource = Box::new(alloc, Listed::of(alloc, 10)?)?;
-    let second: AnySource = Box::new(alloc, Listed::of(alloc, 10)?)?;
+    let first: AnySource = Box::new(alloc, ListSource::of(alloc, 10)?)?;
+    let second: AnySource = Box::new(alloc, ListSource::of(alloc, 10)?)?;
     let made = make(alloc, 1000)?;
     let report = run_two::<Brand, _, _>(&rt, alloc, &Open, made, first, second)?;
     assert_eq!(rt; end_of(alloc, report), all_filed_and_read());
@@ -33,12 +33,12 @@ fn two_feeds_are_filed_and_read(rt: HostRuntime) -> Result<(), Fail> {
 #[test]
 fn what_no_file_took_is_the_rest(rt: HostRuntime) -> Result<(), Fail> {
     let alloc = rt.alloc();
-    let source: AnySource = Box::new(alloc, Listed::of(alloc, 6)?)?;
+    let source: AnySource = Box::new(alloc, ListSource::of(alloc, 6)?)?;
     let made = make(alloc, 4)?;
     let report = run_one::<Brand, _>(&rt, alloc, made, source)?;
     assert_eq!(rt;
         end_of(alloc, report),
-        Outcome {
+        SessionNumbers {
             feeds: [Some((5, 4, 2, 0, 0, 4)), None],
             entries: 0,
             audited: Ok(true),
@@ -51,9 +51,9 @@ fn what_no_file_took_is_the_rest(rt: HostRuntime) -> Result<(), Fail> {
 fn all_workers_run_at_the_same_time(rt: HostRuntime) -> Result<(), Fail> {
     let alloc = rt.alloc();
     let meet = Meet::of(5);
-    let place = Place::new(alloc)?;
-    let first: AnySource = Box::new(alloc, Meeting::of(alloc, &place, false, 10)?)?;
-    let second: AnySource = Box::new(alloc, Meeting::of(alloc, &place, true, 10)?)?;
+    let place = MeetingPlace::new(alloc)?;
+    let first: AnySource = Box::new(alloc, MeetingSource::of(alloc, &place, false, 10)?)?;
+    let second: AnySource = Box::new(alloc, MeetingSource::of(alloc, &place, true, 10)?)?;
     let made = make(alloc, 1000)?;
     let report = run_two::<Brand, _, _>(&rt, alloc, &meet, made, first, second)?;
     assert_eq!(rt; (meet.in_vain(), place.in_vain()), (false, false));
@@ -64,13 +64,13 @@ fn all_workers_run_at_the_same_time(rt: HostRuntime) -> Result<(), Fail> {
 #[test]
 fn nobody_works_behind_a_shut_gate(rt: HostRuntime) -> Result<(), Fail> {
     let alloc = rt.alloc();
-    let first: AnySource = Box::new(alloc, Listed::of(alloc, 10)?)?;
-    let second: AnySource = Box::new(alloc, Listed::of(alloc, 10)?)?;
+    let first: AnySource = Box::new(alloc, ListSource::of(alloc, 10)?)?;
+    let second: AnySource = Box::new(alloc, ListSource::of(alloc, 10)?)?;
     let made = make(alloc, 1000)?;
     let report = run_two::<Brand, _, _>(&rt, alloc, &Shut, made, first, second)?;
     assert_eq!(rt;
         end_of(alloc, report),
-        Outcome {
+        SessionNumbers {
             feeds: [Some((5, 0, 0, 0, 0, 0)), Some((6, 0, 0, 0, 0, 0))],
             entries: 0,
             audited: Ok(true),
@@ -86,18 +86,18 @@ fn a_feed_ends_at_a_stop_and_goes_on_in_another_session(rt: HostRuntime) -> Resu
     let first: AnySource = Box::new(
         alloc,
         Stopping {
-            listed: Listed::of(alloc, 10)?,
+            listed: ListSource::of(alloc, 10)?,
             at: 4,
             stop: Arc::try_clone(&stop)?,
         },
     )?;
-    let other: AnySource = Box::new(alloc, Listed::from(alloc, 3000, 5)?)?;
+    let other: AnySource = Box::new(alloc, ListSource::from(alloc, 3000, 5)?)?;
     let made = make(alloc, 1000)?;
     let (sent, report) = run_twice::<Brand, _>(&rt, alloc, &*stop, made, first, other)?;
     assert_eq!(rt; sent, 6);
     assert_eq!(rt;
         end_of(alloc, report),
-        Outcome {
+        SessionNumbers {
             feeds: [Some((5, 11, 0, 0, 11, 0)), None],
             entries: 0,
             audited: Ok(true),
@@ -121,7 +121,7 @@ fn a_loss_of_70_000_messages_says_its_number(rt: HostRuntime) -> Result<(), Fail
     assert_eq!(rt; seen.greatest >= LOST, true);
     assert_eq!(rt;
         end_of(alloc, report),
-        Outcome {
+        SessionNumbers {
             feeds: [Some((5, accepted, refused, 0, accepted, 0)), None],
             entries: accepted as usize,
             audited: Ok(true),

@@ -3,7 +3,7 @@
 use r10_body::{Message, Timed};
 use r10_count::{Bytes, Count};
 use r10_shared::StopFlag;
-use r10_source::{ChannelSource, Given, Turn};
+use r10_source::{ChannelSource, Given, SourceItem};
 use std::alloc::Global;
 use std::collections::VecDeque;
 use std::sync::Arc;
@@ -11,17 +11,17 @@ use std::test::Fail;
 
 /// Messages that wait.
 #[derive(Drop)]
-pub struct Listed {
-    pub left: VecDeque<Turn>,
+pub struct ListSource {
+    pub left: VecDeque<SourceItem>,
 }
 
-impl ChannelSource for Listed {
+impl ChannelSource for ListSource {
     ghost rest = { λ source. source.left.items };
 
     fn next(&mut self) -> Given {
         match self.left.pop_front() {
-            Some(Turn::Message(Timed { count, message })) => Given::Item(count, message),
-            Some(Turn::Lost(lost)) => Given::Lost(lost),
+            Some(SourceItem::Message(Timed { count, message })) => Given::Item(count, message),
+            Some(SourceItem::Lost(lost)) => Given::Lost(lost),
             None => Given::End,
         }
     }
@@ -30,7 +30,7 @@ impl ChannelSource for Listed {
 /// Messages that wait, of a source that asks a stop when so many are left.
 #[derive(Drop)]
 pub struct Stopping {
-    pub listed: Listed,
+    pub listed: ListSource,
     pub at: usize,
     pub stop: Arc<StopFlag, Global>,
 }
@@ -47,14 +47,14 @@ impl ChannelSource for Stopping {
     }
 }
 
-impl Listed {
+impl ListSource {
     /// So many messages without bytes, which take no memory, at the counts from 2000 on.
-    pub fn of(alloc: Global, messages: u64) -> Result<Listed, Fail> {
-        Listed::from(alloc, 2000, messages)
+    pub fn of(alloc: Global, messages: u64) -> Result<ListSource, Fail> {
+        ListSource::from(alloc, 2000, messages)
     }
 
     /// So many messages without bytes, which take no memory, at the counts from this one on.
-    pub fn from(alloc: Global, first: u64, messages: u64) -> Result<Listed, Fail> {
+    pub fn from(alloc: Global, first: u64, messages: u64) -> Result<ListSource, Fail> {
         let mut left = VecDeque::new(alloc);
         for place in 0..messages {
             let count = Count::of(place.wrapping_add(first)).ok_or("no count")?;
@@ -63,8 +63,8 @@ impl Listed {
                 sub: 0,
                 bytes: Bytes::of(Vec::new(alloc)),
             };
-            left.push_back(Turn::Message(Timed { count, message }))?;
+            left.push_back(SourceItem::Message(Timed { count, message }))?;
         }
-        Ok(Listed { left })
+        Ok(ListSource { left })
     }
 }

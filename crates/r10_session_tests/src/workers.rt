@@ -1,13 +1,13 @@
 // Workers over recorders in memory: what they ask, and in which order.
 
-use crate::fakes::{Diary, Ordered, Pumped, Watched, Written};
+use crate::fakes::{Diary, Ordered, PumpedRecorder, Watched, WrittenRecorder};
 use r10_body::Refusal;
 use r10_shared::{Order, Round, Turn, give, go_round, watch, write};
 use std::test::Fail;
 
 /// A recorder of five channels, of which the third answers so to a pump.
-fn five(pump: Result<usize, Refusal>) -> Pumped {
-    Pumped {
+fn five(pump: Result<usize, Refusal>) -> PumpedRecorder {
+    PumpedRecorder {
         channels: 5,
         at: 2,
         pump,
@@ -17,31 +17,35 @@ fn five(pump: Result<usize, Refusal>) -> Pumped {
 }
 
 /// What a round comes to, and what it asked.
-fn came(turn: Turn, committed: bool, digits: u64) -> (Round, u64) {
+fn round_and_asks(turn: Turn, committed: bool, digits: u64) -> (Round, u64) {
     (Round { turn, committed }, digits)
 }
 
 #[test]
 fn a_round_pumps_each_channel_and_commits(rt: HostRuntime) -> Result<(), Fail> {
     let cases = [
-        (Ok(1), false, came(Turn::Moved, true, 123_459)),
-        (Ok(0), false, came(Turn::Idle, false, 12_345)),
-        (Ok(0), true, came(Turn::Idle, true, 123_459)),
+        (Ok(1), false, round_and_asks(Turn::Moved, true, 123_459)),
+        (Ok(0), false, round_and_asks(Turn::Idle, false, 12_345)),
+        (Ok(0), true, round_and_asks(Turn::Idle, true, 123_459)),
         (
             Err(Refusal::MediumFull),
             false,
-            came(Turn::Idle, false, 12_345),
+            round_and_asks(Turn::Idle, false, 12_345),
         ),
         (
             Err(Refusal::NotRecording),
             true,
-            came(Turn::Idle, true, 123_459),
+            round_and_asks(Turn::Idle, true, 123_459),
         ),
-        (Err(Refusal::Failed), true, came(Turn::Over, false, 123)),
+        (
+            Err(Refusal::Failed),
+            true,
+            round_and_asks(Turn::Over, false, 123),
+        ),
         (
             Err(Refusal::OutOfMemory),
             false,
-            came(Turn::Over, false, 123),
+            round_and_asks(Turn::Over, false, 123),
         ),
     ];
     for (pump, last, want) in cases {
@@ -54,18 +58,21 @@ fn a_round_pumps_each_channel_and_commits(rt: HostRuntime) -> Result<(), Fail> {
 
 #[test]
 fn a_commit_that_failed_ends_the_writer(rt: HostRuntime) -> Result<(), Fail> {
-    let mut held = Pumped {
+    let mut held = PumpedRecorder {
         commit: Err(Refusal::Failed),
         ..five(Ok(1))
     };
     let round = go_round(&rt, &mut held, false);
-    assert_eq!(rt; (round, held.diary.digits), came(Turn::Over, true, 123_459));
+    assert_eq!(rt;
+        (round, held.diary.digits),
+        round_and_asks(Turn::Over, true, 123_459)
+    );
     Ok(())
 }
 
 #[test]
 fn a_writer_sleeps_after_two_rounds_that_moved_nothing(rt: HostRuntime) -> Result<(), Fail> {
-    let mut at = Written {
+    let mut at = WrittenRecorder {
         turns: [Turn::Moved, Turn::Idle, Turn::Idle, Turn::Idle],
         rounds: 0,
         looks: 3,

@@ -6,7 +6,7 @@ use Rattle.r10_builder.proofs.First.{place_found, place_none}
 use Rattle.r10_port.specs.Ends.{Receiving, Ring, Sending}
 use Rattle.r10_shared.proofs.Matching.{DoneTo}
 use Rattle.r10_shared.specs.Settling.{AreBegun, AreWrittenDown, Drains, receiving_of}
-use Rattle.r10_shared.specs.declared.reading.Reading.{Reading}
+use Rattle.r10_shared.specs.declared.reading.Transcribing.{Transcribing}
 use Rattle.r10_shared.specs.declared.report.FeedReport.{FeedReport}
 use Rattle.r10_held.specs.declared.transcript.Transcript.{Transcript}
 
@@ -37,10 +37,10 @@ nowhere channel lanes P none known = absurd (subst (λ (o : Option Receiving). I
 -- ---- transcripts
 
 -- a transcript with what a player wrote down
-abbrev pub HasWritten : Reading → Transcript → Transcript → Type 0
+abbrev pub HasWritten : Transcribing → Transcript → Transcript → Type 0
 HasWritten reading old new = new ≡ record old { instalments = reading.instalments }
 
-pub all_written : (readings : List Reading) (transcripts : List Transcript) (place : ℕ) (readings' : List Reading) (later : List Transcript) → AreBegun readings transcripts → DoneTo HasWritten readings transcripts place readings' later → length readings ≤ place → AreWrittenDown readings later
+pub all_written : (readings : List Transcribing) (transcripts : List Transcript) (place : ℕ) (readings' : List Transcribing) (later : List Transcript) → AreBegun readings transcripts → DoneTo HasWritten readings transcripts place readings' later → length readings ≤ place → AreWrittenDown readings later
 all_written readings transcripts place readings' later begun done all = record {
   number = done.number ∙ begun.number;
   each = λ i a b inside.

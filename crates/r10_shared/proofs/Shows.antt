@@ -17,7 +17,7 @@ use Rattle.r10_machine.specs.Machine.{saturated}
 use Rattle.r10_port.specs.Ends.{Offered, Sending, sent}
 use Rattle.r10_source.specs.Pumps.{OffersAll, PumpsSource, Tried, counts, is_accepted, tries}
 use Rattle.r10_source.specs.declared.pump.Pumped.{Pumped}
-use Rattle.r10_source.specs.declared.source.Turn.{Turn}
+use Rattle.r10_source.specs.declared.source.SourceItem.{SourceItem}
 use Rattle.r10_shared.specs.Feeding.{FedFrom}
 use Rattle.r10_shared.specs.Levels.{FedShowing, GrewBy, ShowsEach, TellsLast, TellsNumbers, is_level, level_of, shown_by}
 use Rattle.r10_shared.specs.declared.source.Tally.{Tally}
@@ -51,7 +51,7 @@ module _ (p q r : Sending) (x : Pumped) (same : r ≡ record q { free = r.free }
   looked_offers (counts n ∷ []) short is offers = idle (omega (arith, is, sum_by-cons (λ (t : Tried). cond (is_accepted t) 1 0) (counts n) [])) ∙ offers
   looked_offers (t ∷ u ∷ tried) short is offers = absurd (omega (arith, short))
 
-  pub pumps_looked : (a b : List Turn) → PumpsSource 1 a b p q x → PumpsSource 1 a b p r x
+  pub pumps_looked : (a b : List SourceItem) → PumpsSource 1 a b p q x → PumpsSource 1 a b p r x
   pumps_looked a b pumps = record {
     tried = pumps.tried;
     given = pumps.given;
@@ -137,7 +137,7 @@ tells_last (Some a) (Some b) p q tried shown grew shows tells = subst (λ (l : L
 -- ---- a feed
 
 -- nothing was tried
-pub showing_none : (a : List Turn) (p q : Sending) (tally : Tally) (gauge : Option PublishingEnd) → q ≡ p → tally ≡ record { accepted = 0; refused = 0 } → FedShowing a p q tally gauge gauge
+pub showing_none : (a : List SourceItem) (p q : Sending) (tally : Tally) (gauge : Option PublishingEnd) → q ≡ p → tally ≡ record { accepted = 0; refused = 0 } → FedShowing a p q tally gauge gauge
 showing_none a p q tally gauge same none =
     subst (λ (x : Sending × Tally). FedShowing a p x.0 x.1 gauge gauge) (λ i. (sym same i, sym none i)) (record {
       fed = record { tried = []; left = a; given = refl; offers = refl; same = (refl, refl); sent_is = sym (append-nil (sent p)); accepted_is = refl; refused_is = refl };

@@ -6,7 +6,7 @@ use Rattle.r10_machine.specs.Machine.{saturated}
 use Rattle.r10_port.specs.Ends.{Sending, sent}
 use Rattle.r10_source.specs.declared.pump.Pumped.{Pumped}
 use Rattle.r10_source.specs.Pumps.{Tried, PumpsSource, is_accepted, is_refused, turn_of}
-use Rattle.r10_source.specs.declared.source.Turn.{Turn}
+use Rattle.r10_source.specs.declared.source.SourceItem.{SourceItem}
 use Rattle.r10_source.proofs.Feeding.{offers_join, offers_sent, offers_same}
 use Rattle.r10_shared.specs.Feeding.{FedBehind, FedFrom, FedUnless, FedUntil, HasRunUntil, HasRunWhole, never}
 use Rattle.r10_body.specs.declared.refusal.Glance.{Glance}
@@ -17,14 +17,14 @@ use Rattle.r10_shared.proofs.Shows.{grew_join, grew_none, shows_join, tells_last
 use Rattle.r10_shared.specs.declared.source.Tally.{Tally}
 
 -- so much was done, and this is left
-abbrev pub FedTo : List Turn → List Turn → Sending → Sending → Tally → Type 0
+abbrev pub FedTo : List SourceItem → List SourceItem → Sending → Sending → Tally → Type 0
 FedTo a b p q tally = (fed : FedFrom a p q tally) × (fed.left ≡ b)
 
 abbrev none_tallied : Tally
 none_tallied = record { accepted = 0; refused = 0 }
 
 -- nothing yet
-pub fed_none : (a : List Turn) (p : Sending) → FedTo a a p p none_tallied
+pub fed_none : (a : List SourceItem) (p : Sending) → FedTo a a p p none_tallied
 fed_none a p = (
   record {
     tried = [];
@@ -39,11 +39,11 @@ fed_none a p = (
   refl,
 )
 
-abbrev turns_of : List Tried → List Turn
+abbrev turns_of : List Tried → List SourceItem
 turns_of tried = map turn_of tried
 
 -- so far, and then a pump of the rest
-pub fed_join : (n : ℕ) (a b c : List Turn) (p q r : Sending) (x : Pumped) (tally : Tally) (accepted refused : ℕ) → FedTo a b p q tally → PumpsSource n b c q r x
+pub fed_join : (n : ℕ) (a b c : List SourceItem) (p q r : Sending) (x : Pumped) (tally : Tally) (accepted refused : ℕ) → FedTo a b p q tally → PumpsSource n b c q r x
     → accepted ≡ saturated (tally.accepted + x.accepted) → refused ≡ saturated (tally.refused + x.refused) → FedTo a c p r (record { accepted = accepted; refused = refused })
 fed_join n a b c p q r x tally accepted refused (fed, left) pumps more others =
     let tried = fed.tried ++ pumps.tried in
@@ -51,8 +51,8 @@ fed_join n a b c p q r x tally accepted refused (fed, left) pumps more others =
       record {
         tried = tried;
         left = c;
-        given = fed.given ∙ ap (λ (l : List Turn). turns_of fed.tried ++ l) (left ∙ pumps.given) ∙ sym (append_assoc (turns_of fed.tried) (turns_of pumps.tried) c)
-            ∙ ap (λ (l : List Turn). l ++ c) (sym (map-append turn_of fed.tried pumps.tried));
+        given = fed.given ∙ ap (λ (l : List SourceItem). turns_of fed.tried ++ l) (left ∙ pumps.given) ∙ sym (append_assoc (turns_of fed.tried) (turns_of pumps.tried) c)
+            ∙ ap (λ (l : List SourceItem). l ++ c) (sym (map-append turn_of fed.tried pumps.tried));
         offers = offers;
         same = offers_same p r tried offers;
         sent_is = offers_sent p r tried offers;
@@ -63,18 +63,18 @@ fed_join n a b c p q r x tally accepted refused (fed, left) pumps more others =
     )
 
 -- so much was tried and shown, and this is left
-pub record FedShown (a b : List Turn) (p q : Sending) (tally : Tally) (gauge later : Option PublishingEnd) : Type 0 where
+pub record FedShown (a b : List SourceItem) (p q : Sending) (tally : Tally) (gauge later : Option PublishingEnd) : Type 0 where
   pub fed : FedFrom a p q tally
   pub left : fed.left ≡ b
   pub shown : List Glance
   pub shows : ShowsEach p fed.tried shown q
   pub grew : GrewBy gauge later shown
 
-pub shown_none : (a : List Turn) (p : Sending) (gauge : Option PublishingEnd) → FedShown a a p p none_tallied gauge gauge
+pub shown_none : (a : List SourceItem) (p : Sending) (gauge : Option PublishingEnd) → FedShown a a p p none_tallied gauge gauge
 unfolding fed_none
 shown_none a p gauge = record { fed = (fed_none a p).0; left = (fed_none a p).1; shown = []; shows = (refl, refl); grew = grew_none gauge }
 
-pub shown_join : (a b c : List Turn) (p q r : Sending) (x : Pumped) (tally : Tally) (accepted refused : ℕ) (gauge mid later : Option PublishingEnd) → FedShown a b p q tally gauge mid → PumpsSource 1 b c q r x → GrewBy mid later (shown_by q r)
+pub shown_join : (a b c : List SourceItem) (p q r : Sending) (x : Pumped) (tally : Tally) (accepted refused : ℕ) (gauge mid later : Option PublishingEnd) → FedShown a b p q tally gauge mid → PumpsSource 1 b c q r x → GrewBy mid later (shown_by q r)
     → accepted ≡ saturated (tally.accepted + x.accepted) → refused ≡ saturated (tally.refused + x.refused) → FedShown a c p r (record { accepted = accepted; refused = refused }) gauge later
 unfolding fed_join
 shown_join a b c p q r x tally accepted refused gauge mid later so pumps grew more others =
@@ -86,7 +86,7 @@ shown_join a b c p q r x tally accepted refused gauge mid later so pumps grew mo
       grew = grew_join gauge mid later so.shown (shown_by q r) so.grew grew;
     }
 
-pub showing_all : (a b : List Turn) (p q : Sending) (tally : Tally) (gauge later : Option PublishingEnd) → FedShown a b p q tally gauge later → FedShowing a p q tally gauge later
+pub showing_all : (a b : List SourceItem) (p q : Sending) (tally : Tally) (gauge later : Option PublishingEnd) → FedShown a b p q tally gauge later → FedShowing a p q tally gauge later
 showing_all a b p q tally gauge later so = record {
   fed = so.fed;
   shown = so.shown;
@@ -96,21 +96,21 @@ showing_all a b p q tally gauge later so = record {
 }
 
 -- where the source has ended, all that it had was offered
-pub fed_whole : (stops : Bool → Type 0) (n : ℕ) (a b c : List Turn) (p q r : Sending) (x : Pumped) (tally : Tally) (accepted refused : ℕ) → FedTo a b p q tally → PumpsSource n b c q r x → accepted ≡ saturated (tally.accepted + x.accepted) → refused ≡ saturated (tally.refused + x.refused) → x.ended ≡ true
+pub fed_whole : (stops : Bool → Type 0) (n : ℕ) (a b c : List SourceItem) (p q r : Sending) (x : Pumped) (tally : Tally) (accepted refused : ℕ) → FedTo a b p q tally → PumpsSource n b c q r x → accepted ≡ saturated (tally.accepted + x.accepted) → refused ≡ saturated (tally.refused + x.refused) → x.ended ≡ true
     → FedUnless stops a p r (record { accepted = accepted; refused = refused })
 fed_whole stops n a b c p q r x tally accepted refused so pumps more others ended =
-    let done = subst (λ (l : List Turn). FedTo a l p r (record { accepted = accepted; refused = refused })) (pumps.ended ended) (fed_join n a b c p q r x tally accepted refused so pumps more others) in
+    let done = subst (λ (l : List SourceItem). FedTo a l p r (record { accepted = accepted; refused = refused })) (pumps.ended ended) (fed_join n a b c p q r x tally accepted refused so pumps more others) in
     (done.0, inl done.1)
 
 -- where a stop was asked, so much was offered
-pub fed_stopped : (stops : Bool → Type 0) (a b : List Turn) (p q r : Sending) (tally : Tally) → FedTo a b p q tally → r ≡ q → stops true → FedUnless stops a p r tally
+pub fed_stopped : (stops : Bool → Type 0) (a b : List SourceItem) (p q r : Sending) (tally : Tally) → FedTo a b p q tally → r ≡ q → stops true → FedUnless stops a p r tally
 fed_stopped stops a b p q r tally so same asked = subst (λ (s : Sending). FedUnless stops a p s tally) (sym same) (so.0, inr asked)
 
 -- behind the gate: all that the source had was offered, or nothing
-pub fed_let : (answers stops : Bool → Type 0) (a : List Turn) (p q : Sending) (tally : Tally) (answer : Bool) → answers answer → answer ≡ true → FedUnless stops a p q tally → FedUntil answers stops a p q tally
+pub fed_let : (answers stops : Bool → Type 0) (a : List SourceItem) (p q : Sending) (tally : Tally) (answer : Bool) → answers answer → answer ≡ true → FedUnless stops a p q tally → FedUntil answers stops a p q tally
 fed_let answers stops a p q tally answer answered is (fed, whole) = record { fed = fed; answer = answer; answered = answered; whole = λ let_in. whole; none = λ shut. absurd (cc) }
 
-pub fed_shut : (answers stops : Bool → Type 0) (a : List Turn) (p q : Sending) (tally : Tally) (answer : Bool) → answers answer → answer ≡ false → q ≡ p → tally ≡ none_tallied → FedUntil answers stops a p q tally
+pub fed_shut : (answers stops : Bool → Type 0) (a : List SourceItem) (p q : Sending) (tally : Tally) (answer : Bool) → answers answer → answer ≡ false → q ≡ p → tally ≡ none_tallied → FedUntil answers stops a p q tally
 fed_shut answers stops a p q tally answer answered is same none = subst (λ (s : Sending). FedUntil answers stops a p s tally) (sym same) (subst (λ (t : Tally). FedUntil answers stops a p p t) (sym none) (record {
   fed = record {
     tried = [];
@@ -129,7 +129,7 @@ fed_shut answers stops a p q tally answer answered is same none = subst (λ (s :
 }))
 
 -- a stop that is never asked leaves nothing of a source
-pub until_whole : (answers : Bool → Type 0) (a : List Turn) (p q : Sending) (tally : Tally) → FedUntil answers never a p q tally → FedBehind answers a p q tally
+pub until_whole : (answers : Bool → Type 0) (a : List SourceItem) (p q : Sending) (tally : Tally) → FedUntil answers never a p q tally → FedBehind answers a p q tally
 until_whole answers a p q tally f = record {
   fed = f.fed;
   answer = f.answer;
@@ -138,6 +138,6 @@ until_whole answers a p q tally f = record {
   none = f.none;
 }
 
-pub run_whole : {S : Type 0} (answers : Bool → Type 0) (rest_of : S → List Turn) (source : Option S) (line line' : SendingLine) (tally : Tally) → HasRunUntil answers never rest_of source line line' tally → HasRunWhole answers rest_of source line line' tally
+pub run_whole : {S : Type 0} (answers : Bool → Type 0) (rest_of : S → List SourceItem) (source : Option S) (line line' : SendingLine) (tally : Tally) → HasRunUntil answers never rest_of source line line' tally → HasRunWhole answers rest_of source line line' tally
 run_whole answers rest_of (Some source) line line' tally ran = (ran.0, until_whole answers (rest_of source) line.port line'.port tally ran.1)
 run_whole answers rest_of None line line' tally ran = tt

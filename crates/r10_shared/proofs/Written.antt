@@ -3,12 +3,12 @@ use Rattle.std.proofs.Common.{◌≡◌, ℕ, ◌<◌, List, [], ◌∷◌, ◌+
 use Rattle.std.specs.List.{AllByRecursion}
 use Rattle.atomic_table.specs.Seated.{TableId}
 use Rattle.std.proofs.lemmas.List.{append-nil, drop_all, get_or-map, length-map, map-append, take_all}
-use Rattle.r10_cursor.specs.Replays.{Reading as CursorReading}
+use Rattle.r10_cursor.specs.Replays.{Transcribing as CursorReading}
 use Rattle.r10_cursor.specs.declared.cursor.Cursor.{Cursor}
 use Rattle.r10_held.specs.Advancing.{TakesInstalment}
 use Rattle.r10_held.specs.declared.player.Player.{Player}
 use Rattle.r10_shared.specs.Readings.{EachGoesOn, HasReadAll, HasTaken, IsAlike, IsTakenFrom, ReadsFrom, ReadsOn}
-use Rattle.r10_shared.specs.declared.reading.Reading.{Reading}
+use Rattle.r10_shared.specs.declared.reading.Transcribing.{Transcribing}
 use Rattle.r10_held.specs.declared.transcript.Instalment.{Instalment}
 use Rattle.r10_shared.specs.ReadingLaws.{alike_stays}
 
@@ -66,24 +66,24 @@ module _ (player : Player) (b : Cursor) (n : ℕ) (takes : TakesInstalment playe
 -- ---- players, at first and at last
 
 -- one more player
-pub players_more : (xs : List Reading) (x : Reading) (before rest all : List Player) → map (λ (r : Reading). r.player) xs ++ before ≡ all → before ≡ x.player ∷ rest → map (λ (r : Reading). r.player) (xs ++ x ∷ []) ++ rest ≡ all
+pub players_more : (xs : List Transcribing) (x : Transcribing) (before rest all : List Player) → map (λ (r : Transcribing). r.player) xs ++ before ≡ all → before ≡ x.player ∷ rest → map (λ (r : Transcribing). r.player) (xs ++ x ∷ []) ++ rest ≡ all
 players_more xs x before rest all so next =
-    ap (λ (l : List Player). l ++ rest) (map-append (λ (r : Reading). r.player) xs (x ∷ [])) ∙ append_assoc (map (λ (r : Reading). r.player) xs) (x.player ∷ []) rest ∙ ap (λ (l : List Player). map (λ (r : Reading). r.player) xs ++ l) (sym next) ∙ so
+    ap (λ (l : List Player). l ++ rest) (map-append (λ (r : Transcribing). r.player) xs (x ∷ [])) ∙ append_assoc (map (λ (r : Transcribing). r.player) xs) (x.player ∷ []) rest ∙ ap (λ (l : List Player). map (λ (r : Transcribing). r.player) xs ++ l) (sym next) ∙ so
 
-module _ (readings : List Reading) (players : List Player) (is : map (λ (r : Reading). r.player) readings ≡ players) where
+module _ (readings : List Transcribing) (players : List Player) (is : map (λ (r : Transcribing). r.player) readings ≡ players) where
   pub as_many : length players ≡ length readings
-  as_many = ap (λ (l : List Player). length l) (sym is) ∙ length-map readings (λ (r : Reading). r.player)
+  as_many = ap (λ (l : List Player). length l) (sym is) ∙ length-map readings (λ (r : Transcribing). r.player)
 
-  player_is : (i : ℕ) (d : Player) (e : Reading) → i < length readings → get_or players i d ≡ (get_or readings i e).player
-  player_is i d e inside = ap (λ (l : List Player). get_or l i d) (sym is) ∙ get_or-map (λ (r : Reading). r.player) readings i e d inside
+  player_is : (i : ℕ) (d : Player) (e : Transcribing) → i < length readings → get_or players i d ≡ (get_or readings i e).player
+  player_is i d e inside = ap (λ (l : List Player). get_or l i d) (sym is) ∙ get_or-map (λ (r : Transcribing). r.player) readings i e d inside
 
   -- what is known of each player's gauge is known of each reading's
-  pub at_gauge : (cell : TableId) → ((k : ℕ) (d : Player) → k < length players → (get_or players k d).pass.cell ≡ cell) → (k : ℕ) (d : Reading) → k < length readings → (get_or readings k d).player.pass.cell ≡ cell
+  pub at_gauge : (cell : TableId) → ((k : ℕ) (d : Player) → k < length players → (get_or players k d).pass.cell ≡ cell) → (k : ℕ) (d : Transcribing) → k < length readings → (get_or readings k d).player.pass.cell ≡ cell
   at_gauge cell known k d inside = ap (λ (p : Player). p.pass.cell) (sym (player_is k d.player d inside)) ∙ known k d.player (omega (arith, inside, as_many))
 
   -- each has read, where each read on from nothing
-  pub have_read : (later : List Reading) → ((k : ℕ) (d : Reading) → k < length readings → (get_or readings k d).instalments.items ≡ []) → ((i : ℕ) (e : Reading) → i < length readings → ReadsOn (get_or readings i e) (get_or later i e))
-      → (i : ℕ) (d : Player) (e : Reading) → i < length players → HasReadAll (get_or players i d) (get_or later i e)
+  pub have_read : (later : List Transcribing) → ((k : ℕ) (d : Transcribing) → k < length readings → (get_or readings k d).instalments.items ≡ []) → ((i : ℕ) (e : Transcribing) → i < length readings → ReadsOn (get_or readings i e) (get_or later i e))
+      → (i : ℕ) (d : Player) (e : Transcribing) → i < length players → HasReadAll (get_or players i d) (get_or later i e)
   have_read later none reads i d e inside =
       let here : i < length readings = omega (arith, inside, as_many) in
       subst (λ (p : Player). ReadsFrom p [] (get_or later i e)) (sym (player_is i d e here)) (subst (λ (l : List Instalment). ReadsFrom (get_or readings i e).player l (get_or later i e)) (none i e here) (reads i e here))

@@ -5,7 +5,7 @@ use Rattle.r10_gauge.specs.Published.{PublishingEnd, last_triple, triple}
 use Rattle.r10_machine.specs.Machine.{saturated}
 use Rattle.r10_port.specs.Ends.{Sending, sent}
 use Rattle.r10_source.specs.Pumps.{Tried, OffersAll}
-use Rattle.r10_source.specs.declared.source.Turn.{Turn}
+use Rattle.r10_source.specs.declared.source.SourceItem.{SourceItem}
 use Rattle.r10_shared.specs.Feeding.{FedFrom}
 use Rattle.r10_shared.specs.Naming.{SendingLine}
 use Rattle.r10_shared.specs.declared.source.Tally.{Tally}
@@ -44,7 +44,7 @@ TellsLast (Some g) port = TellsNumbers (last_triple g.published) port
 
 -- A feed with a gauge: each thing tried that sent or lost a message was followed by the lane's level, and nothing else was shown. So if the last that
 -- was published had the sender's numbers before, the last has its numbers now.
-pub record FedShowing (before : List Turn) (old new : Sending) (tally : Tally) (gauge later : Option PublishingEnd) : Type 0 where
+pub record FedShowing (before : List SourceItem) (old new : Sending) (tally : Tally) (gauge later : Option PublishingEnd) : Type 0 where
   pub fed : FedFrom before old new tally
   pub shown : List Glance
   pub shows : ShowsEach old fed.tried shown new
@@ -52,6 +52,6 @@ pub record FedShowing (before : List Turn) (old new : Sending) (tally : Tally) (
   pub last : TellsLast gauge old → TellsLast later new
 
 -- a source that waited was shown so; where none waited the gauge is as it was
-abbrev pub HasShown : {S : Type 0} → (S → List Turn) → Option S → SendingLine → Option PublishingEnd → SendingLine → Tally → Option PublishingEnd → Type 0
+abbrev pub HasShown : {S : Type 0} → (S → List SourceItem) → Option S → SendingLine → Option PublishingEnd → SendingLine → Tally → Option PublishingEnd → Type 0
 HasShown rest_of (Some source) line gauge line' tally' gauge' = FedShowing (rest_of source) line.port line'.port tally' gauge gauge'
 HasShown rest_of None line gauge line' tally' gauge' = gauge' ≡ gauge

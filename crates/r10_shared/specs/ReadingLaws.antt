@@ -7,7 +7,7 @@ use Rattle.r10_held.specs.declared.player.Player.{Player}
 use Rattle.r10_held.specs.declared.transcript.Instalment.{Instalment}
 use Rattle.r10_shared.specs.DeskLaws.{all_join}
 use Rattle.r10_shared.specs.Readings.{EachGoesOn, HasTaken, IsAlike, IsTakenFrom, ReadsOn}
-use Rattle.r10_shared.specs.declared.reading.Reading.{Reading}
+use Rattle.r10_shared.specs.declared.reading.Transcribing.{Transcribing}
 
 goes_join : (a b c : ℕ) (xs ys : List Instalment) → EachGoesOn a xs b → EachGoesOn b ys c → EachGoesOn a (xs ++ ys) c
 goes_join a b c [] ys first second = subst (λ (n : ℕ). EachGoesOn n ys c) first second
@@ -43,8 +43,8 @@ taken_joins player before mid then later all first second = record {
       (subst (λ (n : ℕ). AllByRecursion (IsTakenFrom mid.cursor.reading.channels mid.cursor.reading.from n) second.more) first.alike.last second.taken)));
 }
 
-pub reads_stay : (r : Reading) → ReadsOn r r
+pub reads_stay : (r : Transcribing) → ReadsOn r r
 reads_stay r = taken_stays r.player r.instalments.items
 
-pub reads_both : (r s t : Reading) → ReadsOn r s → ReadsOn s t → ReadsOn r t
+pub reads_both : (r s t : Transcribing) → ReadsOn r s → ReadsOn s t → ReadsOn r t
 reads_both r s t first then = taken_joins r.player r.instalments.items s.player s.instalments.items t.player t.instalments.items first then

@@ -5,7 +5,7 @@ use Rattle.r10_body.specs.Packets.{Packet, file_entries}
 use Rattle.r10_cursor.specs.declared.cursor.Cursor.{Cursor}
 use Rattle.r10_machine.specs.Replay.{Ordered, wanted}
 use Rattle.r10_held.specs.declared.player.Player.{Player}
-use Rattle.r10_shared.specs.declared.reading.Reading.{Reading}
+use Rattle.r10_shared.specs.declared.reading.Transcribing.{Transcribing}
 use Rattle.r10_held.specs.declared.transcript.Instalment.{Instalment}
 
 -- a cursor on the same file, with the same wishes
@@ -37,12 +37,12 @@ pub record HasTaken (player : Player) (before : List Instalment) (later : Player
   pub taken : AllByRecursion (IsTakenFrom player.cursor.reading.channels player.cursor.reading.from player.cursor.reading.to) more
 
 -- and is written down there
-abbrev pub ReadsFrom : Player → List Instalment → Reading → Type 0
+abbrev pub ReadsFrom : Player → List Instalment → Transcribing → Type 0
 ReadsFrom player before new = HasTaken player before new.player new.instalments.items
 
-abbrev pub ReadsOn : Reading → Reading → Type 0
+abbrev pub ReadsOn : Transcribing → Transcribing → Type 0
 ReadsOn old new = ReadsFrom old.player old.instalments.items new
 
 -- from nothing written
-abbrev pub HasReadAll : Player → Reading → Type 0
+abbrev pub HasReadAll : Player → Transcribing → Type 0
 HasReadAll player new = ReadsFrom player [] new

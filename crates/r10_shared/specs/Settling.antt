@@ -14,7 +14,7 @@ use Rattle.r10_medium.specs.Disk.{Image}
 use Rattle.r10_port.specs.Ends.{Receiving, Sending, sent, unreceived}
 use Rattle.r10_control.specs.Taking.{entries_on}
 use Rattle.r10_shared.specs.Naming.{SendingLine}
-use Rattle.r10_shared.specs.declared.reading.Reading.{Reading}
+use Rattle.r10_shared.specs.declared.reading.Transcribing.{Transcribing}
 use Rattle.r10_shared.specs.declared.report.FeedReport.{FeedReport}
 use Rattle.r10_shared.specs.declared.source.Tally.{Tally}
 use Rattle.r10_held.specs.declared.transcript.Transcript.{Transcript}
@@ -63,23 +63,23 @@ IsEndRefusal work r = r ≡ OutOfMemory
 -- ---- transcripts
 
 -- a transcript is of what a player was to read
-pub record IsTranscriptOf (reading : Reading) (transcript : Transcript) : Type 0 where
+pub record IsTranscriptOf (reading : Transcribing) (transcript : Transcript) : Type 0 where
   pub file : transcript.file ≡ reading.player.cursor.file
   pub channels : transcript.channels ≡ reading.player.cursor.reading.channels
   pub first : transcript.first ≡ reading.player.cursor.reading.from
   pub last : transcript.last ≡ reading.player.cursor.reading.to
 
 -- and has what it wrote down
-abbrev pub IsWrittenDown : Reading → Transcript → Type 0
+abbrev pub IsWrittenDown : Transcribing → Transcript → Type 0
 IsWrittenDown reading transcript = IsTranscriptOf reading transcript × (transcript.instalments.items ≡ reading.instalments.items)
 
-pub record AreBegun (readings : List Reading) (transcripts : List Transcript) : Type 0 where
+pub record AreBegun (readings : List Transcribing) (transcripts : List Transcript) : Type 0 where
   pub number : length transcripts ≡ length readings
-  pub each : (place : ℕ) (a : Reading) (b : Transcript) → place < length readings → IsTranscriptOf (slice_index_or readings place a) (slice_index_or transcripts place b)
+  pub each : (place : ℕ) (a : Transcribing) (b : Transcript) → place < length readings → IsTranscriptOf (slice_index_or readings place a) (slice_index_or transcripts place b)
 
-pub record AreWrittenDown (readings : List Reading) (transcripts : List Transcript) : Type 0 where
+pub record AreWrittenDown (readings : List Transcribing) (transcripts : List Transcript) : Type 0 where
   pub number : length transcripts ≡ length readings
-  pub each : (place : ℕ) (a : Reading) (b : Transcript) → place < length readings → IsWrittenDown (slice_index_or readings place a) (slice_index_or transcripts place b)
+  pub each : (place : ℕ) (a : Transcribing) (b : Transcript) → place < length readings → IsWrittenDown (slice_index_or readings place a) (slice_index_or transcripts place b)
 
 -- ---- room, before anything is moved
 

@@ -8,7 +8,7 @@ ghost use Rattle.r10_shared.specs.DeskLaws.{all_join, does_join, does_keep, does
 
 use crate::giving::Control;
 use crate::order::Order;
-use crate::reader::Reader;
+use crate::reader::SessionReader;
 use crate::rounds::{Recording, Round, go_round};
 use crate::waiting::Progress;
 use crate::watching::Watching;
@@ -48,13 +48,13 @@ impl<M: BlockMedium, N: Rings> Recording for Held<M, N> {
 
 /// The recorder that is shared, with what the workers of its session share beside.
 #[derive(Drop)]
-pub(crate) struct Desk<'a, M: BlockMedium, N: Rings, R: Wait> {
+pub(crate) struct SharedRecorder<'a, M: BlockMedium, N: Rings, R: Wait> {
     pub(crate) rt: &'a R,
     pub(crate) cabinet: &'a Cabinet<M, N>,
     pub(crate) progress: &'a Progress,
 }
 
-impl<'a, M: BlockMedium, N: Rings, R: Wait> Writing for Desk<'a, M, N, R> {
+impl<'a, M: BlockMedium, N: Rings, R: Wait> Writing for SharedRecorder<'a, M, N, R> {
     type Key = Key<'a>;
 
     ghost asked = { λ old asks new. AllByRecursion (WasTurned M.disk N.rings) asks };
@@ -88,7 +88,7 @@ impl<'a, M: BlockMedium, N: Rings, R: Wait> Writing for Desk<'a, M, N, R> {
     ghost joins = { λ a b c xs ys first then. all_join (WasTurned M.disk N.rings) xs ys first then };
 }
 
-impl<'a, M: BlockMedium, N: Rings, R: Wait> Control for Desk<'a, M, N, R> {
+impl<'a, M: BlockMedium, N: Rings, R: Wait> Control for SharedRecorder<'a, M, N, R> {
     ghost asked = { λ old asks new. AllByRecursion (WasAsked M.disk N.rings) asks };
 
     fn ask(&mut self, order: &Order) -> Result<Reply, Refusal> {
@@ -100,7 +100,7 @@ impl<'a, M: BlockMedium, N: Rings, R: Wait> Control for Desk<'a, M, N, R> {
     }
 
     fn wake(&mut self) {
-        self.progress.come();
+        self.progress.wake_writer();
     }
 
     ghost stays = { λ a. tt };
@@ -117,7 +117,8 @@ pub(crate) struct ReadersDesk<'a, M: BlockMedium, N: Rings, R: Wait> {
     pub(crate) progress: &'a Progress,
 }
 
-impl<'a, M: BlockMedium, N: Rings, R: Wait, D: Reader> Watching<D> for ReadersDesk<'a, M, N, R> {
+impl<'a, M: BlockMedium, N: Rings, R: Wait, D: SessionReader> Watching<D>
+    for ReadersDesk<'a, M, N, R> {
     type Key = Key<'a>;
 
     ghost asked = { λ old asks new. new.cabinet.now ≡ old.cabinet.now };
@@ -134,8 +135,8 @@ impl<'a, M: BlockMedium, N: Rings, R: Wait, D: Reader> Watching<D> for ReadersDe
         self.progress.is_written()
     }
 
-    fn shown(&mut self) -> u64 {
-        self.progress.shown()
+    fn commit_count(&mut self) -> u64 {
+        self.progress.commit_count()
     }
 
     fn sleep(&mut self, key: Key<'a>) {

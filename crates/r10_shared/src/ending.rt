@@ -31,15 +31,17 @@ pub(crate) fn has_failed<M: BlockMedium, N: Rings>(held: &Held<M, N>) -> bool
     }
 }
 
-/// The recorder out of the lock, and of each feed what was left of its lane, whether the recorder failed or not. Where memory is refused, all
-/// comes back as it was.
+/// The recorder out of the lock, and of each feed what was left of its lane, whether the recorder failed or not. Where memory is
+/// refused, all comes back as it was.
 pub(crate) fn settle<M: BlockMedium, N: Rings>(
     alloc: Global,
     held: Held<M, N>,
     session: Session<N>,
 ) -> Result<SessionReport<M>, (Held<M, N>, Session<N>)>
-    ensures moved { IfOk result (λ report. AreMoved (λ feed. feed.line) (λ feed. feed.tally) N.rings held.recorder session.feeds.items report.feeds.items) }
-    ensures recorder { IfOk result (λ report. (report.recorder.kept ≡ held.recorder.kept) × (report.recorder.medium ≡ held.recorder.medium)) }
+    ensures moved { IfOk result
+        (λ report. AreMoved (λ feed. feed.line) (λ feed. feed.tally) N.rings held.recorder session.feeds.items report.feeds.items) }
+    ensures recorder { IfOk result
+        (λ report. (report.recorder.kept ≡ held.recorder.kept) × (report.recorder.medium ≡ held.recorder.medium)) }
     ensures transcripts { IfOk result (λ report. AreWrittenDown session.readings.items report.transcripts.items) }
     ensures refused { IfErr result (λ back. (back.0 ≡ held) × (back.1 ≡ session)) }
 {
@@ -70,14 +72,17 @@ pub(crate) fn settle<M: BlockMedium, N: Rings>(
     }
 }
 
-/// The end of a session, by what the lock kept. Refused: Failed where the recorder failed, OutOfMemory; then all comes back as it was.
+/// The end of a session, by what the lock kept. Refused: Failed where the recorder failed, OutOfMemory; then all comes back as it
+/// was.
 pub fn end_held<M: BlockMedium, N: Rings>(
     alloc: Global,
     held: Held<M, N>,
     session: Session<N>,
 ) -> Result<SessionReport<M>, (Held<M, N>, Session<N>, Refusal)>
-    ensures settled { IfOk result (λ report. Settles (λ feed. feed.line) (λ feed. feed.tally) report.recorder.kept (M.disk report.recorder.medium).blocks session.feeds.items report.feeds.items) }
-    ensures recorder { IfOk result (λ report. (report.recorder.kept ≡ held.recorder.kept) × (report.recorder.medium ≡ held.recorder.medium)) }
+    ensures settled { IfOk result (λ report. Settles (λ feed. feed.line) (λ feed. feed.tally) report.recorder.kept
+        (M.disk report.recorder.medium).blocks session.feeds.items report.feeds.items) }
+    ensures recorder { IfOk result
+        (λ report. (report.recorder.kept ≡ held.recorder.kept) × (report.recorder.medium ≡ held.recorder.medium)) }
     ensures transcripts { IfOk result (λ report. AreWrittenDown session.readings.items report.transcripts.items) }
     ensures refused { IfErr result (λ back. (back.0 ≡ held) × (back.1 ≡ session) × IsEndRefusal held.recorder.kept.work back.2) }
 {
@@ -97,9 +102,11 @@ pub fn end_session<M: BlockMedium, N: Rings>(
     cabinet: Cabinet<M, N>,
     session: Session<N>,
 ) -> Result<SessionReport<M>, (Cabinet<M, N>, Session<N>, Refusal)>
-    ensures settled { IfOk result (λ report. Settles (λ feed. feed.line) (λ feed. feed.tally) report.recorder.kept (M.disk report.recorder.medium).blocks session.feeds.items report.feeds.items) }
+    ensures settled { IfOk result (λ report. Settles (λ feed. feed.line) (λ feed. feed.tally) report.recorder.kept
+        (M.disk report.recorder.medium).blocks session.feeds.items report.feeds.items) }
     ensures transcripts { IfOk result (λ report. AreWrittenDown session.readings.items report.transcripts.items) }
-    ensures refused { IfErr result (λ back. (back.0 ≡ cabinet) × (back.1 ≡ session) × ((back.2 ≡ refusals.Failed) ⊎ (back.2 ≡ refusals.OutOfMemory))) }
+    ensures refused { IfErr result
+        (λ back. (back.0 ≡ cabinet) × (back.1 ≡ session) × ((back.2 ≡ refusals.Failed) ⊎ (back.2 ≡ refusals.OutOfMemory))) }
 {
     let (held, watch) = cabinet.into_parts();
     match end_held(alloc, held, session) {

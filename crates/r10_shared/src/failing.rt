@@ -22,16 +22,18 @@ pub enum NotEnded {
     OutOfMemory,
 }
 
-/// The end of a session whose recorder failed, by what the lock kept. The recorder comes as it is, with its medium. Where it did not fail, and
-/// where memory is refused, all comes back as it was.
+/// The end of a session whose recorder failed, by what the lock kept. The recorder comes as it is, with its medium. Where it did
+/// not fail, and where memory is refused, all comes back as it was.
 pub fn end_failed_held<M: BlockMedium, N: Rings>(
     alloc: Global,
     held: Held<M, N>,
     session: Session<N>,
 ) -> Result<SessionReport<M>, (Held<M, N>, Session<N>, NotEnded)>
-    ensures settled { IfOk result (λ report. FailedSettles (λ feed. feed.line) (λ feed. feed.tally) held.recorder.kept held.recorder.lanes session.feeds.items report.feeds.items) }
+    ensures settled { IfOk result (λ report. FailedSettles (λ feed. feed.line)
+        (λ feed. feed.tally) held.recorder.kept held.recorder.lanes session.feeds.items report.feeds.items) }
     ensures fails { IfOk result (λ report. report.recorder.kept.work ≡ failed) }
-    ensures recorder { IfOk result (λ report. (report.recorder.kept ≡ held.recorder.kept) × (report.recorder.medium ≡ held.recorder.medium)) }
+    ensures recorder { IfOk result
+        (λ report. (report.recorder.kept ≡ held.recorder.kept) × (report.recorder.medium ≡ held.recorder.medium)) }
     ensures transcripts { IfOk result (λ report. AreWrittenDown session.readings.items report.transcripts.items) }
     ensures refused { IfErr result (λ back. (back.0 ≡ held) × (back.1 ≡ session) × IsNotEnded held.recorder.kept.work back.2) }
 {
@@ -45,14 +47,15 @@ pub fn end_failed_held<M: BlockMedium, N: Rings>(
     }
 }
 
-/// The end of a session whose recorder failed, once no thread shares the cabinet any more. Where it did not fail, and where memory is refused,
-/// all comes back as it was.
+/// The end of a session whose recorder failed, once no thread shares the cabinet any more. Where it did not fail, and where memory
+/// is refused, all comes back as it was.
 pub fn end_failed_session<M: BlockMedium, N: Rings>(
     alloc: Global,
     cabinet: Cabinet<M, N>,
     session: Session<N>,
 ) -> Result<SessionReport<M>, (Cabinet<M, N>, Session<N>, NotEnded)>
-    ensures settled { IfOk result (λ report. (lanes : List Receiving) × FailedSettles (λ feed. feed.line) (λ feed. feed.tally) report.recorder.kept lanes session.feeds.items report.feeds.items) }
+    ensures settled { IfOk result (λ report. (lanes : List Receiving) × FailedSettles (λ feed. feed.line)
+        (λ feed. feed.tally) report.recorder.kept lanes session.feeds.items report.feeds.items) }
     ensures fails { IfOk result (λ report. report.recorder.kept.work ≡ failed) }
     ensures transcripts { IfOk result (λ report. AreWrittenDown session.readings.items report.transcripts.items) }
     ensures refused { IfErr result (λ back. (back.0 ≡ cabinet) × (back.1 ≡ session)) }

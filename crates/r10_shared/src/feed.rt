@@ -4,19 +4,19 @@ ghost use Rattle.std.specs.Prelude.{◌≡◌, ◌++◌, [], ◌∷◌, None, So
 ghost use Rattle.r10_held.specs.Naming.{ring_for};
 ghost use Rattle.r10_shared.specs.Levels.{level_of};
 
-use crate::line::Line;
+use crate::line::ChannelPort;
 use crate::source::{AnySource, Tally};
 use r10_gauge::{Gauge, Levels};
 use r10_held::Rings;
 use r10_port::Port;
 use std::sync::Wait;
 
-/// A source that waits for its worker, with its channel's line; and once it has run, the line, and what became of its messages. It may
-/// have a gauge, at which any thread sees the level of its lane while it runs.
+/// A source that waits for its worker, with its channel's line; and once it has run, the line, and what became of its messages. It
+/// may have a gauge, at which any thread sees the level of its lane while it runs.
 #[derive(Drop)]
 pub struct Feed<N: Rings> {
     pub(crate) source: Option<AnySource>,
-    pub(crate) line: Line<N>,
+    pub(crate) line: ChannelPort<N>,
     pub(crate) tally: Tally,
     pub(crate) gauge: Option<Gauge<Levels>>,
 }
@@ -33,7 +33,7 @@ impl<N: Rings> Feed<N> {
     {
         Feed {
             source: Some(source),
-            line: Line::new(channel, port),
+            line: ChannelPort::new(channel, port),
             tally: Tally::default(),
             gauge: None,
         }
@@ -63,7 +63,7 @@ impl<N: Rings> Feed<N> {
 
     /// The same feed with this gauge, at which it shows its lane's level now, and then after each turn that sent or lost a message.
     /// A feed has one gauge: the one that it had is gone.
-    pub fn watched<R: Wait>(self, rt: &R, gauge: Gauge<Levels>) -> Feed<N>
+    pub fn with_gauge<R: Wait>(self, rt: &R, gauge: Gauge<Levels>) -> Feed<N>
         ensures line { result.line ≡ self.line }
         ensures source { result.source ≡ self.source }
         ensures tally { result.tally ≡ self.tally }

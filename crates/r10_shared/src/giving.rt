@@ -44,7 +44,8 @@ fn goes_on(answer: Result<Reply, Refusal>) -> bool
 
 /// Gives an order, and wakes the writer. Whether control goes on.
 fn give_one<C: Control>(at: &mut C, order: &Order) -> bool
-    ensures { (answer : Result ReplyValue RefusalValue) × C.asked at.old (Gives order.now answer ∷ Wakes ∷ []) at.new × (result ≡ passes answer) }
+    ensures { (answer : Result ReplyValue RefusalValue)
+        × C.asked at.old (Gives order.now answer ∷ Wakes ∷ []) at.new × (result ≡ passes answer) }
 {
     let on = goes_on(at.ask(order));
     at.wake();

@@ -4,8 +4,8 @@ ghost use Rattle.std.specs.Prelude.{◌≡◌, []};
 ghost use Rattle.r10_shared.specs.SinkLaws.{hands_at, hands_both, hands_stay};
 ghost use Rattle.r10_shared.specs.Sinks.{HandsOn, HandsTo};
 
-use crate::reader::Reader;
-use crate::reading::{Reading, pass_over};
+use crate::reader::SessionReader;
+use crate::reading::{Transcribing, pass_over};
 use crate::sink::Sink;
 use r10_body::Refusal;
 use r10_held::{Cabinet, Player, Rings};
@@ -16,7 +16,7 @@ use std::sync::Wait;
 /// A player that hands on each instalment to its sink as it comes. Without a sink it writes them down.
 #[derive(Drop)]
 pub struct Handing<K: Sink> {
-    pub(crate) reading: Reading,
+    pub(crate) reading: Transcribing,
     pub(crate) sink: Option<K>,
 }
 
@@ -28,7 +28,7 @@ impl<K: Sink> Handing<K> {
         ensures sink { result.sink ≡ sink }
     {
         Handing {
-            reading: Reading {
+            reading: Transcribing {
                 player,
                 instalments: Vec::new(alloc),
             },
@@ -37,7 +37,7 @@ impl<K: Sink> Handing<K> {
     }
 
     /// The player, with the instalment that its sink refused or, without a sink, all that it took; and the sink.
-    pub fn into_parts(self) -> (Reading, Option<K>)
+    pub fn into_parts(self) -> (Transcribing, Option<K>)
         ensures reading { result.0 ≡ self.reading }
         ensures sink { result.1 ≡ self.sink }
     {
@@ -51,7 +51,7 @@ fn hand_next<M: BlockMedium, N: Rings, R: Wait, K: Sink>(
     rt: &R,
     alloc: Global,
     cabinet: &Cabinet<M, N>,
-    reading: &mut Reading,
+    reading: &mut Transcribing,
     sink: &mut K,
 ) -> Result<(), Refusal>
     requires { reading.old.player.pass.cell ≡ cabinet.now }
@@ -78,7 +78,7 @@ fn take_next<M: BlockMedium, N: Rings, R: Wait, K: Sink>(
     rt: &R,
     alloc: Global,
     cabinet: &Cabinet<M, N>,
-    reading: &mut Reading,
+    reading: &mut Transcribing,
     sink: &mut Option<K>,
 ) -> Result<(), Refusal>
     requires { reading.old.player.pass.cell ≡ cabinet.now }
@@ -90,7 +90,7 @@ fn take_next<M: BlockMedium, N: Rings, R: Wait, K: Sink>(
     }
 }
 
-impl<K: Sink> Reader for Handing<K> {
+impl<K: Sink> SessionReader for Handing<K> {
     ghost gauge = { λ handing. handing.reading.player.pass.cell };
 
     ghost reads_on = { λ old new. HandsOn K.accepted K.has_refused old.reading old.sink new.reading new.sink };
@@ -112,5 +112,6 @@ impl<K: Sink> Reader for Handing<K> {
 
     ghost reads_none = { λ r. hands_stay K.accepted K.has_refused r.reading r.sink };
 
-    ghost reads_join = { λ r s t first then. hands_both K.accepted K.has_refused r.reading r.sink s.reading s.sink t.reading t.sink first then };
+    ghost reads_join = { λ r s t first then. hands_both K.accepted K.has_refused r.reading r.sink s.reading s.sink
+        t.reading t.sink first then };
 }

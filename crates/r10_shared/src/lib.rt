@@ -1,4 +1,5 @@
-//! A recorder between threads: workers that feed its lanes from sources, write, give orders and read, and what became of each message.
+//! A recorder between threads: workers that feed its lanes from sources, write, give orders and read, and what became of each
+//! message.
 #![tactic(auto)]
 
 mod desk;
@@ -32,11 +33,11 @@ pub use feed::Feed;
 pub use gate::{Gate, Open};
 pub use giving::{Control, give};
 pub use handing::Handing;
-pub use line::Line;
+pub use line::ChannelPort;
 pub use order::Order;
 pub use r10_gauge::{Gauge, Level, Levels, Pass, Watch};
 pub use r10_held::{Cabinet, Gauged, Held, Instalment, Player, Rings, Transcript};
-pub use reading::Reading;
+pub use reading::Transcribing;
 pub use report::{FeedReport, SessionReport, audit};
 pub use rounds::{Recording, Round, Turn, go_round};
 pub use session::{Session, run_session, run_session_handing, run_session_until};

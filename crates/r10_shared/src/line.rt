@@ -20,13 +20,13 @@ use std::sync::Wait;
 
 /// A channel, with the sending end of its lane: that of the ring which `N` names for the channel. Contracts see both.
 #[derive(Drop)]
-pub struct Line<N: Rings> {
+pub struct ChannelPort<N: Rings> {
     channel: u16,
     port: Port,
     of: PhantomData<N>,
 }
 
-impl<N: Rings> Model for Line<N> {
+impl<N: Rings> Model for ChannelPort<N> {
     ghost use Rattle.std.specs.Prelude.{◌≡◌, Some};
     ghost use Rattle.r10_held.specs.Naming.{ring_for};
     ghost use Rattle.r10_shared.specs.Naming.{SendingLine};
@@ -38,13 +38,13 @@ impl<N: Rings> Model for Line<N> {
     ghost invariant = { λ l. ring_for l.channel N.rings ≡ Some l.port.ring };
 }
 
-impl<N: Rings> Line<N> {
+impl<N: Rings> ChannelPort<N> {
     /// The channel's line.
-    pub(crate) fn new(channel: u16, port: Port) -> Line<N>
+    pub(crate) fn new(channel: u16, port: Port) -> ChannelPort<N>
         requires { ring_for channel N.rings ≡ Some port.ring }
         ensures { result ≡ record { channel = channel; port = port } }
     {
-        Line {
+        ChannelPort {
             channel,
             port,
             of: PhantomData,
@@ -111,7 +111,8 @@ impl<N: Rings> Line<N> {
         requires { outlet.old.ring ≡ self.old.port.ring }
         ensures all { sent self.old.port ≡ outlet.old.received ++ unreceived outlet.old self.old.port }
         ensures spec { outlet.new.spec ≡ outlet.old.spec }
-        ensures moved { into.new.items ≡ into.old.items ++ take (vec_capacity into.old - length into.old.items) (unreceived outlet.old self.old.port) }
+        ensures moved { into.new.items
+            ≡ into.old.items ++ take (vec_capacity into.old - length into.old.items) (unreceived outlet.old self.old.port) }
     {
         outlet.rest_into(&mut self.port, into);
     }

@@ -3,7 +3,8 @@
 ghost use Rattle.std.specs.Prelude.{◌≡◌, IfErr, MatchResult, None, OnOk, Some};
 ghost use Rattle.r10_control.specs.Checks.{recorder_refusal};
 ghost use Rattle.r10_control.specs.Leading.{MachinesKeepShown};
-ghost use Rattle.r10_shared.specs.Orders.{HasDone, LanesStayBut, LeavesAs, OwnsAs, Performs, PublishesAs, RefusesAs, event_of, order_of};
+ghost use Rattle.r10_shared.specs.Orders.{HasDone, LanesStayBut, LeavesAs, OwnsAs, Performs};
+ghost use Rattle.r10_shared.specs.Orders.{PublishesAs, RefusesAs, event_of, order_of};
 
 use r10_body::Refusal;
 use r10_count::{Items, Parts};
@@ -45,7 +46,8 @@ impl Order {
         }
     }
 
-    /// Asks it of the recorder under the lock: Done, or of a stop how many samples it took and how many are left. Refused as that call.
+    /// Asks it of the recorder under the lock: Done, or of a stop how many samples it took and how many are left. Refused as that
+    /// call.
     pub fn perform<M: BlockMedium, N: Rings, R: Wait>(
         &self,
         rt: &R,
@@ -57,7 +59,8 @@ impl Order {
         ensures effect { OnOk result (HasDone M.disk self.now held.old held.new) }
         ensures lanes { LanesStayBut self.now held.old held.new }
         ensures owned { OwnsAs M.disk self.now held.old held.new result }
-        ensures shown { MachinesKeepShown held.old.recorder.kept (M.disk held.old.recorder.medium).blocks (M.disk held.old.recorder.medium).failures (M.disk held.new.recorder.medium).blocks }
+        ensures shown { MachinesKeepShown held.old.recorder.kept (M.disk held.old.recorder.medium).blocks
+            (M.disk held.old.recorder.medium).failures (M.disk held.new.recorder.medium).blocks }
         ensures power_loss { LeavesAs M.disk self.now held.old held.new result }
         ensures publishes { PublishesAs self.now held.old held.new result }
         ensures config { held.new.recorder.kept.config ≡ held.old.recorder.kept.config }

@@ -10,7 +10,7 @@ use std::alloc::Global;
 use std::sync::Wait;
 
 /// A player of a session, with what it took.
-pub(crate) trait Reader {
+pub(crate) trait SessionReader {
     /// The gauge at which it looks.
     ghost gauge: { Self → TableId };
 

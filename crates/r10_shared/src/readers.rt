@@ -6,7 +6,7 @@ ghost use Rattle.r10_shared.specs.Watching.{IsWatching};
 
 use crate::desk::ReadersDesk;
 use crate::gate::Gate;
-use crate::reader::Reader;
+use crate::reader::SessionReader;
 use crate::waiting::Progress;
 use crate::watching::watch;
 use r10_held::{Cabinet, Rings};
@@ -17,7 +17,7 @@ use std::thread;
 use std::thread::Threads;
 
 /// Passes the gate, drops what was still to be given, and then reads.
-fn read<M: BlockMedium, N: Rings, R: Wait, G: Gate, D: Reader>(
+fn read<M: BlockMedium, N: Rings, R: Wait, G: Gate, D: SessionReader>(
     rt: &R,
     alloc: Global,
     cabinet: &Cabinet<M, N>,
@@ -42,13 +42,14 @@ fn read<M: BlockMedium, N: Rings, R: Wait, G: Gate, D: Reader>(
     }
 }
 
-/// All players read at the same time, each by a worker of its own, as far as threads can be made; their workers' numbers go on from the first.
+/// All players read at the same time, each by a worker of its own, as far as threads can be made; their workers' numbers go on from
+/// the first.
 pub(crate) fn read_all<
     M: BlockMedium + Send,
     N: Rings + Send + Sync,
     R: Threads + Wait + Sync,
     G: Gate + Sync,
-    D: Reader + Send,
+    D: SessionReader + Send,
 >(
     rt: &R,
     alloc: Global,
@@ -60,7 +61,8 @@ pub(crate) fn read_all<
 )
     requires { All (λ reading. D.gauge reading ≡ cabinet.now) readings.old }
     ensures watch { (i : ℕ) → i < length readings.old → Worked (G.answers gate.now (number_after first i)) IsWatching IsNoted }
-    ensures read { (i : ℕ) (d : _) → i < length readings.old → D.reads_on (slice_index_or readings.old i d) (slice_index_or readings.new i d) }
+    ensures read { (i : ℕ) (d : _) → i < length readings.old
+        → D.reads_on (slice_index_or readings.old i d) (slice_index_or readings.new i d) }
 {
     let threads = readings.len();
     if threads > 0 {
@@ -70,7 +72,8 @@ pub(crate) fn read_all<
             threads,
             &|place: usize, reading: &mut D|
                 requires { D.gauge reading.old ≡ cabinet.now }
-                ensures { Worked (G.answers gate.entry.now (number_after first place)) IsWatching IsNoted × D.reads_on reading.old reading.new }
+                ensures { Worked (G.answers gate.entry.now (number_after first place)) IsWatching IsNoted
+                    × D.reads_on reading.old reading.new }
             {
                 read(
                     rt,

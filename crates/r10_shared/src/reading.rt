@@ -5,7 +5,7 @@ ghost use Rattle.r10_held.specs.declared.transcript.Instalment.{Instalment as In
 ghost use Rattle.r10_shared.specs.ReadingLaws.{reads_both, reads_stay};
 ghost use Rattle.r10_shared.specs.Readings.{HasTaken, ReadsOn};
 
-use crate::reader::Reader;
+use crate::reader::SessionReader;
 use r10_body::Refusal;
 use r10_count::Items;
 use r10_held::{Cabinet, Instalment, Player, Rings};
@@ -22,12 +22,12 @@ pub(crate) fn pass_over(alloc: Global, player: &mut Player)
 
 /// A player, and what it wrote down.
 #[derive(Drop)]
-pub struct Reading {
+pub struct Transcribing {
     pub(crate) player: Player,
     pub(crate) instalments: Vec<Instalment>,
 }
 
-impl Reading {
+impl Transcribing {
     /// Takes the next instalment, and writes it down unless nothing came to it.
     pub(crate) fn write_next<M: BlockMedium, N: Rings, R: Wait>(
         &mut self,
@@ -62,7 +62,7 @@ impl Reading {
         ensures player { result.0 ≡ self.player }
         ensures instalments { result.1.items ≡ self.instalments.items }
     {
-        let Reading {
+        let Transcribing {
             player,
             instalments,
         } = self;
@@ -70,7 +70,7 @@ impl Reading {
     }
 }
 
-impl Reader for Reading {
+impl SessionReader for Transcribing {
     ghost gauge = { λ reading. reading.player.pass.cell };
 
     ghost reads_on = { ReadsOn };

@@ -13,8 +13,8 @@ use r10_lane::Spent;
 use r10_medium::BlockMedium;
 use std::alloc::Global;
 
-/// What became of the messages of a feed, each number up to `u64::MAX`. Of a session whose recorder failed, `erased` and `filed` are what the
-/// recorder had counted: what the failed call took is in neither, and what was not committed may be in no file.
+/// What became of the messages of a feed, each number up to `u64::MAX`. Of a session whose recorder failed, `erased` and `filed`
+/// are what the recorder had counted: what the failed call took is in neither, and what was not committed may be in no file.
 #[derive(Debug, Drop)]
 pub struct FeedReport {
     pub channel: u16,
@@ -47,14 +47,18 @@ pub struct SessionReport<M: BlockMedium> {
     pub transcripts: Vec<Transcript>,
 }
 
-/// Whether what the players wrote down agrees with the recorder's files as they stand: each transcript's file is there, each instalment begins where
-/// the one before it ended, and has what was wanted between its places, in order. Refused: Failed, BadFile of the first that doesn't agree,
-/// Medium, OutOfMemory.
+/// Whether what the players wrote down agrees with the recorder's files as they stand: each transcript's file is there, each
+/// instalment begins where the one before it ended, and has what was wanted between its places, in order. Refused: Failed, BadFile
+/// of the first that doesn't agree, Medium, OutOfMemory.
 pub fn audit<M: BlockMedium>(alloc: Global, report: &mut SessionReport<M>) -> Result<bool, Refusal>
-    ensures agrees { IfOk result (λ yes. IsTrue yes ↔ AllAgree report.old.recorder.kept.work (M.disk report.old.recorder.medium).blocks report.old.transcripts.items) }
-    ensures there { OnOk result (AreAbsentOrRead report.old.recorder.kept.work (M.disk report.old.recorder.medium).blocks report.old.transcripts.items) }
+    ensures agrees { IfOk result (λ yes. IsTrue yes
+        ↔ AllAgree report.old.recorder.kept.work (M.disk report.old.recorder.medium).blocks report.old.transcripts.items) }
+    ensures there { OnOk result
+        (AreAbsentOrRead report.old.recorder.kept.work (M.disk report.old.recorder.medium).blocks report.old.transcripts.items) }
     ensures passed { OnOk result (audit_refusal report.old.recorder.kept ≡ None) }
-    ensures refused { IfErr result (RefusesCall M.disk (audit_refusal report.old.recorder.kept) (IsFirstRefused report.old.recorder.kept.work (M.disk report.old.recorder.medium).blocks report.old.transcripts.items) report.old.recorder.kept report.new.recorder.kept report.old.recorder.medium report.new.recorder.medium) }
+    ensures refused { IfErr result (RefusesCall M.disk (audit_refusal report.old.recorder.kept)
+        (IsFirstRefused report.old.recorder.kept.work (M.disk report.old.recorder.medium).blocks report.old.transcripts.items)
+        report.old.recorder.kept report.new.recorder.kept report.old.recorder.medium report.new.recorder.medium) }
     ensures reads { OnlyReads M.disk report.old.recorder report.new.recorder result }
     ensures same { (report.new.feeds ≡ report.old.feeds) × (report.new.transcripts ≡ report.old.transcripts) }
 {

@@ -2,11 +2,12 @@
 
 ghost use Rattle.std.specs.Prelude.{◌≡◌, ◌==◌, ℕ, IfSome, IsSomeAnd};
 ghost use Rattle.std.specs.List.{list_any, position};
-ghost use Rattle.r10_shared.specs.Settling.{AreBegun, AreReady, AreWrittenDown, Drains, HasDrained, IsReportReady, MayDrain, receiving_of};
+ghost use Rattle.r10_shared.specs.Settling.{AreBegun, AreReady, AreWrittenDown, Drains};
+ghost use Rattle.r10_shared.specs.Settling.{HasDrained, IsReportReady, MayDrain, receiving_of};
 
 use crate::feed::Feed;
-use crate::line::Line;
-use crate::reading::Reading;
+use crate::line::ChannelPort;
+use crate::reading::Transcribing;
 use crate::report::FeedReport;
 use r10_held::{Held, Rings, Transcript};
 use r10_lane::LaneOut;
@@ -15,8 +16,8 @@ use r10_port::Outlet;
 use std::alloc::Global;
 use std::mem;
 
-/// The report of a feed, with room for the rest. None where memory is refused, where the recorder has no such channel, and where the number of
-/// messages that were sent is not known.
+/// The report of a feed, with room for the rest. None where memory is refused, where the recorder has no such channel, and where
+/// the number of messages that were sent is not known.
 fn room_for<M: BlockMedium, N: Rings>(
     alloc: Global,
     held: &Held<M, N>,
@@ -58,7 +59,8 @@ pub(crate) fn rooms_for<M: BlockMedium, N: Rings>(
     held: &Held<M, N>,
     feeds: &[Feed<N>],
 ) -> Option<Vec<FeedReport>>
-    ensures { IfSome result (λ reports. AreReady (λ feed. feed.line) (λ feed. feed.tally) N.rings held.now.recorder.kept feeds.now reports.items) }
+    ensures { IfSome result
+        (λ reports. AreReady (λ feed. feed.line) (λ feed. feed.tally) N.rings held.now.recorder.kept feeds.now reports.items) }
 {
     let Ok(room) = Vec::with_capacity(alloc, feeds.len()) else {
         return None;
@@ -84,10 +86,16 @@ fn place_of(outlets: &[Outlet], channel: u16) -> Option<usize>
 }
 
 /// Moves what is left of a channel's lane into the room of its report.
-fn drain_one<N: Rings>(outlets: &mut Vec<Outlet>, line: &mut Line<N>, report: &mut FeedReport)
+fn drain_one<N: Rings>(
+    outlets: &mut Vec<Outlet>,
+    line: &mut ChannelPort<N>,
+    report: &mut FeedReport,
+)
     requires { IsSomeAnd (receiving_of line.old.channel outlets.old.items) (λ outlet. outlet.ring ≡ line.old.port.ring) }
-    ensures drained { IsSomeAnd (receiving_of line.old.channel outlets.old.items) (λ outlet. Drains outlet line.old.port report.old report.new) }
-    ensures others { (channel : ℕ) → (channel ≡ line.old.channel → ⊥) → receiving_of channel outlets.new.items ≡ receiving_of channel outlets.old.items }
+    ensures drained { IsSomeAnd (receiving_of line.old.channel outlets.old.items)
+        (λ outlet. Drains outlet line.old.port report.old report.new) }
+    ensures others { (channel : ℕ) → (channel ≡ line.old.channel → ⊥)
+        → receiving_of channel outlets.new.items ≡ receiving_of channel outlets.old.items }
 {
     let Some(at) = place_of(outlets, line.channel()) else {
         return;
@@ -110,7 +118,7 @@ pub(crate) fn drain_all<N: Rings>(
 }
 
 /// What the players are to read, with nothing of what they wrote down. None where memory is refused.
-pub(crate) fn transcripts_for(alloc: Global, readings: &[Reading]) -> Option<Vec<Transcript>>
+pub(crate) fn transcripts_for(alloc: Global, readings: &[Transcribing]) -> Option<Vec<Transcript>>
     ensures { IfSome result (λ transcripts. AreBegun readings.now transcripts.items) }
 {
     let Ok(room) = Vec::with_capacity(alloc, readings.len()) else {
@@ -127,7 +135,7 @@ pub(crate) fn transcripts_for(alloc: Global, readings: &[Reading]) -> Option<Vec
 }
 
 /// Hands over what the players wrote down.
-pub(crate) fn hand_over(transcripts: &mut Vec<Transcript>, readings: &mut Vec<Reading>)
+pub(crate) fn hand_over(transcripts: &mut Vec<Transcript>, readings: &mut Vec<Transcribing>)
     requires { AreBegun readings.old.items transcripts.old.items }
     ensures { AreWrittenDown readings.old.items transcripts.new.items }
 {

@@ -24,7 +24,8 @@ pub struct Round {
     pub committed: bool,
 }
 
-/// A recorder, as the writer asks of it while it holds the lock. Its contracts see what was asked of it, in order, with the answers.
+/// A recorder, as the writer asks of it while it holds the lock. Its contracts see what was asked of it, in order, with the
+/// answers.
 pub trait Recording {
     /// How many channels it has.
     ghost number: { Self → ℕ };
@@ -63,7 +64,7 @@ pub(crate) fn is_end(refusal: Refusal) -> bool
 }
 
 /// What a pump comes to.
-fn came(pumped: Result<usize, Refusal>) -> Turn
+fn turn_of(pumped: Result<usize, Refusal>) -> Turn
     ensures { result ≡ came_to pumped }
 {
     match pumped {
@@ -81,14 +82,16 @@ fn came(pumped: Result<usize, Refusal>) -> Turn
 /// Pumps the channel at a place of the settings.
 fn pump_at<H: Recording>(held: &mut H, place: usize) -> Turn
     requires { place < H.number held.old }
-    ensures { (answer : Result ℕ RefusalValue) × H.asked held.old (Pumps place 64 answer ∷ []) held.new × (result ≡ came_to answer) }
+    ensures { (answer : Result ℕ RefusalValue)
+        × H.asked held.old (Pumps place 64 answer ∷ []) held.new × (result ≡ came_to answer) }
 {
-    came(held.pump_place(place, 64))
+    turn_of(held.pump_place(place, 64))
 }
 
 /// Pumps each channel in turn, up to the first pump that ends the writer.
 fn pump_each<H: Recording>(held: &mut H) -> Turn
-    ensures { (answers : List (Result ℕ RefusalValue)) × H.asked held.old (pumps_from 0 answers) held.new × ArePumps (H.number held.old) answers result }
+    ensures { (answers : List (Result ℕ RefusalValue)) × H.asked held.old (pumps_from 0 answers) held.new
+        × ArePumps (H.number held.old) answers result }
 {
     let channels = held.channel_count();
     let mut turn = Turn::Idle;
@@ -104,7 +107,8 @@ fn pump_each<H: Recording>(held: &mut H) -> Turn
 
 /// Shows what the file has after such a turn.
 fn commit<H: Recording, R: Wait>(rt: &R, held: &mut H, turn: Turn) -> Round
-    ensures { (answer : Result (Unit {0}) RefusalValue) × H.asked held.old (Commits answer ∷ []) held.new × (result ≡ committed turn answer) }
+    ensures { (answer : Result (Unit {0}) RefusalValue) × H.asked held.old (Commits answer ∷ []) held.new
+        × (result ≡ committed turn answer) }
 {
     let turn = match held.commit_all(rt) {
         Ok(()) => turn,
@@ -116,8 +120,9 @@ fn commit<H: Recording, R: Wait>(rt: &R, held: &mut H, turn: Turn) -> Round
     }
 }
 
-/// Goes round the channels of a recorder that is held: it pumps each in turn, with 64 messages at most, and then commits if something was moved, or if
-/// the round is to be the last. Failed or OutOfMemory ends the round, and the writer; other refusals are passed over.
+/// Goes round the channels of a recorder that is held: it pumps each in turn, with 64 messages at most, and then commits if
+/// something was moved, or if the round is to be the last. Failed or OutOfMemory ends the round, and the writer; other refusals are
+/// passed over.
 pub fn go_round<H: Recording, R: Wait>(rt: &R, held: &mut H, last: bool) -> Round
     ensures { Asks H.asked (IsRound (H.number held.old) last result) held.old held.new }
 {

@@ -22,9 +22,11 @@ fn work<N: Rings, R: Wait, G: Gate, S: Stop>(
     feed: &mut Feed<N>,
     progress: &Progress,
 )
-    ensures until { HasRunUntil (G.answers gate.now worker) (S.answers stop.now) (λ s. rest s) feed.old.source feed.old.line feed.new.line feed.new.tally }
+    ensures until { HasRunUntil (G.answers gate.now worker) (S.answers stop.now)
+        (λ s. rest s) feed.old.source feed.old.line feed.new.line feed.new.tally }
     ensures run { HasRun (λ s. rest s) feed.old.source feed.old.line feed.old.tally feed.new.line feed.new.tally }
-    ensures shown { HasShown (λ s. rest s) feed.old.source feed.old.line feed.old.gauge feed.new.line feed.new.tally feed.new.gauge }
+    ensures shown { HasShown (λ s. rest s) feed.old.source feed.old.line feed.old.gauge feed.new.line
+        feed.new.tally feed.new.gauge }
 {
     if let Some(source) = feed.source.take() {
         feed.tally = feed
@@ -42,9 +44,15 @@ pub(crate) fn run_feeds<
     G: Gate + Sync,
     S: Stop + Sync,
 >(rt: &R, gate: &G, stop: &S, feeds: &mut [Feed<N>], progress: &Progress)
-    ensures until { (i : ℕ) (d : _) → i < length feeds.old → HasRunUntil (G.answers gate.now i) (S.answers stop.now) (λ s. rest s) (slice_index_or feeds.old i d).source (slice_index_or feeds.old i d).line (slice_index_or feeds.new i d).line (slice_index_or feeds.new i d).tally }
-    ensures run { (i : ℕ) (d : _) → i < length feeds.old → HasRun (λ s. rest s) (slice_index_or feeds.old i d).source (slice_index_or feeds.old i d).line (slice_index_or feeds.old i d).tally (slice_index_or feeds.new i d).line (slice_index_or feeds.new i d).tally }
-    ensures shown { (i : ℕ) (d : _) → i < length feeds.old → HasShown (λ s. rest s) (slice_index_or feeds.old i d).source (slice_index_or feeds.old i d).line (slice_index_or feeds.old i d).gauge (slice_index_or feeds.new i d).line (slice_index_or feeds.new i d).tally (slice_index_or feeds.new i d).gauge }
+    ensures until { (i : ℕ) (d : _) → i < length feeds.old
+        → HasRunUntil (G.answers gate.now i) (S.answers stop.now) (λ s. rest s) (slice_index_or feeds.old i d).source
+        (slice_index_or feeds.old i d).line (slice_index_or feeds.new i d).line (slice_index_or feeds.new i d).tally }
+    ensures run { (i : ℕ) (d : _) → i < length feeds.old
+        → HasRun (λ s. rest s) (slice_index_or feeds.old i d).source (slice_index_or feeds.old i d).line
+        (slice_index_or feeds.old i d).tally (slice_index_or feeds.new i d).line (slice_index_or feeds.new i d).tally }
+    ensures shown { (i : ℕ) (d : _) → i < length feeds.old → HasShown (λ s. rest s) (slice_index_or feeds.old i d).source
+        (slice_index_or feeds.old i d).line (slice_index_or feeds.old i d).gauge (slice_index_or feeds.new i d).line
+        (slice_index_or feeds.new i d).tally (slice_index_or feeds.new i d).gauge }
 {
     let threads = feeds.len();
     if threads > 0 {
@@ -53,8 +61,10 @@ pub(crate) fn run_feeds<
             feeds,
             threads,
             &|worker: usize, feed: &mut Feed<N>|
-                ensures { HasRunUntil (G.answers gate.entry.now worker) (S.answers stop.entry.now) (λ s. rest s) feed.old.source feed.old.line feed.new.line feed.new.tally × HasRun (λ s. rest s) feed.old.source feed.old.line feed.old.tally feed.new.line feed.new.tally
-                    × HasShown (λ s. rest s) feed.old.source feed.old.line feed.old.gauge feed.new.line feed.new.tally feed.new.gauge }
+                ensures { HasRunUntil (G.answers gate.entry.now worker) (S.answers stop.entry.now)
+                    (λ s. rest s) feed.old.source feed.old.line feed.new.line feed.new.tally
+                    × HasRun (λ s. rest s) feed.old.source feed.old.line feed.old.tally feed.new.line feed.new.tally × HasShown
+                    (λ s. rest s) feed.old.source feed.old.line feed.old.gauge feed.new.line feed.new.tally feed.new.gauge }
             { work(rt, gate, worker, stop, feed, progress) },
         );
     }

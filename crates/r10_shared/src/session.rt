@@ -1,6 +1,7 @@
 //! A session: all workers at the same time.
 
-ghost use Rattle.std.specs.Prelude.{◌≡◌, ◌<◌, ◌≤◌, ℕ, All, IfErr, IfOk, OnOk, [], length, map, slice_index_or, vec_capacity, vec_len};
+ghost use Rattle.std.specs.Prelude.{◌≡◌, ◌<◌, ◌≤◌, ℕ, All, IfErr, IfOk, OnOk, [], length};
+ghost use Rattle.std.specs.Prelude.{map, slice_index_or, vec_capacity, vec_len};
 ghost use Rattle.r10_shared.specs.Desk.{IsNoted, WasAsked, WasTurned, Worked, number_after};
 ghost use Rattle.r10_shared.specs.Feeding.{HasRun, HasRunUntil, HasRunWhole};
 ghost use Rattle.r10_shared.specs.Giving.{GivesInTurn};
@@ -14,9 +15,9 @@ use crate::feed::Feed;
 use crate::gate::Gate;
 use crate::handing::Handing;
 use crate::order::Order;
-use crate::reader::Reader;
+use crate::reader::SessionReader;
 use crate::readers::read_all;
-use crate::reading::Reading;
+use crate::reading::Transcribing;
 use crate::running::run_feeds;
 use crate::sink::Sink;
 use crate::stop::{Never, Stop};
@@ -33,12 +34,12 @@ use std::thread::Threads;
 #[derive(Drop)]
 pub struct Session<N: Rings> {
     pub(crate) feeds: Vec<Feed<N>>,
-    pub(crate) readings: Vec<Reading>,
+    pub(crate) readings: Vec<Transcribing>,
 }
 
 impl<N: Rings> Session<N> {
     /// These feeds and readings, to be ended as a session.
-    pub fn of(feeds: Vec<Feed<N>>, readings: Vec<Reading>) -> Session<N>
+    pub fn of(feeds: Vec<Feed<N>>, readings: Vec<Transcribing>) -> Session<N>
         ensures feeds { result.feeds.items ≡ feeds.items }
         ensures readings { result.readings.items ≡ readings.items }
     {
@@ -47,7 +48,7 @@ impl<N: Rings> Session<N> {
 
     /// The feeds as they were run, and the players with what they wrote down: for a further session of the same cabinet, and to
     /// hand out what was written down so far.
-    pub fn apart(self) -> (Vec<Feed<N>>, Vec<Reading>)
+    pub fn apart(self) -> (Vec<Feed<N>>, Vec<Transcribing>)
         ensures feeds { result.0.items ≡ self.feeds.items }
         ensures readings { result.1.items ≡ self.readings.items }
     {
@@ -62,7 +63,7 @@ fn write_and_read<
     N: Rings + Send + Sync,
     R: Threads + Wait + Sync,
     G: Gate + Sync,
-    D: Reader + Send,
+    D: SessionReader + Send,
 >(
     rt: &R,
     alloc: Global,
@@ -76,11 +77,14 @@ fn write_and_read<
     requires { All (λ reading. D.gauge reading ≡ cabinet.now) readings.old }
     ensures writes { Worked (G.answers gate.now first) IsWriting (WasTurned M.disk N.rings) }
     ensures gives { Worked (G.answers gate.now (number_after first 1)) (GivesInTurn orders.now) (WasAsked M.disk N.rings) }
-    ensures watch { (i : ℕ) → i < length readings.old → Worked (G.answers gate.now (number_after (number_after first 2) i)) IsWatching IsNoted }
-    ensures read { (i : ℕ) (d : _) → i < length readings.old → D.reads_on (slice_index_or readings.old i d) (slice_index_or readings.new i d) }
+    ensures watch { (i : ℕ) → i < length readings.old
+        → Worked (G.answers gate.now (number_after (number_after first 2) i)) IsWatching IsNoted }
+    ensures read { (i : ℕ) (d : _) → i < length readings.old
+        → D.reads_on (slice_index_or readings.old i d) (slice_index_or readings.new i d) }
 {
     let mut writing = ||
-        ensures { Worked (G.answers gate.entry.now first) IsWriting (WasTurned M.disk N.rings) × Worked (G.answers gate.entry.now (number_after first 1)) (GivesInTurn orders.entry.now) (WasAsked M.disk N.rings) }
+        ensures { Worked (G.answers gate.entry.now first) IsWriting (WasTurned M.disk N.rings)
+            × Worked (G.answers gate.entry.now (number_after first 1)) (GivesInTurn orders.entry.now) (WasAsked M.disk N.rings) }
     {
         thread::join(
             rt,
@@ -90,8 +94,10 @@ fn write_and_read<
     };
     let mut reading = ||
         requires { All (λ reading. D.gauge reading ≡ cabinet.now) readings.now }
-        ensures { ((i : ℕ) → i < length readings.entry.now → Worked (G.answers gate.entry.now (number_after (number_after first 2) i)) IsWatching IsNoted)
-            × ((i : ℕ) (d : _) → i < length readings.entry.now → D.reads_on (slice_index_or readings.entry.now i d) (slice_index_or readings.exit.now i d)) }
+        ensures { ((i : ℕ) → i < length readings.entry.now
+            → Worked (G.answers gate.entry.now (number_after (number_after first 2) i)) IsWatching IsNoted)
+            × ((i : ℕ) (d : _) → i < length readings.entry.now
+            → D.reads_on (slice_index_or readings.entry.now i d) (slice_index_or readings.exit.now i d)) }
     {
         read_all(
             rt,
@@ -113,7 +119,7 @@ fn run_all<
     R: Threads + Wait + Sync,
     G: Gate + Sync,
     S: Stop + Sync,
-    D: Reader + Send,
+    D: SessionReader + Send,
 >(
     rt: &R,
     alloc: Global,
@@ -125,34 +131,53 @@ fn run_all<
     readings: &mut [D],
 )
     requires { All (λ reading. D.gauge reading ≡ cabinet.now) readings.old }
-    ensures feeds { (i : ℕ) (d : _) → i < length feeds.old → HasRun (λ s. rest s) (slice_index_or feeds.old i d).source (slice_index_or feeds.old i d).line (slice_index_or feeds.old i d).tally (slice_index_or feeds.new i d).line (slice_index_or feeds.new i d).tally }
-    ensures until { (i : ℕ) (d : _) → i < length feeds.old → HasRunUntil (G.answers gate.now i) (S.answers stop.now) (λ s. rest s) (slice_index_or feeds.old i d).source (slice_index_or feeds.old i d).line (slice_index_or feeds.new i d).line (slice_index_or feeds.new i d).tally }
-    ensures shown { (i : ℕ) (d : _) → i < length feeds.old → HasShown (λ s. rest s) (slice_index_or feeds.old i d).source (slice_index_or feeds.old i d).line (slice_index_or feeds.old i d).gauge (slice_index_or feeds.new i d).line (slice_index_or feeds.new i d).tally (slice_index_or feeds.new i d).gauge }
+    ensures feeds { (i : ℕ) (d : _) → i < length feeds.old
+        → HasRun (λ s. rest s) (slice_index_or feeds.old i d).source (slice_index_or feeds.old i d).line
+        (slice_index_or feeds.old i d).tally (slice_index_or feeds.new i d).line (slice_index_or feeds.new i d).tally }
+    ensures until { (i : ℕ) (d : _) → i < length feeds.old
+        → HasRunUntil (G.answers gate.now i) (S.answers stop.now) (λ s. rest s) (slice_index_or feeds.old i d).source
+        (slice_index_or feeds.old i d).line (slice_index_or feeds.new i d).line (slice_index_or feeds.new i d).tally }
+    ensures shown { (i : ℕ) (d : _) → i < length feeds.old → HasShown (λ s. rest s) (slice_index_or feeds.old i d).source
+        (slice_index_or feeds.old i d).line (slice_index_or feeds.old i d).gauge (slice_index_or feeds.new i d).line
+        (slice_index_or feeds.new i d).tally (slice_index_or feeds.new i d).gauge }
     ensures writes { Worked (G.answers gate.now (length feeds.old)) IsWriting (WasTurned M.disk N.rings) }
-    ensures gives { Worked (G.answers gate.now (number_after (length feeds.old) 1)) (GivesInTurn orders.now) (WasAsked M.disk N.rings) }
-    ensures watch { (i : ℕ) → i < length readings.old → Worked (G.answers gate.now (number_after (number_after (length feeds.old) 2) i)) IsWatching IsNoted }
-    ensures readings { (i : ℕ) (d : _) → i < length readings.old → D.reads_on (slice_index_or readings.old i d) (slice_index_or readings.new i d) }
+    ensures gives { Worked (G.answers gate.now (number_after (length feeds.old) 1))
+        (GivesInTurn orders.now) (WasAsked M.disk N.rings) }
+    ensures watch { (i : ℕ) → i < length readings.old
+        → Worked (G.answers gate.now (number_after (number_after (length feeds.old) 2) i)) IsWatching IsNoted }
+    ensures readings { (i : ℕ) (d : _) → i < length readings.old
+        → D.reads_on (slice_index_or readings.old i d) (slice_index_or readings.new i d) }
 {
     let first = feeds.len();
     let progress = Progress::of(first);
     let along = &progress;
     let mut feeding = ||
-        ensures { ((i : ℕ) (d : _) → i < length feeds.entry.now → HasRunUntil (G.answers gate.entry.now i) (S.answers stop.entry.now) (λ s. rest s) (slice_index_or feeds.entry.now i d).source (slice_index_or feeds.entry.now i d).line (slice_index_or feeds.exit.now i d).line (slice_index_or feeds.exit.now i d).tally)
-            × ((i : ℕ) (d : _) → i < length feeds.entry.now → HasRun (λ s. rest s) (slice_index_or feeds.entry.now i d).source (slice_index_or feeds.entry.now i d).line (slice_index_or feeds.entry.now i d).tally (slice_index_or feeds.exit.now i d).line (slice_index_or feeds.exit.now i d).tally)
-            × ((i : ℕ) (d : _) → i < length feeds.entry.now → HasShown (λ s. rest s) (slice_index_or feeds.entry.now i d).source (slice_index_or feeds.entry.now i d).line (slice_index_or feeds.entry.now i d).gauge (slice_index_or feeds.exit.now i d).line (slice_index_or feeds.exit.now i d).tally (slice_index_or feeds.exit.now i d).gauge) }
+        ensures { ((i : ℕ) (d : _) → i < length feeds.entry.now
+            → HasRunUntil (G.answers gate.entry.now i) (S.answers stop.entry.now) (λ s. rest s)
+            (slice_index_or feeds.entry.now i d).source (slice_index_or feeds.entry.now i d).line
+            (slice_index_or feeds.exit.now i d).line (slice_index_or feeds.exit.now i d).tally)
+            × ((i : ℕ) (d : _) → i < length feeds.entry.now → HasRun (λ s. rest s) (slice_index_or feeds.entry.now i d).source
+            (slice_index_or feeds.entry.now i d).line (slice_index_or feeds.entry.now i d).tally
+            (slice_index_or feeds.exit.now i d).line (slice_index_or feeds.exit.now i d).tally)
+            × ((i : ℕ) (d : _) → i < length feeds.entry.now
+            → HasShown (λ s. rest s) (slice_index_or feeds.entry.now i d).source (slice_index_or feeds.entry.now i d).line
+            (slice_index_or feeds.entry.now i d).gauge (slice_index_or feeds.exit.now i d).line
+            (slice_index_or feeds.exit.now i d).tally (slice_index_or feeds.exit.now i d).gauge) }
     { run_feeds(rt, gate, stop, feeds, along) };
     let mut others = ||
         requires { All (λ reading. D.gauge reading ≡ cabinet.now) readings.now }
         ensures { Worked (G.answers gate.entry.now first) IsWriting (WasTurned M.disk N.rings)
             × Worked (G.answers gate.entry.now (number_after first 1)) (GivesInTurn orders.entry.now) (WasAsked M.disk N.rings)
-            × ((i : ℕ) → i < length readings.entry.now → Worked (G.answers gate.entry.now (number_after (number_after first 2) i)) IsWatching IsNoted)
-            × ((i : ℕ) (d : _) → i < length readings.entry.now → D.reads_on (slice_index_or readings.entry.now i d) (slice_index_or readings.exit.now i d)) }
+            × ((i : ℕ) → i < length readings.entry.now
+            → Worked (G.answers gate.entry.now (number_after (number_after first 2) i)) IsWatching IsNoted)
+            × ((i : ℕ) (d : _) → i < length readings.entry.now
+            → D.reads_on (slice_index_or readings.entry.now i d) (slice_index_or readings.exit.now i d)) }
     { write_and_read(rt, alloc, cabinet, gate, first, orders, readings, along) };
     thread::join_mut(rt, &mut others, &mut feeding);
 }
 
 /// The players, that have written down nothing, in room that is there.
-fn unread(alloc: Global, players: Vec<Player>, room: Vec<Reading>) -> Vec<Reading>
+fn unread(alloc: Global, players: Vec<Player>, room: Vec<Transcribing>) -> Vec<Transcribing>
     requires room { vec_len players ≤ vec_capacity room }
     requires empty { room.items ≡ [] }
     ensures players { map (λ reading. reading.player) result.items ≡ players.items }
@@ -160,7 +185,7 @@ fn unread(alloc: Global, players: Vec<Player>, room: Vec<Reading>) -> Vec<Readin
 {
     let mut readings = room;
     for player in players {
-        readings.push_reserved(Reading {
+        readings.push_reserved(Transcribing {
             player,
             instalments: Vec::new(alloc),
         });
@@ -168,10 +193,12 @@ fn unread(alloc: Global, players: Vec<Player>, room: Vec<Reading>) -> Vec<Readin
     readings
 }
 
-/// As `run_session_until`, with players that hand on each instalment to their sinks as it comes. A player whose sink refuses one keeps that
-/// one, and ends as if memory was refused; it reads no more before it is taken apart. A player without a sink writes its instalments down.
+/// As `run_session_until`, with players that hand on each instalment to their sinks as it comes. A player whose sink refuses one
+/// keeps that one, and ends as if memory was refused; it reads no more before it is taken apart. A player without a sink writes its
+/// instalments down.
 ///
-/// Feeds and players are lent, so this takes no memory but what the instalments take. `Session::of` makes a session of them, which can be ended.
+/// Feeds and players are lent, so this takes no memory but what the instalments take. `Session::of` makes a session of them, which
+/// can be ended.
 pub fn run_session_handing<
     M: BlockMedium + Send,
     N: Rings + Send + Sync,
@@ -190,13 +217,23 @@ pub fn run_session_handing<
     players: &mut [Handing<K>],
 )
     requires { All (λ handing. handing.reading.player.pass.cell ≡ cabinet.now) players.old }
-    ensures feeds { (i : ℕ) (d : _) → i < length feeds.old → HasRun (λ s. rest s) (slice_index_or feeds.old i d).source (slice_index_or feeds.old i d).line (slice_index_or feeds.old i d).tally (slice_index_or feeds.new i d).line (slice_index_or feeds.new i d).tally }
-    ensures hands { (i : ℕ) (d : _) → i < length players.old → HandsOn K.accepted K.has_refused (slice_index_or players.old i d).reading (slice_index_or players.old i d).sink (slice_index_or players.new i d).reading (slice_index_or players.new i d).sink }
-    ensures shown { (i : ℕ) (d : _) → i < length feeds.old → HasShown (λ s. rest s) (slice_index_or feeds.old i d).source (slice_index_or feeds.old i d).line (slice_index_or feeds.old i d).gauge (slice_index_or feeds.new i d).line (slice_index_or feeds.new i d).tally (slice_index_or feeds.new i d).gauge }
-    ensures until { (i : ℕ) (d : _) → i < length feeds.old → HasRunUntil (G.answers gate.now i) (S.answers stop.now) (λ s. rest s) (slice_index_or feeds.old i d).source (slice_index_or feeds.old i d).line (slice_index_or feeds.new i d).line (slice_index_or feeds.new i d).tally }
+    ensures feeds { (i : ℕ) (d : _) → i < length feeds.old
+        → HasRun (λ s. rest s) (slice_index_or feeds.old i d).source (slice_index_or feeds.old i d).line
+        (slice_index_or feeds.old i d).tally (slice_index_or feeds.new i d).line (slice_index_or feeds.new i d).tally }
+    ensures hands { (i : ℕ) (d : _) → i < length players.old
+        → HandsOn K.accepted K.has_refused (slice_index_or players.old i d).reading (slice_index_or players.old i d).sink
+        (slice_index_or players.new i d).reading (slice_index_or players.new i d).sink }
+    ensures shown { (i : ℕ) (d : _) → i < length feeds.old → HasShown (λ s. rest s) (slice_index_or feeds.old i d).source
+        (slice_index_or feeds.old i d).line (slice_index_or feeds.old i d).gauge (slice_index_or feeds.new i d).line
+        (slice_index_or feeds.new i d).tally (slice_index_or feeds.new i d).gauge }
+    ensures until { (i : ℕ) (d : _) → i < length feeds.old
+        → HasRunUntil (G.answers gate.now i) (S.answers stop.now) (λ s. rest s) (slice_index_or feeds.old i d).source
+        (slice_index_or feeds.old i d).line (slice_index_or feeds.new i d).line (slice_index_or feeds.new i d).tally }
     ensures writes { Worked (G.answers gate.now (length feeds.old)) IsWriting (WasTurned M.disk N.rings) }
-    ensures gives { Worked (G.answers gate.now (number_after (length feeds.old) 1)) (GivesInTurn orders.now) (WasAsked M.disk N.rings) }
-    ensures watch { (i : ℕ) → i < length players.old → Worked (G.answers gate.now (number_after (number_after (length feeds.old) 2) i)) IsWatching IsNoted }
+    ensures gives { Worked (G.answers gate.now (number_after (length feeds.old) 1))
+        (GivesInTurn orders.now) (WasAsked M.disk N.rings) }
+    ensures watch { (i : ℕ) → i < length players.old
+        → Worked (G.answers gate.now (number_after (number_after (length feeds.old) 2) i)) IsWatching IsNoted }
 {
     run_all(rt, alloc, cabinet, gate, stop, feeds, orders, players);
 }
@@ -223,14 +260,26 @@ pub fn run_session_until<
     players: Vec<Player>,
 ) -> Result<Session<N>, (Vec<Feed<N>>, Vec<Order>, Vec<Player>)>
     requires { All (λ player. player.pass.cell ≡ cabinet.now) players.items }
-    ensures feeds { IfOk result (λ session. (length session.feeds.items ≡ length feeds.items) × ((i : ℕ) (d : _) → i < length feeds.items → HasRun (λ s. rest s) (slice_index_or feeds.items i d).source (slice_index_or feeds.items i d).line (slice_index_or feeds.items i d).tally (slice_index_or session.feeds.items i d).line (slice_index_or session.feeds.items i d).tally)) }
-    ensures players { IfOk result (λ session. (length session.readings.items ≡ length players.items) × ((i : ℕ) (d : _) (e : _) → i < length players.items → HasReadAll (slice_index_or players.items i d) (slice_index_or session.readings.items i e))) }
-    ensures shown { IfOk result (λ session. (i : ℕ) (d : _) → i < length feeds.items → HasShown (λ s. rest s) (slice_index_or feeds.items i d).source (slice_index_or feeds.items i d).line (slice_index_or feeds.items i d).gauge (slice_index_or session.feeds.items i d).line (slice_index_or session.feeds.items i d).tally (slice_index_or session.feeds.items i d).gauge) }
-    ensures until { IfOk result (λ session. (i : ℕ) (d : _) → i < length feeds.items → HasRunUntil (G.answers gate.now i) (S.answers stop.now) (λ s. rest s) (slice_index_or feeds.items i d).source (slice_index_or feeds.items i d).line (slice_index_or session.feeds.items i d).line (slice_index_or session.feeds.items i d).tally) }
+    ensures feeds { IfOk result (λ session. (length session.feeds.items ≡ length feeds.items)
+        × ((i : ℕ) (d : _) → i < length feeds.items → HasRun (λ s. rest s) (slice_index_or feeds.items i d).source
+        (slice_index_or feeds.items i d).line (slice_index_or feeds.items i d).tally (slice_index_or session.feeds.items i d).line
+        (slice_index_or session.feeds.items i d).tally)) }
+    ensures players { IfOk result (λ session. (length session.readings.items ≡ length players.items) × ((i : ℕ) (d : _) (e : _)
+        → i < length players.items → HasReadAll (slice_index_or players.items i d) (slice_index_or session.readings.items i e))) }
+    ensures shown { IfOk result
+        (λ session. (i : ℕ) (d : _) → i < length feeds.items → HasShown (λ s. rest s) (slice_index_or feeds.items i d).source
+        (slice_index_or feeds.items i d).line (slice_index_or feeds.items i d).gauge (slice_index_or session.feeds.items i d).line
+        (slice_index_or session.feeds.items i d).tally (slice_index_or session.feeds.items i d).gauge) }
+    ensures until { IfOk result (λ session. (i : ℕ) (d : _) → i < length feeds.items → HasRunUntil (G.answers gate.now i)
+        (S.answers stop.now) (λ s. rest s) (slice_index_or feeds.items i d).source (slice_index_or feeds.items i d).line
+        (slice_index_or session.feeds.items i d).line (slice_index_or session.feeds.items i d).tally) }
     ensures writes { OnOk result (Worked (G.answers gate.now (length feeds.items)) IsWriting (WasTurned M.disk N.rings)) }
-    ensures gives { OnOk result (Worked (G.answers gate.now (number_after (length feeds.items) 1)) (GivesInTurn orders.items) (WasAsked M.disk N.rings)) }
-    ensures watch { OnOk result ((i : ℕ) → i < length players.items → Worked (G.answers gate.now (number_after (number_after (length feeds.items) 2) i)) IsWatching IsNoted) }
-    ensures refused { IfErr result (λ back. (back.0.items ≡ feeds.items) × (back.1.items ≡ orders.items) × (back.2.items ≡ players.items)) }
+    ensures gives { OnOk result
+        (Worked (G.answers gate.now (number_after (length feeds.items) 1)) (GivesInTurn orders.items) (WasAsked M.disk N.rings)) }
+    ensures watch { OnOk result ((i : ℕ) → i < length players.items
+        → Worked (G.answers gate.now (number_after (number_after (length feeds.items) 2) i)) IsWatching IsNoted) }
+    ensures refused { IfErr result
+        (λ back. (back.0.items ≡ feeds.items) × (back.1.items ≡ orders.items) × (back.2.items ≡ players.items)) }
 {
     let Ok(room) = Vec::with_capacity(alloc, players.len()) else {
         return Err((feeds, orders, players));
@@ -274,14 +323,26 @@ pub fn run_session<
     players: Vec<Player>,
 ) -> Result<Session<N>, (Vec<Feed<N>>, Vec<Order>, Vec<Player>)>
     requires { All (λ player. player.pass.cell ≡ cabinet.now) players.items }
-    ensures feeds { IfOk result (λ session. (length session.feeds.items ≡ length feeds.items) × ((i : ℕ) (d : _) → i < length feeds.items → HasRun (λ s. rest s) (slice_index_or feeds.items i d).source (slice_index_or feeds.items i d).line (slice_index_or feeds.items i d).tally (slice_index_or session.feeds.items i d).line (slice_index_or session.feeds.items i d).tally)) }
-    ensures players { IfOk result (λ session. (length session.readings.items ≡ length players.items) × ((i : ℕ) (d : _) (e : _) → i < length players.items → HasReadAll (slice_index_or players.items i d) (slice_index_or session.readings.items i e))) }
-    ensures shown { IfOk result (λ session. (i : ℕ) (d : _) → i < length feeds.items → HasShown (λ s. rest s) (slice_index_or feeds.items i d).source (slice_index_or feeds.items i d).line (slice_index_or feeds.items i d).gauge (slice_index_or session.feeds.items i d).line (slice_index_or session.feeds.items i d).tally (slice_index_or session.feeds.items i d).gauge) }
-    ensures whole { IfOk result (λ session. (i : ℕ) (d : _) → i < length feeds.items → HasRunWhole (G.answers gate.now i) (λ s. rest s) (slice_index_or feeds.items i d).source (slice_index_or feeds.items i d).line (slice_index_or session.feeds.items i d).line (slice_index_or session.feeds.items i d).tally) }
+    ensures feeds { IfOk result (λ session. (length session.feeds.items ≡ length feeds.items)
+        × ((i : ℕ) (d : _) → i < length feeds.items → HasRun (λ s. rest s) (slice_index_or feeds.items i d).source
+        (slice_index_or feeds.items i d).line (slice_index_or feeds.items i d).tally (slice_index_or session.feeds.items i d).line
+        (slice_index_or session.feeds.items i d).tally)) }
+    ensures players { IfOk result (λ session. (length session.readings.items ≡ length players.items) × ((i : ℕ) (d : _) (e : _)
+        → i < length players.items → HasReadAll (slice_index_or players.items i d) (slice_index_or session.readings.items i e))) }
+    ensures shown { IfOk result
+        (λ session. (i : ℕ) (d : _) → i < length feeds.items → HasShown (λ s. rest s) (slice_index_or feeds.items i d).source
+        (slice_index_or feeds.items i d).line (slice_index_or feeds.items i d).gauge (slice_index_or session.feeds.items i d).line
+        (slice_index_or session.feeds.items i d).tally (slice_index_or session.feeds.items i d).gauge) }
+    ensures whole { IfOk result (λ session. (i : ℕ) (d : _) → i < length feeds.items → HasRunWhole (G.answers gate.now i)
+        (λ s. rest s) (slice_index_or feeds.items i d).source (slice_index_or feeds.items i d).line
+        (slice_index_or session.feeds.items i d).line (slice_index_or session.feeds.items i d).tally) }
     ensures writes { OnOk result (Worked (G.answers gate.now (length feeds.items)) IsWriting (WasTurned M.disk N.rings)) }
-    ensures gives { OnOk result (Worked (G.answers gate.now (number_after (length feeds.items) 1)) (GivesInTurn orders.items) (WasAsked M.disk N.rings)) }
-    ensures watch { OnOk result ((i : ℕ) → i < length players.items → Worked (G.answers gate.now (number_after (number_after (length feeds.items) 2) i)) IsWatching IsNoted) }
-    ensures refused { IfErr result (λ back. (back.0.items ≡ feeds.items) × (back.1.items ≡ orders.items) × (back.2.items ≡ players.items)) }
+    ensures gives { OnOk result
+        (Worked (G.answers gate.now (number_after (length feeds.items) 1)) (GivesInTurn orders.items) (WasAsked M.disk N.rings)) }
+    ensures watch { OnOk result ((i : ℕ) → i < length players.items
+        → Worked (G.answers gate.now (number_after (number_after (length feeds.items) 2) i)) IsWatching IsNoted) }
+    ensures refused { IfErr result
+        (λ back. (back.0.items ≡ feeds.items) × (back.1.items ≡ orders.items) × (back.2.items ≡ players.items)) }
 {
     run_session_until(rt, alloc, cabinet, gate, &Never, feeds, orders, players)
 }

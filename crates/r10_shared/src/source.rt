@@ -26,7 +26,8 @@ pub struct Tally {
 }
 
 /// Passes the gate, and then offers to the port what the source gives, one turn each time, until the source ends or the stop is
-/// asked. Each accepted message wakes the writer. Where there is a gauge, each turn that sent or lost a message shows the lane's level there.
+/// asked. Each accepted message wakes the writer. Where there is a gauge, each turn that sent or lost a message shows the lane's
+/// level there.
 pub(crate) fn feed_port<R: Wait, G: Gate, S: Stop>(
     rt: &R,
     gate: &G,
@@ -91,7 +92,8 @@ fn show_change<R: Wait>(
     lost: u64,
     gauge: &mut Option<Gauge<Levels>>,
 )
-    ensures { GrewBy gauge.old gauge.new (cond (saturated (length (all_sent port.now)) == sent && port.now.lane.lost == lost) [] (level_of port.now ∷ [])) }
+    ensures { GrewBy gauge.old gauge.new
+        (cond (saturated (length (all_sent port.now)) == sent && port.now.lane.lost == lost) [] (level_of port.now ∷ [])) }
 {
     if is_at(port, sent, lost) {
         return;
@@ -111,7 +113,8 @@ fn show_turn<R: Wait>(
     ensures same { port.new ≡ record port.old { free = port.new.free } }
     ensures no_fewer { port.old.free ≤ port.new.free }
     ensures idle { accepted ≡ 0 → port.new ≡ port.old }
-    ensures shows { GrewBy gauge.old gauge.new (cond (saturated (length (all_sent port.new)) == sent && port.new.lane.lost == lost) [] (level_of port.new ∷ [])) }
+    ensures shows { GrewBy gauge.old gauge.new
+        (cond (saturated (length (all_sent port.new)) == sent && port.new.lane.lost == lost) [] (level_of port.new ∷ [])) }
 {
     look_after(port, accepted, gauge.is_some());
     show_change(rt, port, sent, lost, gauge);
@@ -147,7 +150,7 @@ fn feed_all<R: Wait, S: Stop>(
             return Tally { accepted, refused };
         }
         if pumped.accepted > 0 {
-            progress.come();
+            progress.wake_writer();
         }
         thread::yield_now();
     }

@@ -1,18 +1,20 @@
 //! What the workers of a session wait for, and who wakes them.
 //!
-//! - The writer waits for a message in a lane, for an order, and for the end of a feed or of the orders. The feeds' workers and control wake it.
+//! - The writer waits for a message in a lane, for an order, and for the end of a feed or of the orders. The feeds' workers and
+//!   control wake it.
 //! - A reader waits for the next commit, and for the writer's end. The writer wakes all readers.
 //!
 //! No wake-up is lost:
 //! 1. A worker that waits first announces it, then looks for something to do, and sleeps only if it finds nothing.
-//! 2. A worker that wakes others first does what they look for, and then looks for announcements. It ends those waits, also of workers that do not sleep yet.
+//! 2. A worker that wakes others first does what they look for, and then looks for announcements. It ends those waits, also of
+//!    workers that do not sleep yet.
 //! 3. All these steps come in one order (`SeqCst`). So either the announcement is seen, or what was done is found.
 
 use crossbeam_utils::sync::{EventCount, Key};
 use std::sync::atomic::{AtomicBool, AtomicU64, Ordering};
 
-/// How far the workers of a session are, and who waits for that. Of `all` feeds and control so many are over. The writer has committed so often (`shown`), and has ended
-/// or not (`written`). At `coming` the writer waits, at `showing` readers do.
+/// How far the workers of a session are, and who waits for that. Of `all` feeds and control so many are over. The writer has
+/// committed so often (`shown`), and has ended or not (`written`). At `coming` the writer waits, at `showing` readers do.
 #[derive(Drop)]
 pub(crate) struct Progress {
     all: u64,
@@ -36,8 +38,9 @@ impl Progress {
         }
     }
 
-    /// Wakes the writer after a message was accepted or an order asked. It takes no lock. While the writer does not wait, this is one load.
-    pub(crate) fn come(&self) {
+    /// Wakes the writer after a message was accepted or an order asked. It takes no lock. While the writer does not wait, this is
+    /// one load.
+    pub(crate) fn wake_writer(&self) {
         self.coming.notify_one();
     }
 
@@ -80,7 +83,7 @@ impl Progress {
     }
 
     /// How often the writer has committed.
-    pub(crate) fn shown(&self) -> u64 {
+    pub(crate) fn commit_count(&self) -> u64 {
         self.shown.load(Ordering::SeqCst)
     }
 }

@@ -9,7 +9,8 @@ use crate::rounds::is_end;
 use r10_body::Refusal;
 use std::sync::Wait;
 
-/// A recorder that is shared, as a reader asks of it. `T` is what a reader writes down. Its contracts see what was asked, in order, with the answers.
+/// A recorder that is shared, as a reader asks of it. `T` is what a reader writes down. Its contracts see what was asked, in order,
+/// with the answers.
 pub trait Watching<T> {
     /// An announcement that the reader waits. It is for `sleep`, or is dropped.
     type Key: Drop;
@@ -32,7 +33,7 @@ pub trait Watching<T> {
         ensures { asked self.old (Ended result ∷ []) self.new };
 
     /// How often the writer has committed.
-    fn shown(&mut self) -> u64
+    fn commit_count(&mut self) -> u64
         ensures { asked self.old (Shown result ∷ []) self.new };
 
     /// Sleeps until the writer committed, or ended, after the announcement.
@@ -86,14 +87,14 @@ fn goes_on(answer: Result<(), Refusal>, last: bool) -> bool
 }
 
 /// Announces that it waits, and looks. It sleeps if nothing is due, and else takes an instalment.
-fn look<T, W: Watching<T>>(at: &mut W, reading: &mut T, seen: u64) -> Looked
+fn wait_or_read<T, W: Watching<T>>(at: &mut W, reading: &mut T, seen: u64) -> Looked
     requires { W.is_of at.old reading.old }
     ensures asks { Asks W.asked (IsLook seen result.shown result.on) at.old at.new }
     ensures reads { W.reads_on reading.old reading.new }
 {
     let wait = at.announce();
     let last = at.is_ended();
-    let shown = at.shown();
+    let shown = at.commit_count();
     if !is_due(last, shown, seen) {
         at.sleep(wait);
         return Looked { shown, on: true };
@@ -106,8 +107,8 @@ fn look<T, W: Watching<T>>(at: &mut W, reading: &mut T, seen: u64) -> Looked
     }
 }
 
-/// Takes an instalment whenever the writer has committed, until it has ended, and then once more. Failed or OutOfMemory ends the reader; other
-/// refusals are passed over.
+/// Takes an instalment whenever the writer has committed, until it has ended, and then once more. Failed or OutOfMemory ends the
+/// reader; other refusals are passed over.
 pub fn watch<T, W: Watching<T>, R: Wait>(rt: &R, at: &mut W, reading: &mut T)
     requires { W.is_of at.old reading.old }
     ensures asks { Asks W.asked IsWatching at.old at.new }
@@ -115,7 +116,7 @@ pub fn watch<T, W: Watching<T>, R: Wait>(rt: &R, at: &mut W, reading: &mut T)
 {
     let mut seen = u64::MAX;
     for _ in rt.forever() {
-        let looked = look(at, reading, seen);
+        let looked = wait_or_read(at, reading, seen);
         if !looked.on {
             return;
         }

@@ -4,7 +4,7 @@ ghost use Rattle.r10_shared.specs.Desk.{WasAsked, WasTurned, Worked};
 ghost use Rattle.r10_shared.specs.Giving.{GivesInTurn};
 ghost use Rattle.r10_shared.specs.Rounds.{IsWriting};
 
-use crate::desk::Desk;
+use crate::desk::SharedRecorder;
 use crate::gate::Gate;
 use crate::giving::give;
 use crate::order::Order;
@@ -25,7 +25,7 @@ pub(crate) fn write_on<M: BlockMedium, N: Rings, R: Wait, G: Gate>(
     ensures { Worked (G.answers gate.now worker) IsWriting (WasTurned M.disk N.rings) }
 {
     if gate.pass(worker) {
-        let mut desk = Desk {
+        let mut desk = SharedRecorder {
             rt,
             cabinet,
             progress,
@@ -47,7 +47,7 @@ pub(crate) fn give_orders<M: BlockMedium, N: Rings, R: Wait, G: Gate>(
     ensures { Worked (G.answers gate.now worker) (GivesInTurn orders.now) (WasAsked M.disk N.rings) }
 {
     if gate.pass(worker) {
-        let mut desk = Desk {
+        let mut desk = SharedRecorder {
             rt,
             cabinet,
             progress,

@@ -64,7 +64,7 @@ fn after(last: bool, turn: Turn) -> Turn
 }
 
 /// A turn of the writer: it goes round, as the last time if all feeds and control were over before.
-fn turn<W: Writing>(at: &mut W) -> Turn
+fn writer_turn<W: Writing>(at: &mut W) -> Turn
     ensures { Asks W.asked (IsTurn result) at.old at.new }
 {
     let last = at.is_over();
@@ -78,7 +78,7 @@ fn wait_for_more<W: Writing>(at: &mut W) -> bool
     ensures { Asks W.asked (IsWait result) at.old at.new }
 {
     let wait = at.announce();
-    match turn(at) {
+    match writer_turn(at) {
         Turn::Moved => true,
         Turn::Idle => {
             at.sleep(wait);
@@ -92,16 +92,17 @@ fn wait_for_more<W: Writing>(at: &mut W) -> bool
 fn step<W: Writing>(at: &mut W) -> bool
     ensures { Asks W.asked (IsStep result) at.old at.new }
 {
-    match turn(at) {
+    match writer_turn(at) {
         Turn::Moved => true,
         Turn::Idle => wait_for_more(at),
         Turn::Over => false,
     }
 }
 
-/// Writes until nothing more comes. It goes round and round, and commits after each round that moved something. After one that moved nothing it announces
-/// that it waits, goes round once more, and sleeps if that moves nothing either. If all feeds and control were over before a round that moves nothing,
-/// that one commits too, and is the last. A round that meets Failed or OutOfMemory is the last as well.
+/// Writes until nothing more comes. It goes round and round, and commits after each round that moved something. After one that
+/// moved nothing it announces that it waits, goes round once more, and sleeps if that moves nothing either. If all feeds and
+/// control were over before a round that moves nothing, that one commits too, and is the last. A round that meets Failed or
+/// OutOfMemory is the last as well.
 pub fn write<W: Writing, R: Wait>(rt: &R, at: &mut W)
     ensures { Asks W.asked IsWriting at.old at.new }
 {

@@ -14,8 +14,8 @@ use Rattle.r10_machine.specs.Machine.{saturated}
 use Rattle.r10_port.specs.Ends.{Sending, Offered, sent, with_losses}
 use Rattle.r10_port.proofs.Offers.{offered_same}
 use Rattle.r10_source.specs.declared.pump.Pumped.{Pumped}
-use Rattle.r10_source.specs.declared.source.Turn.{Turn}
-use Rattle.r10_source.specs.declared.source.Turn.TheVariants as brings
+use Rattle.r10_source.specs.declared.source.SourceItem.{SourceItem}
+use Rattle.r10_source.specs.declared.source.SourceItem.TheVariants as brings
 use Rattle.r10_source.specs.Pumps.{Tried, tries, counts, turn_of, OffersAll, PumpsSource, is_accepted, is_refused, is_overflow, missed_after, accepted_with, accepted_of}
 use Rattle.std.proofs.lemmas.Option.{same_Some}
 
@@ -84,19 +84,19 @@ offers_same old new (counts n ∷ tried) all = offers_same (with_losses n old) n
 
 -- ---- turns
 
-abbrev turns_of : List Tried → List Turn
+abbrev turns_of : List Tried → List SourceItem
 turns_of tried = map turn_of tried
 
 -- turns, and then more
-pub pumps_join : (n m : ℕ) (a b c : List Turn) (p q r : Sending) (x y : Pumped) → PumpsSource n a b p q x → PumpsSource m b c q r y
+pub pumps_join : (n m : ℕ) (a b c : List SourceItem) (p q r : Sending) (x y : Pumped) → PumpsSource n a b p q x → PumpsSource m b c q r y
     → PumpsSource (n + m) a c p r (record { accepted = x.accepted + y.accepted; refused = x.refused + y.refused; ended = y.ended })
 pumps_join n m a b c p q r x y first second =
     let tried = first.tried ++ second.tried in
     let offers = offers_join p q r first.tried second.tried first.offers second.offers in
     record {
       tried = tried;
-      given = first.given ∙ ap (λ (l : List Turn). turns_of first.tried ++ l) second.given ∙ sym (append_assoc (turns_of first.tried) (turns_of second.tried) c)
-          ∙ ap (λ (l : List Turn). l ++ c) (sym (map-append turn_of first.tried second.tried));
+      given = first.given ∙ ap (λ (l : List SourceItem). turns_of first.tried ++ l) second.given ∙ sym (append_assoc (turns_of first.tried) (turns_of second.tried) c)
+          ∙ ap (λ (l : List SourceItem). l ++ c) (sym (map-append turn_of first.tried second.tried));
       offers = offers;
       same = offers_same p r tried offers;
       sent = offers_sent p r tried offers;
@@ -107,7 +107,7 @@ pumps_join n m a b c p q r x y first second =
     }
 
 -- more turns may be made
-pub pumps_most : (n m : ℕ) (a b : List Turn) (p q : Sending) (x : Pumped) → n ≤ m → PumpsSource n a b p q x → PumpsSource m a b p q x
+pub pumps_most : (n m : ℕ) (a b : List SourceItem) (p q : Sending) (x : Pumped) → n ≤ m → PumpsSource n a b p q x → PumpsSource m a b p q x
 pumps_most n m a b p q x less pumps = record {
   tried = pumps.tried;
   given = pumps.given;
@@ -125,7 +125,7 @@ one_if true = refl
 one_if false = refl
 
 -- a turn with one
-pub pumps_one : (item : Timed) (answer : Result (Unit {0}) Refusal) (after : List Turn) (p q : Sending) (taken : ℕ) → Offered p item.count item.message answer q → taken ≡ cond (is_ok answer) 1 0
+pub pumps_one : (item : Timed) (answer : Result (Unit {0}) Refusal) (after : List SourceItem) (p q : Sending) (taken : ℕ) → Offered p item.count item.message answer q → taken ≡ cond (is_ok answer) 1 0
     → PumpsSource 1 (brings.Message item ∷ after) after p q (record { accepted = taken; refused = 1 - taken; ended = false })
 pumps_one item answer after p q taken offered is =
     let t : Tried = tries item answer in
@@ -147,7 +147,7 @@ pumps_one item answer after p q taken offered is =
     others (Err r) = refl
 
 -- a turn with a loss
-pub pumps_loss : (lost : ℕ) (after : List Turn) (p q : Sending) → q ≡ with_losses lost p → PumpsSource 1 (brings.Lost lost ∷ after) after p q (record { accepted = 0; refused = 0; ended = false })
+pub pumps_loss : (lost : ℕ) (after : List SourceItem) (p q : Sending) → q ≡ with_losses lost p → PumpsSource 1 (brings.Lost lost ∷ after) after p q (record { accepted = 0; refused = 0; ended = false })
 pumps_loss lost after p q is = record {
   tried = counts lost ∷ [];
   given = refl;

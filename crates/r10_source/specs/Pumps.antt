@@ -8,8 +8,8 @@ use Rattle.r10_body.specs.declared.refusal.Refusal.TheVariants.{Overflow}
 use Rattle.r10_machine.specs.Machine.{saturated}
 use Rattle.r10_port.specs.Ends.{Sending, Offered, sent, with_losses}
 use Rattle.r10_source.specs.declared.pump.Pumped.{Pumped}
-use Rattle.r10_source.specs.declared.source.Turn.{Turn}
-use Rattle.r10_source.specs.declared.source.Turn.TheVariants as brings
+use Rattle.r10_source.specs.declared.source.SourceItem.{SourceItem}
+use Rattle.r10_source.specs.declared.source.SourceItem.TheVariants as brings
 
 -- a message that was offered, and the answer; or a loss that was counted
 pub data Tried : Type 0 where
@@ -17,7 +17,7 @@ pub data Tried : Type 0 where
   counts : ℕ → Tried
 
 -- what the source gave
-abbrev pub turn_of : Tried → Turn
+abbrev pub turn_of : Tried → SourceItem
 turn_of (tries item answer) = brings.Message item
 turn_of (counts n) = brings.Lost n
 
@@ -55,7 +55,7 @@ accepted_of missed (counts n ∷ tried) = accepted_of (saturated (missed + n)) t
 
 -- so many turns: what was tried, accepted, refused or counted, is the front of what the source had, and the source has the rest;
 -- the port stays on its ring and on its channel
-pub record PumpsSource (most : ℕ) (before after : List Turn) (old new : Sending) (pumped : Pumped) : Type 0 where
+pub record PumpsSource (most : ℕ) (before after : List SourceItem) (old new : Sending) (pumped : Pumped) : Type 0 where
   pub tried : List Tried
   pub given : before ≡ map turn_of tried ++ after
   pub offers : OffersAll old tried new

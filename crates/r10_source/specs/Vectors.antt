@@ -13,8 +13,8 @@ use Rattle.r10_body.specs.declared.spec.ChannelSpec.{ChannelSpec}
 use Rattle.r10_port.specs.Ends.{Ring, Sending}
 use Rattle.r10_source.specs.declared.source.Given.TheVariants.{Item, Later, End}
 use Rattle.r10_source.specs.declared.source.Given.TheVariants as given
-use Rattle.r10_source.specs.declared.source.Turn.{Turn}
-use Rattle.r10_source.specs.declared.source.Turn.TheVariants as brings
+use Rattle.r10_source.specs.declared.source.SourceItem.{SourceItem}
+use Rattle.r10_source.specs.declared.source.SourceItem.TheVariants as brings
 use Rattle.r10_source.specs.Given.{GivesNext}
 use Rattle.r10_source.specs.Pumps.{Tried, tries, counts, PumpsSource, accepted_of}
 
@@ -34,7 +34,7 @@ port ring sent last lost free = record {
   free = free;
 }
 
-abbrev turn : ℕ → Turn
+abbrev turn : ℕ → SourceItem
 turn count = brings.Message (timed count)
 
 abbrev tried : ℕ → Result (Unit {0}) Refusal → Tried

@@ -5,4 +5,4 @@ mod pump;
 mod source;
 
 pub use pump::{Pumped, pump_source};
-pub use source::{ChannelSource, Given, Turn};
+pub use source::{ChannelSource, Given, SourceItem};

@@ -3,7 +3,7 @@
 ghost use Rattle.std.specs.Prelude.{◌≡◌, ◌+◌, ◌<◌, ◌^◌, List};
 ghost use Rattle.r10_source.specs.Given.{GivesNext};
 ghost use Rattle.r10_source.specs.Pumps.{PumpsSource};
-ghost use Rattle.r10_source.specs.declared.source.Turn.{Turn as TurnValue};
+ghost use Rattle.r10_source.specs.declared.source.SourceItem.{SourceItem as TurnValue};
 
 use crate::source::{ChannelSource, Given};
 use r10_port::Port;
@@ -20,7 +20,11 @@ impl Pumped {
     /// Adds what one more turn did.
     fn add(&mut self, turn: Pumped)
         requires { (self.old.accepted + turn.accepted < 2 ^ 64) × (self.old.refused + turn.refused < 2 ^ 64) }
-        ensures { self.new ≡ record { accepted = self.old.accepted + turn.accepted; refused = self.old.refused + turn.refused; ended = turn.ended } }
+        ensures { self.new ≡ record {
+          accepted = self.old.accepted + turn.accepted;
+          refused = self.old.refused + turn.refused;
+          ended = turn.ended;
+        } }
     {
         self.accepted += turn.accepted;
         self.refused += turn.refused;
@@ -61,7 +65,7 @@ fn offer_given(given: Given, port: &mut Port) -> Pumped
 }
 
 /// Makes one turn.
-fn turn(source: &mut AnySource, port: &mut Port) -> Pumped
+fn source_turn(source: &mut AnySource, port: &mut Port) -> Pumped
     ensures { PumpsSource 1 (rest source.old) (rest source.new) port.old port.new result }
 {
     offer_given(source.next(), port)
@@ -80,7 +84,7 @@ pub fn pump_source(
 {
     let mut pumped = Pumped::default();
     for _ in 0..turns {
-        pumped.add(turn(source, port));
+        pumped.add(source_turn(source, port));
         if pumped.ended {
             break;
         }

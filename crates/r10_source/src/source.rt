@@ -2,14 +2,14 @@
 
 ghost use Rattle.std.specs.Prelude.{List};
 ghost use Rattle.r10_source.specs.Given.{GivesNext};
-ghost use Rattle.r10_source.specs.declared.source.Turn.{Turn as TurnValue};
+ghost use Rattle.r10_source.specs.declared.source.SourceItem.{SourceItem as TurnValue};
 
 use r10_body::{Message, Timed};
 use r10_count::Count;
 
 /// What a source has to give, one after the other.
 #[derive(Debug, Drop)]
-pub enum Turn {
+pub enum SourceItem {
     /// A message, with its count.
     Message(Timed),
     /// So many messages were lost before the next one.

@@ -1,5 +1,5 @@
-//! The bodies of each kind of packet: `r10_timebody`, `r10_b1553`, `r10_a429`, `r10_uart`, `r10_discrete`, `r10_message`, `r10_event`,
-//! `r10_setup`, `r10_indexbody`.
+//! The bodies of each kind of packet: `r10_timebody`, `r10_b1553`, `r10_a429`, `r10_uart`, `r10_discrete`, `r10_message`,
+//! `r10_event`, `r10_setup`, `r10_indexbody`.
 
 use crate::inputs::{count, leap_day};
 use r10_a429::{ArincBody, ArincEntry};

@@ -22,7 +22,7 @@ fn word(units: u64, gap: Gap) -> Result<Sample, Fail> {
 }
 
 /// Pushes a sample, if the builder accepts it: the packet that is closed before it.
-fn pushed(builder: &mut Builder, sample: Sample) -> Option<Closed> {
+fn closed_before(builder: &mut Builder, sample: Sample) -> Option<Closed> {
     if !builder.accepts(&sample) {
         return None;
     }
@@ -34,14 +34,14 @@ fn pushed(builder: &mut Builder, sample: Sample) -> Option<Closed> {
 
 /// The words on a channel of their bus at these counts, the packet that the third closes, and those that are closed by age and by a
 /// flush.
-fn closed(alloc: Global) -> Result<[Option<Closed>; 5], Fail> {
+fn closed_packets(alloc: Global) -> Result<[Option<Closed>; 5], Fail> {
     let mut builder = Builder::new(alloc, BUS);
     builder.ready()?;
-    let first = pushed(&mut builder, word(5000, Gap::Whole)?);
-    let second = pushed(&mut builder, word(1_005_000, Gap::Whole)?);
-    let third = pushed(&mut builder, word(2_005_001, Gap::Whole)?);
+    let first = closed_before(&mut builder, word(5000, Gap::Whole)?);
+    let second = closed_before(&mut builder, word(1_005_000, Gap::Whole)?);
+    let third = closed_before(&mut builder, word(2_005_001, Gap::Whole)?);
     let aged = builder.age(count(3_005_002)?);
-    if let Some(spare) = pushed(&mut builder, word(3_005_002, Gap::Whole)?) {
+    if let Some(spare) = closed_before(&mut builder, word(3_005_002, Gap::Whole)?) {
         builder.recycle(spare);
     }
     Ok([first, second, third, aged, builder.flush()])
@@ -49,7 +49,7 @@ fn closed(alloc: Global) -> Result<[Option<Closed>; 5], Fail> {
 
 #[test]
 fn words_are_packed(rt: HostRuntime) -> Result<(), Fail> {
-    let closed = closed(rt.alloc())?;
+    let closed = closed_packets(rt.alloc())?;
     let bytes = [
         2, 0, 0, 0, 0, 0, 0x20, 1, 0x78, 0x56, 0x34, 0x12, 0x40, 0x42, 0x2F, 1, 0x78, 0x56, 0x34,
         0x12,
@@ -95,9 +95,9 @@ fn words_are_packed(rt: HostRuntime) -> Result<(), Fail> {
 fn reason(alloc: Global, spec: ChannelSpec, words: u64, gap: Gap) -> Result<Option<Reason>, Fail> {
     let mut builder = Builder::new(alloc, spec);
     for _ in 0..words {
-        let _ = pushed(&mut builder, word(5000, Gap::Whole)?);
+        let _ = closed_before(&mut builder, word(5000, Gap::Whole)?);
     }
-    Ok(pushed(&mut builder, word(5000, gap)?).map(|closed| closed.reason))
+    Ok(closed_before(&mut builder, word(5000, gap)?).map(|closed| closed.reason))
 }
 
 #[test]

@@ -86,7 +86,7 @@ fn lacks(alloc: Global, medium: &mut Memory) -> Option<ChainError> {
 }
 
 /// How many files a directory lists.
-fn listed(alloc: Global, directory: &Directory) -> Option<usize> {
+fn file_count(alloc: Global, directory: &Directory) -> Option<usize> {
     match directory.files(alloc) {
         Ok(files) => Some(files.len()),
         Err(_) => None,
@@ -117,7 +117,7 @@ fn add(alloc: Global, medium: &mut Memory, entry: Entry) -> Option<usize> {
     let Ok(()) = directory.add(medium, entry, room, 2) else {
         return None;
     };
-    listed(alloc, &directory)
+    file_count(alloc, &directory)
 }
 
 /// Writes the last file's entry again.
@@ -134,7 +134,7 @@ fn update(alloc: Global, medium: &mut Memory, entry: Entry) -> Option<usize> {
     let Ok(()) = directory.update(medium, entry) else {
         return None;
     };
-    listed(alloc, &directory)
+    file_count(alloc, &directory)
 }
 
 /// Marks the medium as in use.
@@ -145,7 +145,7 @@ fn mark(alloc: Global, medium: &mut Memory) -> Option<usize> {
     let Ok(()) = directory.set_shutdown(medium, 0) else {
         return None;
     };
-    listed(alloc, &directory)
+    file_count(alloc, &directory)
 }
 
 /// Lists no files any more.
@@ -156,11 +156,11 @@ fn erase(alloc: Global, medium: &mut Memory) -> Option<usize> {
     let Ok(()) = directory.erase(medium) else {
         return None;
     };
-    listed(alloc, &directory)
+    file_count(alloc, &directory)
 }
 
 /// Formats a medium of 64 blocks.
-fn formatted(rt: &impl Abort, medium: &mut Memory, volume: &[u8]) -> Result<(), FormatError> {
+fn format_medium(rt: &impl Abort, medium: &mut Memory, volume: &[u8]) -> Result<(), FormatError> {
     assert_eq!(rt; medium.blocks(), 64);
     format(medium, 2, volume)
 }
@@ -169,12 +169,12 @@ fn formatted(rt: &impl Abort, medium: &mut Memory, volume: &[u8]) -> Result<(), 
 fn a_directory_takes_its_steps(rt: HostRuntime) -> Result<(), Fail> {
     let alloc = rt.alloc();
     let mut medium = Memory::new(alloc, 64)?;
-    let bad = formatted(&rt, &mut medium, &[65; 33]);
+    let bad = format_medium(&rt, &mut medium, &[65; 33]);
     let fault = lacks(alloc, &mut medium);
-    let done = formatted(&rt, &mut medium, b"VOL");
+    let done = format_medium(&rt, &mut medium, b"VOL");
     let listed = [
         add(alloc, &mut medium, file()),
-        update(alloc, &mut medium, file().sized(68)),
+        update(alloc, &mut medium, file().with_size(68)),
         mark(alloc, &mut medium),
         erase(alloc, &mut medium),
         update(alloc, &mut medium, file()),

@@ -8,7 +8,7 @@ use r10_dirchain::{ChainError, FormatError};
 use r10_machine::SettingsFault;
 use r10_medium::MediumFault;
 use r10_packet::PacketFault;
-use r10_packet_rules::Fault;
+use r10_packet_rules::FirstFault;
 use std::alloc::Global;
 use std::fmt::Display;
 
@@ -31,7 +31,7 @@ fn say<T: Display>(alloc: Global, faults: &[(T, &str)]) -> bool {
 #[test]
 fn faults_of_bytes_have_texts(rt: HostRuntime) {
     let alloc = rt.alloc();
-    let at = Fault {
+    let at = FirstFault {
         offset: 68,
         fault: FileFault::Rule(4),
     };

@@ -1,6 +1,6 @@
 //! Files on a medium and their index: `r10_blockout`, `r10_index`.
 
-use crate::inputs::{FIRST, count, named};
+use crate::inputs::{FIRST, count, index_entries};
 use r10_blockout::BlockOut;
 use r10_count::{Count, Items, Reading};
 use r10_index::IndexBook;
@@ -35,9 +35,9 @@ fn bytes_are_put_behind_one_another(rt: HostRuntime) -> Result<(), Fail> {
 }
 
 /// The index behind these packets, and where the candidates of channel 5 begin.
-fn written(alloc: Global, counter: Count) -> Result<(Vec<u8>, Option<u64>), Fail> {
+fn index_bytes(alloc: Global, counter: Count) -> Result<(Vec<u8>, Option<u64>), Fail> {
     let mut book = IndexBook::new(alloc);
-    for (entry, entries) in named(counter).iter().zip([0, 1, 2]) {
+    for (entry, entries) in index_entries(counter).iter().zip([0, 1, 2]) {
         book.add(*entry, entries)?;
     }
     let found = book.candidates(Some(5), counter, counter).next();
@@ -50,7 +50,7 @@ fn written(alloc: Global, counter: Count) -> Result<(Vec<u8>, Option<u64>), Fail
 
 #[test]
 fn an_index_is_written(rt: HostRuntime) -> Result<(), Fail> {
-    let (out, found) = written(rt.alloc(), count(1000)?)?;
+    let (out, found) = index_bytes(rt.alloc(), count(1000)?)?;
     assert_eq!(rt; (FIRST.get(124..), found), (Some(out.as_slice()), Some(68)));
     Ok(())
 }
@@ -61,7 +61,7 @@ fn nodes_and_roots_are_read(rt: HostRuntime) -> Result<(), Fail> {
     let alloc = rt.alloc();
     let counter = count(1000)?;
     let roots = [124, 212].map(|offset| RootEntry { counter, offset });
-    let entries = Items::of(Vec::from_slice(alloc, &named(counter))?);
+    let entries = Items::of(Vec::from_slice(alloc, &index_entries(counter))?);
     assert!(rt;
         NodeBody::decode(alloc, &FIRST[148..212])? == Reading::Strict(NodeBody { entries })
     );

@@ -4,16 +4,16 @@ use crate::inputs::FIRST;
 use r10_body::FileFault;
 use r10_images::read_whole;
 use r10_judge::{Judgement, judge_bytes, walk_bytes};
-use r10_packet_rules::Fault;
+use r10_packet_rules::FirstFault;
 use std::alloc::{AllocError, Global};
 use std::test::Fail;
 
 /// How many packets and entries a strict file has, or what is at fault under its entry.
-fn judged(
+fn judge_numbers(
     alloc: Global,
     bytes: &[u8],
     closed: bool,
-) -> Result<(Option<(u64, u64)>, Option<Fault>), AllocError> {
+) -> Result<(Option<(u64, u64)>, Option<FirstFault>), AllocError> {
     match judge_bytes(alloc, bytes, closed)? {
         Judgement::Strict(tracks) => Ok((Some((tracks.packets(), tracks.entries())), None)),
         Judgement::Faulty(at) => Ok((None, Some(at))),
@@ -31,7 +31,7 @@ fn files_are_judged_under_their_entries(rt: HostRuntime) -> Result<(), Fail> {
             272,
             false,
             None,
-            Some(Fault {
+            Some(FirstFault {
                 offset: 124,
                 fault: index,
             }),
@@ -40,13 +40,16 @@ fn files_are_judged_under_their_entries(rt: HostRuntime) -> Result<(), Fail> {
             100,
             false,
             None,
-            Some(Fault {
+            Some(FirstFault {
                 offset: 68,
                 fault: cut,
             }),
         ),
     ] {
-        assert_eq!(rt; judged(alloc, &FIRST[..length], closed)?, (strict, fault));
+        assert_eq!(rt;
+            judge_numbers(alloc, &FIRST[..length], closed)?,
+            (strict, fault)
+        );
     }
     Ok(())
 }

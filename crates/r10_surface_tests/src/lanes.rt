@@ -4,15 +4,15 @@ use crate::parts::{CHANNEL, count, empty};
 use r10_body::{Gap, Refusal, Timed};
 use r10_lane::{LaneOut, RingLane};
 use r10_port::{Outlet, Port, lane};
-use r10_source::{ChannelSource, Given, Pumped, Turn as Brings, pump_source};
+use r10_source::{ChannelSource, Given, Pumped, SourceItem as Brings, pump_source};
 use std::alloc::{AllocError, Global};
 use std::collections::VecDeque;
 use std::test::Fail;
 
 /// What a lane tells, lends and gives: its channel, how many it holds, and of its first the count and what was lost before it.
-type Turn = (u16, usize, Option<u64>, Option<(u64, Gap)>);
+type LaneNumbers = (u16, usize, Option<u64>, Option<(u64, Gap)>);
 
-fn next<L: LaneOut>(lane: &mut L) -> Turn {
+fn next<L: LaneOut>(lane: &mut L) -> LaneNumbers {
     let channel = lane.spec().id;
     let held = lane.held();
     let lent = lane.front().map(|first| first.count.get());
@@ -21,14 +21,14 @@ fn next<L: LaneOut>(lane: &mut L) -> Turn {
 }
 
 /// What a lane gives in three turns.
-fn three_turns<L: LaneOut>(lane: &mut L) -> [Turn; 3] {
+fn three_turns<L: LaneOut>(lane: &mut L) -> [LaneNumbers; 3] {
     [next(lane), next(lane), next(lane)]
 }
 
 /// The first of two that wait, the second, one that comes behind a loss, and nothing.
-const BEFORE: Turn = (5, 2, Some(1), Some((1, Gap::Whole)));
+const BEFORE: LaneNumbers = (5, 2, Some(1), Some((1, Gap::Whole)));
 
-const BEHIND: [Turn; 3] = [
+const BEHIND: [LaneNumbers; 3] = [
     (5, 2, Some(2), Some((2, Gap::Whole))),
     (5, 1, Some(4), Some((4, Gap::Lost(1)))),
     (5, 0, None, None),
@@ -64,7 +64,7 @@ fn a_lane_gives_what_it_accepted(rt: HostRuntime) -> Result<(), Fail> {
 }
 
 /// The first of two that wait, behind losses that were never offered, the second, and one behind more of them and an overflow.
-const MARKED: [Turn; 3] = [
+const MARKED: [LaneNumbers; 3] = [
     (5, 2, Some(1), Some((1, Gap::Lost(42)))),
     (5, 1, Some(2), Some((2, Gap::Whole))),
     (5, 1, Some(4), Some((4, Gap::Lost(6)))),
@@ -162,11 +162,11 @@ fn losses_stay_at_the_greatest(rt: HostRuntime) -> Result<(), Fail> {
 
 /// A source that gives what it was made of.
 #[derive(Drop)]
-struct Listed {
+struct ListSource {
     left: VecDeque<Brings>,
 }
 
-impl ChannelSource for Listed {
+impl ChannelSource for ListSource {
     ghost rest = { λ source. source.left.items };
 
     fn next(&mut self) -> Given {
@@ -179,13 +179,13 @@ impl ChannelSource for Listed {
 }
 
 /// A source of messages at 1, 2 and 3.
-fn source_of_three(alloc: Global) -> Result<Listed, AllocError> {
+fn source_of_three(alloc: Global) -> Result<ListSource, AllocError> {
     let mut left = VecDeque::new(alloc);
     for units in [1, 2, 3] {
         let (count, message) = (count(units), empty(alloc));
         left.push_back(Brings::Message(Timed { count, message }))?;
     }
-    Ok(Listed { left })
+    Ok(ListSource { left })
 }
 
 /// The count of what a source gives.
@@ -197,7 +197,7 @@ fn count_given(source: &mut Box<dyn ChannelSource + Send>) -> Option<u64> {
 }
 
 /// What a pump does in so many turns, and the count of what the source gives then.
-fn pumped(alloc: Global, turns: u64) -> Result<(Pumped, Option<u64>), AllocError> {
+fn pump_and_next(alloc: Global, turns: u64) -> Result<(Pumped, Option<u64>), AllocError> {
     let (mut port, _outlet) = lane(alloc, CHANNEL)?;
     let mut source: Box<dyn ChannelSource + Send> = Box::new(alloc, source_of_three(alloc)?)?;
     let pumped = pump_source(&mut source, &mut port, turns);
@@ -216,13 +216,13 @@ fn a_source_is_pumped(rt: HostRuntime) -> Result<(), Fail> {
         refused: 0,
         ended: false,
     };
-    assert_eq!(rt; pumped(rt.alloc(), 10)?, (all, None));
-    assert_eq!(rt; pumped(rt.alloc(), 2)?, (some, Some(3)));
+    assert_eq!(rt; pump_and_next(rt.alloc(), 10)?, (all, None));
+    assert_eq!(rt; pump_and_next(rt.alloc(), 2)?, (some, Some(3)));
     Ok(())
 }
 
 /// A source of losses before, between and after messages at 1, 2 and 3.
-fn losing_source(alloc: Global) -> Result<Listed, AllocError> {
+fn losing_source(alloc: Global) -> Result<ListSource, AllocError> {
     let mut left = VecDeque::new(alloc);
     left.push_back(Brings::Lost(40))?;
     for units in [1, 2, 3] {
@@ -230,7 +230,7 @@ fn losing_source(alloc: Global) -> Result<Listed, AllocError> {
         left.push_back(Brings::Message(Timed { count, message }))?;
         left.push_back(Brings::Lost(2))?;
     }
-    Ok(Listed { left })
+    Ok(ListSource { left })
 }
 
 /// The message after a loss is marked with it; the third is refused, and a loss is neither accepted nor refused.

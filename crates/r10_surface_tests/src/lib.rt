@@ -1,5 +1,5 @@
-//! The public calls of the recorder's lower crates and of its parts, lowest first, as a caller writes them: each type, variant, field and
-//! call by its name at its crate, each call once.
+//! The public calls of the recorder's lower crates and of its parts, lowest first, as a caller writes them: each type, variant,
+//! field and call by its name at its crate, each call once.
 #![tactic(auto)]
 
 #[cfg(test)]

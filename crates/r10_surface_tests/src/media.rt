@@ -50,7 +50,7 @@ fn civil_times_are_told_apart(rt: HostRuntime) -> Result<(), Fail> {
 }
 
 /// What a write of sevens, a sync and a read of block 1 answer, with the first byte that was read.
-fn asked<M: BlockMedium>(
+fn call_answers<M: BlockMedium>(
     rt: &impl Abort,
     medium: &mut M,
 ) -> ([Result<(), MediumFault>; 3], u8, u64) {
@@ -67,12 +67,12 @@ fn media_are_written_and_read(rt: HostRuntime) -> Result<(), Fail> {
     let alloc = rt.alloc();
     let done = [Ok(()), Ok(()), Ok(())];
     let mut medium = Memory::new(alloc, 3)?;
-    assert_eq!(rt; asked(&rt, &mut medium), (done, 7, 0));
+    assert_eq!(rt; call_answers(&rt, &mut medium), (done, 7, 0));
     let image = medium.image(alloc)?;
     assert_eq!(rt; (image.len(), image.get(1023)), (1536, Some(&7)));
     let mut again = Faulty::new(Memory::of_image(alloc, &[0; 1024])?, 3);
     assert_eq!(rt;
-        asked(&rt, &mut again),
+        call_answers(&rt, &mut again),
         ([Ok(()), Err(MediumFault), Ok(())], 7, 1)
     );
     Ok(())
@@ -88,7 +88,7 @@ fn a_stop_leaves_an_image(rt: HostRuntime) -> Result<(), Fail> {
         (Choice::LowestRead, 7),
     ] {
         let mut medium = Crashing::new(alloc, Memory::new(alloc, 3)?, 1)?;
-        let (answers, _, _) = asked(&rt, &mut medium);
+        let (answers, _, _) = call_answers(&rt, &mut medium);
         let image = medium.image(alloc, choice)?.image(alloc)?;
         assert_eq!(rt; (answers[0], image.get(512)), (Ok(()), Some(&left)));
     }

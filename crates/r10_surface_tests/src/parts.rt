@@ -74,7 +74,7 @@ pub(crate) fn entry(alloc: Global, channel: u16, units: u32) -> Entry {
 }
 
 /// What the index of the first recording says of its packets.
-pub(crate) fn named(counter: Count) -> [NodeEntry; 3] {
+pub(crate) fn index_entries(counter: Count) -> [NodeEntry; 3] {
     [(0x01, 0, 0), (0x11, 1, 32), (0x50, 5, 68)].map(|(data_type, channel, offset)| NodeEntry {
         counter,
         data_type,

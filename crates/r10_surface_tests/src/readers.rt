@@ -1,10 +1,10 @@
 //! Files that are read and judged: `r10_cursor`, `r10_checker`.
 
-use crate::parts::{FIRST, LATER, count, named};
+use crate::parts::{FIRST, LATER, count, index_entries};
 use r10_body::{FileFault, Gap, Refusal};
 use r10_checker::{FileVerdict, Verdict, check_file, check_medium};
 use r10_count::{Civil, Items};
-use r10_cursor::{Reading, check_read, close_cursor, count_at, find, next_entry, open_cursor};
+use r10_cursor::{FileReplay, check_read, close_cursor, count_at, find, next_entry, open_cursor};
 use r10_dirblock::{DirBlock, Entries, Entry, encode, pad};
 use r10_index::IndexBook;
 use r10_indexbody::NodeEntry;
@@ -16,7 +16,7 @@ use std::process::Abort;
 use std::test::Fail;
 
 /// A medium that has the first recording from block 0 on.
-fn recorded(alloc: Global) -> Result<Memory, AllocError> {
+fn recorded_medium(alloc: Global) -> Result<Memory, AllocError> {
     let mut block = [0; 512];
     block[..272].copy_from_slice(&FIRST);
     Memory::of_image(alloc, &block)
@@ -48,9 +48,9 @@ fn first_from(
 #[test]
 fn an_entry_is_found(rt: HostRuntime) -> Result<(), Fail> {
     let alloc = rt.alloc();
-    let named = named(count(1000));
+    let named = index_entries(count(1000));
     let book = book(alloc, &named)?;
-    let mut medium = recorded(alloc)?;
+    let mut medium = recorded_medium(alloc)?;
     let found = first_from(alloc, &mut medium, &named, &book);
     assert_eq!(rt; found, Some((1, 1010, Gap::Whole)));
     Ok(())
@@ -59,7 +59,14 @@ fn an_entry_is_found(rt: HostRuntime) -> Result<(), Fail> {
 /// The count at a time.
 fn told_at(alloc: Global, medium: &mut Memory, civil: &Civil) -> Option<u64> {
     let mut buffer = Vec::new(alloc);
-    match count_at(alloc, medium, 0, &named(count(1000)), civil, &mut buffer) {
+    match count_at(
+        alloc,
+        medium,
+        0,
+        &index_entries(count(1000)),
+        civil,
+        &mut buffer,
+    ) {
         Ok(Some(count)) => Some(count.get()),
         _ => None,
     }
@@ -68,22 +75,22 @@ fn told_at(alloc: Global, medium: &mut Memory, civil: &Civil) -> Option<u64> {
 #[test]
 fn a_count_is_told_by_the_time(rt: HostRuntime) -> Result<(), Fail> {
     let civil = Civil::of(LATER).ok_or("no time")?;
-    let mut medium = recorded(rt.alloc())?;
+    let mut medium = recorded_medium(rt.alloc())?;
     assert_eq!(rt; told_at(rt.alloc(), &mut medium, &civil), Some(2_201_000));
     Ok(())
 }
 
 /// How many entries a reader of channel 5 queues.
-fn queued(alloc: Global, medium: &mut Memory, reading: &mut Reading) -> Option<usize> {
+fn queue_of(alloc: Global, medium: &mut Memory, reading: &mut FileReplay) -> Option<usize> {
     let mut buffer = Vec::new(alloc);
-    match reading.advance(alloc, medium, 0, &named(count(1000)), &mut buffer) {
+    match reading.advance(alloc, medium, 0, &index_entries(count(1000)), &mut buffer) {
         Ok(queued) => Some(queued),
         Err(_) => None,
     }
 }
 
 /// The count of the first that it has queued.
-fn next(reading: &mut Reading) -> Option<u64> {
+fn next(reading: &mut FileReplay) -> Option<u64> {
     match reading.next() {
         Some(entry) => Some(entry.count.get()),
         None => None,
@@ -94,9 +101,9 @@ fn next(reading: &mut Reading) -> Option<u64> {
 fn an_instalment_is_queued_and_taken(rt: HostRuntime) -> Result<(), Fail> {
     let alloc = rt.alloc();
     let channels = Items::of(Vec::from_slice(alloc, &[5])?);
-    let mut medium = recorded(alloc)?;
-    let mut reading = Reading::new(alloc, channels, count(1001), count(1010));
-    let queued = queued(alloc, &mut medium, &mut reading);
+    let mut medium = recorded_medium(alloc)?;
+    let mut reading = FileReplay::new(alloc, channels, count(1001), count(1010));
+    let queued = queue_of(alloc, &mut medium, &mut reading);
     let given = [next(&mut reading), next(&mut reading)];
     assert_eq!(rt; (queued, given), (Some(1), [Some(1010), None]));
     Ok(())
@@ -152,7 +159,7 @@ fn directory() -> [u8; 512] {
 }
 
 /// A medium that has this directory, and the first recording behind it.
-fn listed(rt: &impl Abort, alloc: Global) -> Result<Memory, AllocError> {
+fn listing_medium(rt: &impl Abort, alloc: Global) -> Result<Memory, AllocError> {
     let mut image = [0; 1536];
     image[1024..1296].copy_from_slice(&FIRST);
     let mut medium = Memory::of_image(alloc, &image)?;
@@ -162,7 +169,7 @@ fn listed(rt: &impl Abort, alloc: Global) -> Result<Memory, AllocError> {
 }
 
 /// How long the name of the one file of a medium is, and its verdict.
-fn told(alloc: Global, medium: &mut Memory) -> Option<(usize, Verdict)> {
+fn name_and_verdict(alloc: Global, medium: &mut Memory) -> Option<(usize, Verdict)> {
     let Ok(said) = check_medium(alloc, medium) else {
         return None;
     };
@@ -174,8 +181,11 @@ fn told(alloc: Global, medium: &mut Memory) -> Option<(usize, Verdict)> {
 
 #[test]
 fn files_of_a_medium_are_judged(rt: HostRuntime) -> Result<(), Fail> {
-    let mut medium = listed(&rt, rt.alloc())?;
-    assert_eq!(rt; told(rt.alloc(), &mut medium), Some((4, Verdict::Strict)));
+    let mut medium = listing_medium(&rt, rt.alloc())?;
+    assert_eq!(rt;
+        name_and_verdict(rt.alloc(), &mut medium),
+        Some((4, Verdict::Strict))
+    );
     Ok(())
 }
 

@@ -34,7 +34,8 @@ pub fn parts_of(text: &[u8]) -> Option<Parts>
 fn split_date(bytes: &[u8]) -> Option<(u16, u16, u16, &[u8])>
     ensures found { IfSome result (λ x. bytes.now ≡ date_text x.0 x.1 x.2 x.3.now) }
     ensures range { IfSome result (λ x. (x.0 < 10000) × (x.1 < 100) × (x.2 < 100)) }
-    ensures none { IfNone result ((year month day : ℕ) (rest : List ℕ) → year < 10000 → month < 100 → day < 100 → bytes.now ≡ date_text year month day rest → ⊥) }
+    ensures none { IfNone result ((year month day : ℕ) (rest : List ℕ) → year < 10000 → month < 100 → day < 100
+        → bytes.now ≡ date_text year month day rest → ⊥) }
 {
     let (century, rest) = split_pair(bytes)?;
     let (year, rest) = split_pair(rest)?;

@@ -70,7 +70,7 @@ pub enum Wrong {
     Value {
         key: &'static str,
         wanted: &'static str,
-        found: Found,
+        found: KeyContent,
     },
     /// An offer that does not tell the kind of its message, on a channel that is not there.
     #[error("there is no channel {channel}, so `kind` is needed")]
@@ -86,7 +86,7 @@ pub enum Wrong {
 
 /// What a key has.
 #[derive(Debug, Drop, Error)]
-pub enum Found {
+pub enum KeyContent {
     #[error("{0}")]
     Number(i64),
     #[error("{0}")]
@@ -101,7 +101,7 @@ pub enum Found {
 
 impl ScriptFault {
     /// The fault with the line of what it names, where it has none and the text has it in a line of its own.
-    pub fn located(self, text: &[u8]) -> ScriptFault
+    pub fn with_line(self, text: &[u8]) -> ScriptFault
         ensures { IsLocated self result }
     {
         match self {

@@ -10,7 +10,7 @@ mod refusal;
 mod reply;
 
 pub use civil::parts_of;
-pub use fault::{Found, Place, ScriptFault, Spot, Wrong};
+pub use fault::{KeyContent, Place, ScriptFault, Spot, Wrong};
 pub use line::entry_line;
 pub use refusal::fault_text;
 pub use reply::reply_lines;

@@ -2,7 +2,8 @@
 
 ghost use Rattle.std.specs.Prelude.{◌≡◌, string_bytes, IfOk};
 ghost use Rattle.r10_text.specs.Civil.{civil_text as civil_digits};
-ghost use Rattle.r10_text.specs.Line.{entry_line, entry_text as entry_words, gap_text as gap_words, message_text as message_words, bytes_text, long_text as eight_digits, word_text as four_digits, words_text as words_digits};
+ghost use Rattle.r10_text.specs.Line.{entry_line, entry_text as entry_words, gap_text as gap_words, message_text as message_words};
+ghost use Rattle.r10_text.specs.Line.{bytes_text, long_text as eight_digits, word_text as four_digits, words_text as words_digits};
 ghost use Rattle.r10_count.specs.Printed.{flag_text as flag_digit};
 
 use r10_body::{Entry, Gap, Message};

@@ -3,7 +3,8 @@
 ghost use Rattle.r10_count.specs.Printed.{shown_byte};
 ghost use Rattle.std.specs.Prelude.{◌≡◌, ◌<◌, IfOk, map, string_bytes};
 ghost use Rattle.std.specs.List.{flat_map};
-ghost use Rattle.r10_text.specs.Replies.{channel_line, file_line, file_lines, found_text, mode_text, reply_lines, reply_rest, reply_text, status_text, tick_text};
+ghost use Rattle.r10_text.specs.Replies.{channel_line, file_line, file_lines, found_text, mode_text, reply_lines, reply_rest};
+ghost use Rattle.r10_text.specs.Replies.{reply_text, status_text, tick_text};
 
 use crate::line::{entry_text, flag_text};
 use crate::refusal::refusal_text;

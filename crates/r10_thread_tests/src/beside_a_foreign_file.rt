@@ -99,7 +99,7 @@ fn settings(alloc: Global, channel: ChannelSpec) -> Result<Settings, Fail>
 }
 
 /// A lane with one message more, with these states.
-fn offered(lane: RingLane, states: u32) -> RingLane
+fn lane_with(lane: RingLane, states: u32) -> RingLane
     ensures { result.spec ≡ lane.spec }
 {
     let mut lane = lane;
@@ -114,8 +114,8 @@ fn lane(alloc: Global, channel: ChannelSpec) -> Result<TapeLane, AllocError>
     ensures { IfOk result (λ tape. (tape.spec ≡ channel) × (tape_gave tape ≡ [])) }
 {
     let none = RingLane::new(alloc, channel)?;
-    let two = offered(offered(none, 0), 1);
-    TapeLane::of(alloc, offered(offered(two, 2), 3))
+    let two = lane_with(lane_with(none, 0), 1);
+    TapeLane::of(alloc, lane_with(lane_with(two, 2), 3))
 }
 
 /// A lane alone.

@@ -55,14 +55,14 @@ fn send_all(alloc: Global, port: Port, done: &AtomicBool) -> Sent
 /// What is seen of the messages that came: how many, the count that comes next where none is lost, how many counts were lower
 /// than that, and how many told another number of losses than there were.
 #[derive(Clone, Copy, Debug, Default, PartialEq, Eq)]
-struct Seen {
+struct MessagesSeen {
     taken: u64,
     next: u64,
     fallen: u64,
     wrong: u64,
 }
 
-impl Seen {
+impl MessagesSeen {
     fn see(&mut self, sample: &Sample) {
         let count = sample.count.get();
         if count < self.next {
@@ -78,12 +78,12 @@ impl Seen {
 
 /// The receiving end, and what it saw.
 #[derive(Drop)]
-struct Taken {
+struct ReceivingEnd {
     outlet: Outlet,
-    seen: Seen,
+    seen: MessagesSeen,
 }
 
-impl Taken {
+impl ReceivingEnd {
     /// Takes a message, if one is there.
     fn take(&mut self) -> bool
         ensures { self.new.outlet.ring ≡ self.old.outlet.ring }
@@ -97,12 +97,12 @@ impl Taken {
 }
 
 /// Takes what comes until all was offered.
-fn take_all(rt: &impl Wait, outlet: Outlet, done: &AtomicBool) -> Taken
+fn take_all(rt: &impl Wait, outlet: Outlet, done: &AtomicBool) -> ReceivingEnd
     ensures { result.outlet.ring ≡ outlet.ring }
 {
-    let mut taken = Taken {
+    let mut taken = ReceivingEnd {
         outlet,
-        seen: Seen::default(),
+        seen: MessagesSeen::default(),
     };
     for _ in rt.forever() {
         if !taken.take() {
@@ -121,7 +121,7 @@ fn cross<R: Threads + Wait + Sync>(
     alloc: Global,
     port: Port,
     outlet: Outlet,
-) -> (Sent, Taken)
+) -> (Sent, ReceivingEnd)
     requires { outlet.ring ≡ port.ring }
     ensures { result.1.outlet.ring ≡ result.0.port.ring }
 {
@@ -132,7 +132,7 @@ fn cross<R: Threads + Wait + Sync>(
         move || -> Sent
             ensures { result.port.ring ≡ port.ring }
         { send_all(alloc, port, flag) },
-        move || -> Taken
+        move || -> ReceivingEnd
             ensures { result.outlet.ring ≡ outlet.ring }
         { take_all(rt, outlet, flag) },
     )
@@ -152,7 +152,7 @@ fn what_one_thread_sends_another_takes(rt: HostRuntime) -> Result<(), Fail> {
     for sample in &taken.outlet.rest(alloc, &mut sent.port)? {
         taken.seen.see(sample);
     }
-    let Seen {
+    let MessagesSeen {
         taken: number,
         fallen,
         wrong,

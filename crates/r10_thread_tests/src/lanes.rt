@@ -16,7 +16,7 @@ fn offer(port: &mut Port, alloc: Global, units: u32) -> Result<(), Refusal>
 }
 
 /// The count, and what was lost before it.
-fn told(taken: Option<Sample>) -> Option<(u64, Gap)> {
+fn count_and_gap(taken: Option<Sample>) -> Option<(u64, Gap)> {
     let Sample { count, gap, .. } = taken?;
     Some((count.get(), gap))
 }
@@ -31,13 +31,13 @@ fn a_full_lane_loses_messages_and_tells_how_many(rt: HostRuntime) -> Result<(), 
     }
     let held = outlet.held();
     let lent = outlet.front().map(|first| first.count.get());
-    let first = told(outlet.take());
+    let first = count_and_gap(outlet.take());
     answers[4] = offer(&mut port, alloc, 5);
     let taken = [
         first,
-        told(outlet.take()),
-        told(outlet.take()),
-        told(outlet.take()),
+        count_and_gap(outlet.take()),
+        count_and_gap(outlet.take()),
+        count_and_gap(outlet.take()),
     ];
     let full = Err(Refusal::Overflow);
     assert_eq!(rt; answers, [Ok(()), Ok(()), full, full, Ok(())]);
@@ -61,7 +61,7 @@ fn a_sender_sees_how_full_its_lane_is(rt: HostRuntime) -> Result<(), Fail> {
     let none = port.waiting();
     let answers = [offer(&mut port, alloc, 1), offer(&mut port, alloc, 2)];
     let both = port.waiting();
-    let taken = told(outlet.take());
+    let taken = count_and_gap(outlet.take());
     let not_seen = port.waiting();
     port.look();
     assert_eq!(rt; answers, [Ok(()), Ok(())]);
@@ -76,10 +76,10 @@ fn the_rest_goes_into_room(rt: HostRuntime) -> Result<(), Fail> {
     let alloc = rt.alloc();
     let (mut port, mut outlet) = lane(alloc, CHANNEL)?;
     let answers = [offer(&mut port, alloc, 1), offer(&mut port, alloc, 2)];
-    let left = outlet.left(&mut port);
+    let left = outlet.rest_len(&mut port);
     let mut room = Vec::with_capacity(alloc, 1)?;
     outlet.rest_into(&mut port, &mut room);
-    let moved = told(room.pop());
+    let moved = count_and_gap(room.pop());
     let rest = outlet.rest(alloc, &mut port)?.len();
     assert_eq!(rt; answers, [Ok(()), Ok(())]);
     assert_eq!(rt; (left, moved, rest), (2, Some((1, Gap::Whole)), 1));

@@ -3,35 +3,35 @@
 use crate::inputs::{CHANNEL, count, empty};
 use r10_body::Timed;
 use r10_port::lane;
-use r10_source::{ChannelSource, Given, Pumped, Turn, pump_source};
+use r10_source::{ChannelSource, Given, Pumped, SourceItem, pump_source};
 use std::alloc::{AllocError, Global};
 use std::collections::VecDeque;
 use std::test::Fail;
 
 #[derive(Drop)]
-struct Listed {
-    left: VecDeque<Turn>,
+struct ListSource {
+    left: VecDeque<SourceItem>,
 }
 
-impl ChannelSource for Listed {
+impl ChannelSource for ListSource {
     ghost rest = { λ source. source.left.items };
 
     fn next(&mut self) -> Given {
         match self.left.pop_front() {
-            Some(Turn::Message(Timed { count, message })) => Given::Item(count, message),
-            Some(Turn::Lost(lost)) => Given::Lost(lost),
+            Some(SourceItem::Message(Timed { count, message })) => Given::Item(count, message),
+            Some(SourceItem::Lost(lost)) => Given::Lost(lost),
             None => Given::End,
         }
     }
 }
 
-fn three(alloc: Global) -> Result<Listed, AllocError> {
+fn three(alloc: Global) -> Result<ListSource, AllocError> {
     let mut left = VecDeque::new(alloc);
     for units in [1, 2, 3] {
         let (count, message) = (count(units), empty(alloc));
-        left.push_back(Turn::Message(Timed { count, message }))?;
+        left.push_back(SourceItem::Message(Timed { count, message }))?;
     }
-    Ok(Listed { left })
+    Ok(ListSource { left })
 }
 
 #[test]

@@ -9,8 +9,9 @@ use r10_lane::{LaneOut, RingLane};
 use std::alloc::{AllocError, Global};
 use std::marker::Model;
 
-/// A lane that stands in for one between threads: it gives the samples that it was made with, each once and in order, and keeps them, so that
-/// it can be seen what it gave. How many are left is not known of it. It gives samples with a discrete message alone, and stops at another.
+/// A lane that stands in for one between threads: it gives the samples that it was made with, each once and in order, and keeps
+/// them, so that it can be seen what it gave. How many are left is not known of it. It gives samples with a discrete message alone,
+/// and stops at another.
 #[derive(Drop)]
 pub struct TapeLane {
     spec: ChannelSpec,
@@ -65,7 +66,7 @@ impl TapeLane {
     }
 
     /// How many samples it gave.
-    pub fn given(&self) -> usize
+    pub fn given_count(&self) -> usize
         ensures { result ≡ self.now.at }
     {
         self.at
@@ -109,7 +110,8 @@ fn copy_at(samples: &[Sample], at: usize) -> Option<Sample>
 
 impl LaneOut for TapeLane {
     ghost use Rattle.std.specs.Prelude.{◌≡◌, None, Some};
-    ghost use Rattle.r10_thread_tests.specs.Tapes.{TookTape, next_in, tape_gives, tape_keeps_spec, tape_never_quiet, tape_rises, tape_took_joins, tape_took_nothing, tape_took_stays};
+    ghost use Rattle.r10_thread_tests.specs.Tapes.{TookTape, next_in, tape_gives, tape_keeps_spec, tape_never_quiet, tape_rises};
+    ghost use Rattle.r10_thread_tests.specs.Tapes.{tape_took_joins, tape_took_nothing, tape_took_stays};
 
     ghost spec_of = { λ tape. tape.spec };
 

@@ -6,9 +6,10 @@ ghost use Rattle.r10_count.specs.declared.civil.Parts.{Parts as PartsValue};
 ghost use Rattle.r10_count.specs.Append.{Appends};
 ghost use Rattle.r10_count.specs.Reading.{ReadsBody};
 ghost use Rattle.r10_count.specs.declared.reading.Reading.TheVariants.{Strict};
-ghost use Rattle.r10_timebody.specs.Time.{IsTime, IsForeignTime, time_body, time_word as told_time_word, told_parts, is_opaque_time};
+ghost use Rattle.r10_timebody.specs.Time.{IsTime, IsForeignTime};
+ghost use Rattle.r10_timebody.specs.Time.{time_body, time_word as told_time_word, told_parts, is_opaque_time};
 
-use crate::digits::{packed, unpacked};
+use crate::digits::{from_bcd, to_bcd};
 use r10_count::{Civil, Parts, Reading, append_all, split_u32};
 use std::alloc::AllocError;
 
@@ -21,7 +22,7 @@ pub struct TimeBody {
 }
 
 /// The civil time that the digits of a body tell, if there is one.
-fn told_civil(body: &[u8; 12]) -> Option<Civil>
+fn civil_in(body: &[u8; 12]) -> Option<Civil>
     ensures { SomeIff result (IsCivil (told_parts body.now)) (told_parts body.now) }
 {
     let [
@@ -39,13 +40,13 @@ fn told_civil(body: &[u8; 12]) -> Option<Civil>
         century,
     ] = *body;
     Civil::of(Parts {
-        year: unpacked(century) * 100 + unpacked(year),
-        month: unpacked(month),
-        day: unpacked(day),
-        hour: unpacked(hour),
-        minute: unpacked(minute),
-        second: unpacked(second),
-        centi: unpacked(centi),
+        year: from_bcd(century) * 100 + from_bcd(year),
+        month: from_bcd(month),
+        day: from_bcd(day),
+        hour: from_bcd(hour),
+        minute: from_bcd(minute),
+        second: from_bcd(second),
+        centi: from_bcd(centi),
     })
 }
 
@@ -88,14 +89,14 @@ impl TimeBody {
             w1,
             w2,
             w3,
-            packed(parts.centi),
-            packed(parts.second),
-            packed(parts.minute),
-            packed(parts.hour),
-            packed(parts.day),
-            packed(parts.month),
-            packed(parts.year % 100),
-            packed(parts.year / 100),
+            to_bcd(parts.centi),
+            to_bcd(parts.second),
+            to_bcd(parts.minute),
+            to_bcd(parts.hour),
+            to_bcd(parts.day),
+            to_bcd(parts.month),
+            to_bcd(parts.year % 100),
+            to_bcd(parts.year / 100),
         ]
     }
 
@@ -115,7 +116,7 @@ impl TimeBody {
         let Ok(body) = <[u8; 12]>::try_from(body) else {
             return Reading::Neither;
         };
-        let Some(civil) = told_civil(&body) else {
+        let Some(civil) = civil_in(&body) else {
             return Reading::Lenient;
         };
         if (TimeBody { civil }).encode() == body {

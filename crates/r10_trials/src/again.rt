@@ -4,8 +4,8 @@ use crate::asks::{ask, ask_behind, push_refused};
 use crate::course::{Course, one_of};
 use crate::each::is_reply;
 use crate::fault::TrialFault;
+use crate::medium_content::shown_on;
 use crate::scene::{image_behind, medium_of, world_over};
-use crate::shown::shown_on;
 use r10_body::Refusal;
 use r10_checker::{Verdict, check_file};
 use r10_machine::{Event, Reply};
@@ -15,7 +15,7 @@ use std::alloc::{AllocError, Global};
 
 /// How a step went.
 #[derive(Clone, Copy)]
-enum Told {
+enum StepResult {
     /// The reply that is wanted came at once.
     Once,
     /// Memory was refused, nothing was changed, and the wanted reply came when the step was told again.
@@ -26,9 +26,9 @@ enum Told {
 
 /// A recorder, how its making went, and how many of the asks before it came before one that was refused.
 #[derive(Drop)]
-struct Made {
+struct MakingResult {
     world: World<Memory>,
-    told: Told,
+    told: StepResult,
     before: Option<u32>,
 }
 
@@ -45,23 +45,23 @@ fn push_came(
     Ok(())
 }
 
-/// Asks for memory so often, so that a refused allocation of a fixed number falls on another one behind these; then makes a recorder,
-/// once more where memory is refused.
-fn made_behind(alloc: Global, course: &Course, asks: u32) -> Result<Made, TrialFault> {
+/// Asks for memory so often, so that a refused allocation of a fixed number falls on another one behind these; then makes a
+/// recorder, once more where memory is refused.
+fn made_behind(alloc: Global, course: &Course, asks: u32) -> Result<MakingResult, TrialFault> {
     let medium = medium_of(alloc, course.image.as_slice())?;
     let second = medium_of(alloc, course.image.as_slice())?;
     let before = ask(alloc, asks);
     if let Ok(world) = world_over(alloc, &course.settings, medium) {
-        let told = Told::Once;
-        return Ok(Made {
+        let told = StepResult::Once;
+        return Ok(MakingResult {
             world,
             told,
             before,
         });
     }
     let world = world_over(alloc, &course.settings, second)?;
-    let told = Told::Again;
-    Ok(Made {
+    let told = StepResult::Again;
+    Ok(MakingResult {
         world,
         told,
         before,
@@ -85,8 +85,8 @@ fn reads_as(alloc: Global, world: World<Memory>, wanted: &[u8]) -> bool {
     }
 }
 
-/// Does each step of the course behind so many asks for memory, again where it was refused for want of memory. It adds the line of what
-/// came: `as wanted` where each reply is that of a run without refusals, and the medium then reads as behind that run.
+/// Does each step of the course behind so many asks for memory, again where it was refused for want of memory. It adds the line of
+/// what came: `as wanted` where each reply is that of a run without refusals, and the medium then reads as behind that run.
 pub fn tell_again(
     alloc: Global,
     course: &Course,
@@ -102,8 +102,8 @@ pub fn tell_again(
 }
 
 /// What came of all steps, told to this recorder, where the medium should then read as these bytes.
-fn told_to_end(alloc: Global, course: &Course, made: Made, end: &[u8]) -> &'static str {
-    let Made { world, told, .. } = made;
+fn told_to_end(alloc: Global, course: &Course, made: MakingResult, end: &[u8]) -> &'static str {
+    let MakingResult { world, told, .. } = made;
     let mut world = world;
     let each = tell_each(alloc, course, &mut world);
     let reads = reads_as(alloc, world, end);
@@ -111,27 +111,27 @@ fn told_to_end(alloc: Global, course: &Course, made: Made, end: &[u8]) -> &'stat
 }
 
 /// What came of steps that were told, by a recorder that was made so.
-fn came_of(made: Told, told: Told, reads: bool) -> &'static str {
+fn came_of(made: StepResult, told: StepResult, reads: bool) -> &'static str {
     if !reads {
         return "not as wanted";
     }
     match told {
-        Told::Otherwise => "not as wanted",
-        Told::Again => "as wanted, a step was told again",
-        Told::Once => came_at_once(made),
+        StepResult::Otherwise => "not as wanted",
+        StepResult::Again => "as wanted, a step was told again",
+        StepResult::Once => came_at_once(made),
     }
 }
 
 /// What came where all that was told came at once.
-fn came_at_once(made: Told) -> &'static str {
+fn came_at_once(made: StepResult) -> &'static str {
     match made {
-        Told::Once => "as wanted",
+        StepResult::Once => "as wanted",
         _ => "as wanted, the recorder was made again",
     }
 }
 
-/// Runs the whole course in one call behind so many asks for memory, and goes on behind the number that it answered where it ended early.
-/// It adds the line of what came; replies are compared up to a step that was refused for want of memory.
+/// Runs the whole course in one call behind so many asks for memory, and goes on behind the number that it answered where it ended
+/// early. It adds the line of what came; replies are compared up to a step that was refused for want of memory.
 pub fn run_on(
     alloc: Global,
     course: &Course,
@@ -141,7 +141,7 @@ pub fn run_on(
     let mut made = made_behind(alloc, course, asks)?;
     let mut replies = Vec::new(alloc);
     let is_over = run_whole(&mut made.world, course.events.as_slice(), &mut replies);
-    let came = ran(
+    let came = run_result(
         replies.as_slice(),
         course.replies.as_slice(),
         is_over,
@@ -164,7 +164,7 @@ fn run_whole(world: &mut World<Memory>, events: &[Event], replies: &mut Vec<Repl
 }
 
 /// What came of a run, which was over at once or went on.
-fn ran(came: &[Reply], wanted: &[Reply], is_over: bool, made: Told) -> &'static str {
+fn run_result(came: &[Reply], wanted: &[Reply], is_over: bool, made: StepResult) -> &'static str {
     if *came != *wanted {
         return ran_otherwise(came, wanted);
     }
@@ -194,8 +194,8 @@ fn up_to(reply: &Reply) -> &'static str {
     }
 }
 
-/// Judges the bytes of the files that the course finds as one file, behind so many asks for memory, and once more where memory is refused.
-/// It adds the line of what came.
+/// Judges the bytes of the files that the course finds as one file, behind so many asks for memory, and once more where memory is
+/// refused. It adds the line of what came.
 pub fn judge_again(
     alloc: Global,
     course: &Course,
@@ -204,12 +204,12 @@ pub fn judge_again(
 ) -> Result<(), TrialFault> {
     let shown = shown_on(alloc, &course.settings, course.image.as_slice())?;
     let before = ask(alloc, asks);
-    let came = judged(alloc, shown.bytes.as_slice())?;
+    let came = judge_result(alloc, shown.bytes.as_slice())?;
     push_came(alloc, came, before, text)
 }
 
 /// What came of judging these bytes.
-fn judged(alloc: Global, bytes: &[u8]) -> Result<&'static str, AllocError> {
+fn judge_result(alloc: Global, bytes: &[u8]) -> Result<&'static str, AllocError> {
     if let Ok(verdict) = check_file(alloc, bytes) {
         return Ok(came_of_verdict(verdict, "as wanted"));
     }
@@ -224,27 +224,32 @@ fn came_of_verdict(verdict: Verdict, wanted: &'static str) -> &'static str {
     }
 }
 
-fn tell_each(alloc: Global, course: &Course, world: &mut World<Memory>) -> Told {
-    let mut told = Told::Once;
+fn tell_each(alloc: Global, course: &Course, world: &mut World<Memory>) -> StepResult {
+    let mut told = StepResult::Once;
     for (place, wanted) in course.replies.iter().enumerate() {
         let event = one_of(course.events.as_slice(), place);
         match tell_step(alloc, world, event, wanted) {
-            Told::Once => (),
-            Told::Again => told = Told::Again,
-            Told::Otherwise => return Told::Otherwise,
+            StepResult::Once => (),
+            StepResult::Again => told = StepResult::Again,
+            StepResult::Otherwise => return StepResult::Otherwise,
         }
     }
     told
 }
 
 /// Tells one step, and once more where memory is refused.
-fn tell_step(alloc: Global, world: &mut World<Memory>, event: &[Event], wanted: &Reply) -> Told {
+fn tell_step(
+    alloc: Global,
+    world: &mut World<Memory>,
+    event: &[Event],
+    wanted: &Reply,
+) -> StepResult {
     let before = status_of(alloc, world);
     let first = replies_to(alloc, world, event);
     if is_refused(first.as_slice()) {
         tell_once_more(alloc, world, event, wanted, before.as_slice())
     } else {
-        as_wanted(first.as_slice(), wanted, Told::Once)
+        as_wanted(first.as_slice(), wanted, StepResult::Once)
     }
 }
 
@@ -255,20 +260,20 @@ fn tell_once_more(
     event: &[Event],
     wanted: &Reply,
     before: &[Reply],
-) -> Told {
+) -> StepResult {
     let behind = status_of(alloc, world);
     if *behind.as_slice() != *before {
-        return Told::Otherwise;
+        return StepResult::Otherwise;
     }
     let second = replies_to(alloc, world, event);
-    as_wanted(second.as_slice(), wanted, Told::Again)
+    as_wanted(second.as_slice(), wanted, StepResult::Again)
 }
 
 /// How a step went whose reply is the first of these, if it came so.
-fn as_wanted(replies: &[Reply], wanted: &Reply, told: Told) -> Told {
+fn as_wanted(replies: &[Reply], wanted: &Reply, told: StepResult) -> StepResult {
     match replies.first() {
         Some(reply) if *reply == *wanted => told,
-        _ => Told::Otherwise,
+        _ => StepResult::Otherwise,
     }
 }
 

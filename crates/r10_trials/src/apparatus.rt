@@ -7,7 +7,7 @@ ghost use Rattle.r10_held.specs.Naming.{AreNamed};
 ghost use Rattle.r10_medium.specs.MemoryDisk.{memory_disk};
 
 use crate::fault::TrialFault;
-use crate::scene::{formatted, medium_of};
+use crate::scene::{formatted_image, medium_of};
 use r10_body::{ChannelSpec, Kind};
 use r10_control::Recorder;
 use r10_count::Parts;
@@ -83,7 +83,8 @@ fn both(alloc: Global, five: Outlet, six: Outlet) -> Result<Vec<Outlet>, AllocEr
 /// A new recorder over a medium.
 pub fn over<M: BlockMedium + Drop>(alloc: Global, medium: M) -> Result<Apparatus<M>, TrialFault>
     ensures new { IfOk result (λ a. IsNew M.disk outlet_spec outlet_received a.recorder) }
-    ensures named { IfOk result (λ a. AreNamed (record { channel = 5; ring = a.five.ring } ∷ record { channel = 6; ring = a.six.ring } ∷ []) a.recorder.lanes) }
+    ensures named { IfOk result (λ a. AreNamed
+        (record { channel = 5; ring = a.five.ring } ∷ record { channel = 6; ring = a.six.ring } ∷ []) a.recorder.lanes) }
 {
     let at_six = ChannelSpec { id: 6, ..FIVE };
     let settings = settings_for(alloc, FIVE, at_six)?;
@@ -106,7 +107,8 @@ pub fn over<M: BlockMedium + Drop>(alloc: Global, medium: M) -> Result<Apparatus
 /// A new recorder over a medium that reads as these bytes.
 pub fn over_image(alloc: Global, image: &[u8]) -> Result<Apparatus<Memory>, TrialFault>
     ensures new { IfOk result (λ a. IsNew memory_disk outlet_spec outlet_received a.recorder) }
-    ensures named { IfOk result (λ a. AreNamed (record { channel = 5; ring = a.five.ring } ∷ record { channel = 6; ring = a.six.ring } ∷ []) a.recorder.lanes) }
+    ensures named { IfOk result (λ a. AreNamed
+        (record { channel = 5; ring = a.five.ring } ∷ record { channel = 6; ring = a.six.ring } ∷ []) a.recorder.lanes) }
 {
     over(alloc, medium_of(alloc, image)?)
 }
@@ -114,13 +116,14 @@ pub fn over_image(alloc: Global, image: &[u8]) -> Result<Apparatus<Memory>, Tria
 /// The bytes of a medium that was formatted for such a recorder.
 pub fn formatted_image(alloc: Global) -> Result<Vec<u8>, TrialFault> {
     let settings = settings_for(alloc, FIVE, ChannelSpec { id: 6, ..FIVE })?;
-    formatted(alloc, &settings)
+    formatted_image(alloc, &settings)
 }
 
 /// A new recorder over a medium that was formatted for it.
 pub fn over_formatted(alloc: Global) -> Result<Apparatus<Memory>, TrialFault>
     ensures new { IfOk result (λ a. IsNew memory_disk outlet_spec outlet_received a.recorder) }
-    ensures named { IfOk result (λ a. AreNamed (record { channel = 5; ring = a.five.ring } ∷ record { channel = 6; ring = a.six.ring } ∷ []) a.recorder.lanes) }
+    ensures named { IfOk result (λ a. AreNamed
+        (record { channel = 5; ring = a.five.ring } ∷ record { channel = 6; ring = a.six.ring } ∷ []) a.recorder.lanes) }
 {
     let image = formatted_image(alloc)?;
     over_image(alloc, image.as_slice())

@@ -1,7 +1,7 @@
 //! What a recorder does, and over which medium.
 
 use crate::fault::TrialFault;
-use crate::scene::{formatted, image_recorded, medium_of, told};
+use crate::scene::{formatted_image, image_recorded, medium_of, run_events};
 use crate::title::{Act, Task};
 use r10_machine::{Event, Reply, Settings};
 use r10_medium::{Crashing, Faulty, Memory};
@@ -20,8 +20,8 @@ pub struct Course {
     pub rest: Vec<Event>,
 }
 
-/// The course of a task. One that a new recorder ends has the first so many steps, on a formatted medium; another one has those behind
-/// them, on the medium that these leave, with a status at its end.
+/// The course of a task. One that a new recorder ends has the first so many steps, on a formatted medium; another one has those
+/// behind them, on the medium that these leave, with a status at its end.
 pub fn course_of(alloc: Global, script: Script, task: &Task) -> Result<Course, TrialFault> {
     let Script { settings, events } = script;
     let mut course = Course {
@@ -57,13 +57,13 @@ impl Course {
             self.add(event, task.first)?;
         }
         if is_ended_by_another(task.act) {
-            self.image = formatted(alloc, &self.settings)?;
+            self.image = formatted_image(alloc, &self.settings)?;
         } else {
             self.go_on(alloc)?;
         }
         let medium = self.medium(alloc)?;
         let events = self.events.as_slice();
-        let _medium = told(alloc, &self.settings, medium, events, &mut self.replies)?;
+        let _medium = run_events(alloc, &self.settings, medium, events, &mut self.replies)?;
         Ok(())
     }
 
@@ -82,14 +82,14 @@ impl Course {
 }
 
 /// Does the steps over a medium that stops after so many calls, adds the replies, and answers the medium.
-pub fn stopped(
+pub fn run_to_stop(
     alloc: Global,
     course: &Course,
     calls: u64,
     replies: &mut Vec<Reply>,
 ) -> Result<Crashing, TrialFault> {
     let medium = Crashing::new(alloc, course.medium(alloc)?, calls)?;
-    told(
+    run_events(
         alloc,
         &course.settings,
         medium,
@@ -99,14 +99,14 @@ pub fn stopped(
 }
 
 /// The same over a medium whose call of this number fails, from 1.
-pub fn failed(
+pub fn run_to_failure(
     alloc: Global,
     course: &Course,
     call: u64,
     replies: &mut Vec<Reply>,
 ) -> Result<Faulty<Memory>, TrialFault> {
     let medium = Faulty::new(course.medium(alloc)?, call);
-    told(
+    run_events(
         alloc,
         &course.settings,
         medium,

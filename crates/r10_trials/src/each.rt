@@ -1,10 +1,10 @@
 //! A stop after each call of the medium, and a failure of each.
 
-use crate::course::{Course, failed, stopped};
+use crate::course::{Course, run_to_failure, run_to_stop};
 use crate::fault::TrialFault;
+use crate::medium_content::{MediumContent, judged_on, shown_on};
 use crate::scene::{first_of, image_behind, image_left};
-use crate::shown::{Shown, judged_on, shown_on};
-use crate::tally::{Found, Named, Row, place_in, raise, word_of};
+use crate::tally::{FilesFound, Named, Row, place_in, raise, word_of};
 use r10_body::Refusal;
 use r10_machine::{Event, Mode, Reply};
 use r10_medium::{BlockMedium, Choice, Crashing};
@@ -24,13 +24,13 @@ const CHOICES: [Choice; 4] = [
 #[derive(Drop)]
 struct Around {
     place: usize,
-    before: Shown,
-    behind: Shown,
+    before: MediumContent,
+    behind: MediumContent,
 }
 
 /// What is known when a call more is stopped.
 #[derive(Drop)]
-struct Walk {
+struct StopWalk {
     /// Around the step that the call before met, and else around none.
     around: Around,
     /// What was read behind the calls before; nothing before the first.
@@ -39,8 +39,8 @@ struct Walk {
     row: usize,
 }
 
-/// Stops the course after so many calls, and after each one more, and has each call behind the first so many fail. It adds a row for
-/// each word of a step that calls the medium.
+/// Stops the course after so many calls, and after each one more, and has each call behind the first so many fail. It adds a row
+/// for each word of a step that calls the medium.
 pub fn try_each(
     alloc: Global,
     course: &Course,
@@ -49,10 +49,10 @@ pub fn try_each(
 ) -> Result<(), TrialFault> {
     let around = Around {
         place: usize::MAX,
-        before: Shown::nothing(alloc),
-        behind: Shown::nothing(alloc),
+        before: MediumContent::nothing(alloc),
+        behind: MediumContent::nothing(alloc),
     };
-    let mut walk = Walk {
+    let mut walk = StopWalk {
         around,
         image: Vec::new(alloc),
         row: 0,
@@ -64,7 +64,7 @@ fn walk_on(
     alloc: Global,
     course: &Course,
     from: u64,
-    walk: &mut Walk,
+    walk: &mut StopWalk,
     rows: &mut Vec<Named>,
 ) -> Result<(), TrialFault> {
     for calls in from..MOST {
@@ -80,11 +80,11 @@ fn is_over_after(
     alloc: Global,
     course: &Course,
     calls: u64,
-    walk: &mut Walk,
+    walk: &mut StopWalk,
     rows: &mut Vec<Named>,
 ) -> Result<bool, TrialFault> {
     let mut replies = Vec::new(alloc);
-    let medium = stopped(alloc, course, calls, &mut replies)?;
+    let medium = run_to_stop(alloc, course, calls, &mut replies)?;
     add_stop(
         alloc,
         course,
@@ -96,14 +96,15 @@ fn is_over_after(
     )
 }
 
-/// Counts what the last call changed, and a stop behind it and a failure of the call that is next. It answers whether there is none.
+/// Counts what the last call changed, and a stop behind it and a failure of the call that is next. It answers whether there is
+/// none.
 fn add_stop(
     alloc: Global,
     course: &Course,
     calls: u64,
     replies: &[Reply],
     medium: &Crashing,
-    walk: &mut Walk,
+    walk: &mut StopWalk,
     rows: &mut Vec<Named>,
 ) -> Result<bool, TrialFault> {
     add_change(alloc, course, medium, walk, rows.as_mut_slice())?;
@@ -132,7 +133,7 @@ fn add_change(
     alloc: Global,
     course: &Course,
     medium: &Crashing,
-    walk: &mut Walk,
+    walk: &mut StopWalk,
     rows: &mut [Named],
 ) -> Result<(), TrialFault> {
     let image = image_left(alloc, medium, Choice::Read)?;
@@ -143,7 +144,12 @@ fn add_change(
 }
 
 /// Sees what a new recorder finds around the step in this place, if it was another one.
-fn go_to(alloc: Global, course: &Course, place: usize, walk: &mut Walk) -> Result<(), TrialFault> {
+fn go_to(
+    alloc: Global,
+    course: &Course,
+    place: usize,
+    walk: &mut StopWalk,
+) -> Result<(), TrialFault> {
     if walk.around.place != place {
         walk.around = around_step(alloc, course, place)?;
     }
@@ -174,7 +180,7 @@ fn around_step(alloc: Global, course: &Course, place: usize) -> Result<Around, T
 }
 
 /// What a new recorder finds behind the first so many steps.
-fn shown_behind(alloc: Global, course: &Course, steps: usize) -> Result<Shown, TrialFault> {
+fn shown_behind(alloc: Global, course: &Course, steps: usize) -> Result<MediumContent, TrialFault> {
     let events = first_of(course.events.as_slice(), steps);
     let image = image_behind(alloc, &course.settings, course.image.as_slice(), events)?;
     shown_on(alloc, &course.settings, image.as_slice())
@@ -309,17 +315,17 @@ fn found_on(
     course: &Course,
     around: &Around,
     image: &[u8],
-) -> Result<Found, TrialFault> {
+) -> Result<FilesFound, TrialFault> {
     let shown = shown_on(alloc, &course.settings, image)?;
     Ok(found_as(shown == around.before, shown == around.behind))
 }
 
-fn found_as(old: bool, new: bool) -> Found {
+fn found_as(old: bool, new: bool) -> FilesFound {
     match (old, new) {
-        (true, true) => Found::Same,
-        (true, false) => Found::Old,
-        (false, true) => Found::New,
-        (false, false) => Found::Neither,
+        (true, true) => FilesFound::Same,
+        (true, false) => FilesFound::Old,
+        (false, true) => FilesFound::New,
+        (false, false) => FilesFound::Neither,
     }
 }
 
@@ -332,7 +338,7 @@ fn note_failure(
     call: u64,
 ) -> Result<(), TrialFault> {
     let mut replies = Vec::new(alloc);
-    let medium = failed(alloc, course, call, &mut replies)?;
+    let medium = run_to_failure(alloc, course, call, &mut replies)?;
     note_replies(row, course, replies.as_slice(), around.place);
     if medium.failures() != 1 {
         raise(&mut row.wrong);

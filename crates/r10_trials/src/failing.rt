@@ -8,7 +8,7 @@ ghost use Rattle.r10_medium.specs.FaultyParts.{faulty_disk};
 
 use crate::apparatus::{Apparatus, Ready, formatted_image, over, over_image};
 use crate::fault::{TrialFault, fault_of};
-use crate::listed::{Listed, MESSAGES, source};
+use crate::list_source::{ListSource, MESSAGES, source};
 use crate::notes::Notes;
 use crate::plan::{Plan, before};
 use crate::recovered::{Recovered, recovered_from};
@@ -153,7 +153,7 @@ fn run_failing<N: Rings + Send + Sync, R: Threads + Wait + Sync>(
 }
 
 /// A source of all messages, in a box.
-fn boxed(alloc: Global) -> Result<Box<Listed>, TrialFault> {
+fn boxed_source(alloc: Global) -> Result<Box<ListSource>, TrialFault> {
     match Box::new(alloc, source(alloc)?) {
         Ok(source) => Ok(source),
         Err(_) => Err(TrialFault::Memory(AllocError)),
@@ -169,8 +169,8 @@ fn try_call<R: Threads + Wait + Sync>(
 ) -> Result<Option<Broken>, TrialFault> {
     let image = formatted_image(alloc)?;
     let medium = Faulty::new(medium_of(alloc, image.as_slice())?, call);
-    let first = boxed(alloc)?;
-    let second = boxed(alloc)?;
+    let first = boxed_source(alloc)?;
+    let second = boxed_source(alloc)?;
     let Apparatus {
         recorder,
         five,
@@ -204,8 +204,8 @@ fn found_on(alloc: Global, medium: &Memory) -> Result<Recovered, TrialFault> {
     }
 }
 
-/// A feed's account: all messages were sent. The recorder took the first of them, of which erases took the first, and the files have those after these
-/// up to some; and the others are left. Each is there once and in order.
+/// A feed's account: all messages were sent. The recorder took the first of them, of which erases took the first, and the files
+/// have those after these up to some; and the others are left. Each is there once and in order.
 fn settle_feed(report: &FeedReport, found: &Recovered, notes: &mut Notes) {
     let (all, taken) = (u64::from(MESSAGES), report.taken());
     notes.want(
@@ -254,7 +254,8 @@ fn settle(
     Ok(())
 }
 
-/// Runs the session of a plan over a medium whose first call fails, over one whose second call fails, and so on, until one does not fail.
+/// Runs the session of a plan over a medium whose first call fails, over one whose second call fails, and so on, until one does not
+/// fail.
 pub fn try_calls<R: Threads + Wait + Sync>(
     rt: &R,
     alloc: Global,

@@ -1,7 +1,7 @@
-//! Trials of what no contract can say: a recorder is stopped after each call of its medium and has each call fail, in the runs whose scripts stand in
-//! standard input one behind the other; what memory was refused to is done again; and behind them stand sessions between threads, which are run and
-//! ended, whichever of their allocations was refused. It prints how often a new recorder finds the files from before the step that was met, how often
-//! those behind it, and whether all came as it is to.
+//! Trials of what no contract can say: a recorder is stopped after each call of its medium and has each call fail, in the runs
+//! whose scripts stand in standard input one behind the other; what memory was refused to is done again; and behind them stand
+//! sessions between threads, which are run and ended, whichever of their allocations was refused. It prints how often a new
+//! recorder finds the files from before the step that was met, how often those behind it, and whether all came as it is to.
 #![tactic(auto)]
 
 mod again;
@@ -11,16 +11,16 @@ mod course;
 mod each;
 mod failing;
 mod fault;
-mod listed;
-mod named;
+mod list_source;
+mod medium_content;
 mod notes;
+mod one_stop;
 mod plan;
 mod recovered;
 mod scene;
 mod session;
 mod sessions;
 mod settled;
-mod shown;
 mod standing;
 mod tally;
 mod title;

@@ -26,7 +26,8 @@ pub enum Plan {
     SecondFile,
     /// That the file is closed and erased, and another begun.
     Erased,
-    /// Nothing; and of the workers the feeds alone pass the gate, so that all messages are left, and memory is asked for equally often in each run.
+    /// Nothing; and of the workers the feeds alone pass the gate, so that all messages are left, and memory is asked for equally
+    /// often in each run.
     Unwritten,
 }
 

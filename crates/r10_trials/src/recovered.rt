@@ -2,7 +2,7 @@
 
 use crate::apparatus::{Apparatus, LAST, over_image};
 use crate::fault::{TrialFault, fault_of};
-use crate::shown::judged_on;
+use crate::medium_content::judged_on;
 use crate::standing::CHANNELS;
 use r10_body::Entry;
 use r10_control::Recorder;
@@ -11,7 +11,8 @@ use r10_lane::LaneOut;
 use r10_medium::BlockMedium;
 use std::alloc::Global;
 
-/// What a new recorder finds on a medium: the messages of both channels, in the order of the files, and whether each file is strict.
+/// What a new recorder finds on a medium: the messages of both channels, in the order of the files, and whether each file is
+/// strict.
 #[derive(Drop)]
 pub struct Recovered {
     pub entries: Vec<Entry>,

@@ -23,7 +23,7 @@ fn copy_of(alloc: Global, settings: &Settings) -> Result<Settings, AllocError> {
 }
 
 /// The bytes of a medium that was formatted for these settings.
-pub fn formatted(alloc: Global, settings: &Settings) -> Result<Vec<u8>, TrialFault> {
+pub fn formatted_image(alloc: Global, settings: &Settings) -> Result<Vec<u8>, TrialFault> {
     let mut medium = Memory::new(alloc, settings.blocks())?;
     if let Err(refusal) = r10_volume::format(&mut medium, settings) {
         return Err(fault_of(refusal));
@@ -56,7 +56,7 @@ pub fn world_over<M: BlockMedium + Drop>(
 }
 
 /// Tells events to a new recorder over this medium, adds what it answers, and gives the medium behind them.
-pub fn told<M: BlockMedium + Drop>(
+pub fn run_events<M: BlockMedium + Drop>(
     alloc: Global,
     settings: &Settings,
     medium: M,
@@ -82,7 +82,7 @@ pub fn image_behind(
 ) -> Result<Vec<u8>, TrialFault> {
     let medium = medium_of(alloc, image)?;
     let mut replies = Vec::new(alloc);
-    let medium = told(alloc, settings, medium, events, &mut replies)?;
+    let medium = run_events(alloc, settings, medium, events, &mut replies)?;
     Ok(medium.image(alloc)?)
 }
 

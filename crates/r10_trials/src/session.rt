@@ -10,7 +10,7 @@ use crate::apparatus::{LAST, Ready};
 use crate::fault::{TrialFault, fault_of};
 use crate::notes::Notes;
 use crate::plan::{First, Plan, before};
-use crate::standing::{CHANNELS, Standing, standing_of};
+use crate::standing::{CHANNELS, RecorderState, standing_of};
 use r10_body::Refusal;
 use r10_control::Recorder;
 use r10_count::Items;
@@ -85,7 +85,7 @@ fn give_again<N: Rings, R: Wait>(
     rt: &R,
     held: &mut Held<Memory, N>,
     order: &Order,
-    standing: &Standing,
+    standing: &RecorderState,
     notes: &mut Notes,
 ) -> Result<(), TrialFault> {
     notes.do_again("an order was given again");
@@ -140,7 +140,7 @@ fn cursor_of<N: Rings>(
 fn open_again<N: Rings>(
     alloc: Global,
     held: &mut Held<Memory, N>,
-    standing: &Standing,
+    standing: &RecorderState,
     notes: &mut Notes,
 ) -> Result<Cursor, TrialFault> {
     notes.do_again("a cursor was opened again");
@@ -155,7 +155,7 @@ fn open_again<N: Rings>(
 }
 
 /// Begins a file, and opens a cursor on it.
-fn begun<N: Rings, R: Wait>(
+fn begin_file<N: Rings, R: Wait>(
     rt: &R,
     alloc: Global,
     cabinet: &Cabinet<Memory, N>,
@@ -230,25 +230,26 @@ fn run_now<N: Rings + Send + Sync, R: Threads + Wait + Sync>(
     }
 }
 
-/// Ends a session, and says how the recorder was before. A refusal must leave the recorder as it was, and what comes back is ended again.
+/// Ends a session, and says how the recorder was before. A refusal must leave the recorder as it was, and what comes back is ended
+/// again.
 fn end_again<N: Rings, R: Wait>(
     rt: &R,
     alloc: Global,
     cabinet: Cabinet<Memory, N>,
     session: Session<N>,
     notes: &mut Notes,
-) -> Result<(SessionReport<Memory>, Standing), TrialFault> {
+) -> Result<(SessionReport<Memory>, RecorderState), TrialFault> {
     let standing = standing_of(&mut cabinet.hold(rt));
-    let report = ended(rt, alloc, cabinet, session, &standing, notes)?;
+    let report = end_session_of(rt, alloc, cabinet, session, &standing, notes)?;
     Ok((report, standing))
 }
 
-fn ended<N: Rings, R: Wait>(
+fn end_session_of<N: Rings, R: Wait>(
     rt: &R,
     alloc: Global,
     cabinet: Cabinet<Memory, N>,
     session: Session<N>,
-    standing: &Standing,
+    standing: &RecorderState,
     notes: &mut Notes,
 ) -> Result<SessionReport<Memory>, TrialFault> {
     match end_session(alloc, cabinet, session) {
@@ -288,7 +289,7 @@ fn run_in<N: Rings + Send + Sync, R: Threads + Wait + Sync>(
 ) -> Result<Session<N>, TrialFault>
     requires { pass.cell ≡ cabinet.now }
 {
-    let cursor = begun(rt, alloc, cabinet, notes)?;
+    let cursor = begin_file(rt, alloc, cabinet, notes)?;
     let players = alone(alloc, Player::new(cursor, pass))?;
     let orders = plan.orders(alloc)?;
     run_again(
@@ -303,8 +304,8 @@ fn run_in<N: Rings + Send + Sync, R: Threads + Wait + Sync>(
     )
 }
 
-/// Two feeds and a reader of both, while a file is recorded and control asks what the plan says. What came of it, and how the recorder was
-/// before the end.
+/// Two feeds and a reader of both, while a file is recorded and control asks what the plan says. What came of it, and how the
+/// recorder was before the end.
 pub fn run_over<N: Rings + Send + Sync, R: Threads + Wait + Sync>(
     rt: &R,
     alloc: Global,
@@ -313,7 +314,7 @@ pub fn run_over<N: Rings + Send + Sync, R: Threads + Wait + Sync>(
     second: AnySource,
     plan: Plan,
     notes: &mut Notes,
-) -> Result<(SessionReport<Memory>, Standing), TrialFault>
+) -> Result<(SessionReport<Memory>, RecorderState), TrialFault>
     requires new { IsNew memory_disk outlet_spec outlet_received made.gauged.recorder }
     requires named { AreNamed N.rings made.gauged.recorder.lanes }
     requires gauge { made.gauged.cell ≡ N.gauge }

@@ -4,11 +4,11 @@ use crate::apparatus::{Apparatus, Ready, over_formatted};
 use crate::asks::{ask, ask_behind, push_refused};
 use crate::failing::try_calls;
 use crate::fault::TrialFault;
-use crate::listed::{Listed, source};
+use crate::list_source::{ListSource, source};
 use crate::notes::Notes;
 use crate::plan::Plan;
 use crate::session::{gauged_of, run_over};
-use crate::settled::{Ended, finish, settle};
+use crate::settled::{EndedSession, finish, settle};
 use std::alloc::{AllocError, Global};
 use std::io::Write;
 use std::marker::Brand;
@@ -22,7 +22,7 @@ fn task_of(line: &str) -> Option<(Plan, u32)> {
 }
 
 /// A source of all messages, in a box.
-fn boxed(alloc: Global) -> Result<Box<Listed>, TrialFault> {
+fn boxed_source(alloc: Global) -> Result<Box<ListSource>, TrialFault> {
     match Box::new(alloc, source(alloc)?) {
         Ok(source) => Ok(source),
         Err(_) => Err(TrialFault::Memory(AllocError)),
@@ -35,9 +35,9 @@ fn try_once<R: Threads + Wait + Sync>(
     alloc: Global,
     plan: Plan,
     notes: &mut Notes,
-) -> Result<Ended, TrialFault> {
-    let first = boxed(alloc)?;
-    let second = boxed(alloc)?;
+) -> Result<EndedSession, TrialFault> {
+    let first = boxed_source(alloc)?;
+    let second = boxed_source(alloc)?;
     let Apparatus {
         recorder,
         five,
@@ -55,7 +55,7 @@ fn try_again<R: Threads + Wait + Sync>(
     alloc: Global,
     plan: Plan,
     notes: &mut Notes,
-) -> Result<Ended, TrialFault> {
+) -> Result<EndedSession, TrialFault> {
     match try_once(rt, alloc, plan, notes) {
         Err(TrialFault::Memory(_)) => {
             notes.do_again("all was made again");
@@ -67,7 +67,7 @@ fn try_again<R: Threads + Wait + Sync>(
 
 /// How often memory was asked for before and behind a session before an ask that was refused, if one was.
 #[derive(Clone, Copy)]
-struct Asked {
+struct AskCounts {
     before: Option<u32>,
     behind: Option<u32>,
 }
@@ -88,7 +88,7 @@ fn push_lines(
     alloc: Global,
     line: &str,
     notes: Notes,
-    asked: Asked,
+    asked: AskCounts,
     text: &mut String,
 ) -> Result<(), AllocError> {
     text.push_str(line)?;
@@ -104,12 +104,12 @@ fn try_behind<R: Threads + Wait + Sync>(
     plan: Plan,
     asks: u32,
     notes: &mut Notes,
-) -> Result<Asked, TrialFault> {
+) -> Result<AskCounts, TrialFault> {
     let before = ask(alloc, asks);
     let ended = try_again(rt, alloc, plan, notes);
     let behind = ask_behind(alloc);
     settle(alloc, &ended?, plan, notes)?;
-    Ok(Asked { before, behind })
+    Ok(AskCounts { before, behind })
 }
 
 /// Runs the sessions of a plan over media that fail, and writes the line and what came of them.
@@ -122,7 +122,7 @@ fn try_failing<R: Threads + Wait + Sync, W: Write>(
 ) -> Result<(), TrialFault> {
     let mut notes = Notes::default();
     try_calls(rt, alloc, plan, &mut notes)?;
-    let none = Asked {
+    let none = AskCounts {
         before: None,
         behind: None,
     };

@@ -1,11 +1,11 @@
 //! What became of each message, compared with the files that are found.
 
 use crate::fault::{TrialFault, fault_of};
-use crate::listed::{MESSAGES, is_message};
+use crate::list_source::{MESSAGES, is_message};
 use crate::notes::Notes;
 use crate::plan::Plan;
 use crate::recovered::{Recovered, recovered_from};
-use crate::standing::{CHANNELS, Standing};
+use crate::standing::{CHANNELS, RecorderState};
 use r10_body::{Entry, Refusal};
 use r10_control::Recorder;
 use r10_lane::LaneOut;
@@ -13,8 +13,8 @@ use r10_medium::{BlockMedium, Memory};
 use r10_shared::{FeedReport, SessionReport, audit};
 use std::alloc::Global;
 
-/// The messages of a channel among those that were found are these of its source, each once and in order, from this number on. It answers
-/// how many there are, or None where one is another.
+/// The messages of a channel among those that were found are these of its source, each once and in order, from this number on. It
+/// answers how many there are, or None where one is another.
 pub fn filed_from(entries: &[Entry], channel: u16, from: u64) -> Option<u64> {
     let mut filed = 0u64;
     for entry in entries {
@@ -46,13 +46,13 @@ fn taken_of(report: &FeedReport) -> u64 {
     report.erased.saturating_add(report.filed)
 }
 
-/// A feed's account: all messages were sent, and those that were erased, those that are found in the files and those that are left are
-/// the source's, each once and in order; and the numbers are those that the recorder had under its lock.
+/// A feed's account: all messages were sent, and those that were erased, those that are found in the files and those that are left
+/// are the source's, each once and in order; and the numbers are those that the recorder had under its lock.
 fn settle_feed(
     report: &FeedReport,
     found: &Recovered,
     place: usize,
-    standing: &Standing,
+    standing: &RecorderState,
     notes: &mut Notes,
 ) {
     let place = place.min(1);
@@ -157,23 +157,23 @@ fn close_now<M: BlockMedium, L: LaneOut>(recorder: &mut Recorder<M, L>) -> Resul
 
 /// What is compared of a session that has ended, and the medium that it leaves.
 #[derive(Drop)]
-pub struct Ended {
+pub struct EndedSession {
     medium: Memory,
     feeds: Vec<FeedReport>,
     /// How many messages the reader wrote down.
     read: u64,
     /// How the recorder was before the end.
-    standing: Standing,
+    standing: RecorderState,
 }
 
 /// Audits what the reader wrote down, and closes the file.
 pub fn finish(
     alloc: Global,
     report: SessionReport<Memory>,
-    standing: Standing,
+    standing: RecorderState,
     plan: Plan,
     notes: &mut Notes,
-) -> Result<Ended, TrialFault> {
+) -> Result<EndedSession, TrialFault> {
     let mut report = report;
     let read = audit_and_close(alloc, &mut report, plan, notes)?;
     let SessionReport {
@@ -182,7 +182,7 @@ pub fn finish(
         ..
     } = report;
     let medium = recorder.into_medium();
-    Ok(Ended {
+    Ok(EndedSession {
         medium,
         feeds,
         read,
@@ -209,7 +209,7 @@ fn audit_and_close(
 /// Compares the account of a session with the files that a new recorder finds on the medium.
 pub fn settle(
     alloc: Global,
-    ended: &Ended,
+    ended: &EndedSession,
     plan: Plan,
     notes: &mut Notes,
 ) -> Result<(), TrialFault> {
@@ -221,13 +221,13 @@ pub fn settle(
     Ok(())
 }
 
-fn found_behind(alloc: Global, ended: &Ended) -> Result<Recovered, TrialFault> {
+fn found_behind(alloc: Global, ended: &EndedSession) -> Result<Recovered, TrialFault> {
     let image = ended.medium.image(alloc)?;
     recovered_from(alloc, image.as_slice())
 }
 
 /// Settles each feed, and answers how many messages are left.
-fn settle_feeds(ended: &Ended, found: &Recovered, notes: &mut Notes) -> u64 {
+fn settle_feeds(ended: &EndedSession, found: &Recovered, notes: &mut Notes) -> u64 {
     let mut left = 0u64;
     for (place, feed) in ended.feeds.iter().enumerate() {
         settle_feed(feed, found, place, &ended.standing, notes);

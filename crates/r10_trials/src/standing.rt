@@ -12,7 +12,7 @@ pub const CHANNELS: [u16; 2] = [5, 6];
 
 /// How a recorder is, without what other threads change: what waits in its lanes.
 #[derive(Clone, Copy, PartialEq, Eq)]
-pub struct Standing {
+pub struct RecorderState {
     pub mode: Option<Mode>,
     pub tick: Option<Count>,
     pub files: usize,
@@ -34,13 +34,13 @@ fn status_of<M: BlockMedium, N: Rings>(held: &mut Held<M, N>) -> Result<Recorder
 }
 
 /// How the recorder is under its lock.
-pub fn standing_of<M: BlockMedium, N: Rings>(held: &mut Held<M, N>) -> Standing {
+pub fn standing_of<M: BlockMedium, N: Rings>(held: &mut Held<M, N>) -> RecorderState {
     let (mode, tick, files, free) = match status_of(held) {
         Ok(status) => (Some(status.mode), status.tick, status.files, status.free),
         Err(_) => (None, None, 0, 0),
     };
     let [five, six] = CHANNELS;
-    Standing {
+    RecorderState {
         mode,
         tick,
         files,

@@ -5,7 +5,7 @@ use std::alloc::{AllocError, Global};
 
 /// Which files were found.
 #[derive(Clone, Copy)]
-pub enum Found {
+pub enum FilesFound {
     /// Those from before the step.
     Old,
     /// Those behind it.
@@ -61,12 +61,12 @@ pub fn raise(number: &mut u64) {
 
 impl Finds {
     /// One more of these.
-    pub fn add(&mut self, found: Found) {
+    pub fn add(&mut self, found: FilesFound) {
         match found {
-            Found::Old => raise(&mut self.old),
-            Found::New => raise(&mut self.new),
-            Found::Same => raise(&mut self.same),
-            Found::Neither => raise(&mut self.neither),
+            FilesFound::Old => raise(&mut self.old),
+            FilesFound::New => raise(&mut self.new),
+            FilesFound::Same => raise(&mut self.same),
+            FilesFound::Neither => raise(&mut self.neither),
         }
     }
 

@@ -5,8 +5,8 @@ use crate::fault::TrialFault;
 /// What is tried with a script. Its first steps may be done by a recorder that is gone when the rest begins.
 #[derive(Clone, Copy)]
 pub enum Act {
-    /// Behind the first steps the medium is stopped after so many calls, and after each call more in turn; and each call behind the first so
-    /// many fails in turn.
+    /// Behind the first steps the medium is stopped after so many calls, and after each call more in turn; and each call behind the
+    /// first so many fails in turn.
     Each,
     /// The call of this number, from 1, fails in the first steps, and a new recorder does the rest.
     Fails,
@@ -16,9 +16,11 @@ pub enum Act {
     Spoils,
     /// Behind the first steps each step is told, again where memory was refused, after so many asks for memory.
     Again,
-    /// Behind the first steps all others are run at once, and run on behind the number that was answered, after so many asks for memory.
+    /// Behind the first steps all others are run at once, and run on behind the number that was answered, after so many asks for
+    /// memory.
     Runs,
-    /// The bytes of the files that the first steps leave are judged as one file, again where memory was refused, after so many asks for memory.
+    /// The bytes of the files that the first steps leave are judged as one file, again where memory was refused, after so many asks
+    /// for memory.
     Judges,
 }
 
@@ -50,8 +52,8 @@ pub fn trial_of(place: usize, lines: &str) -> Result<Trial<'_>, TrialFault> {
     }
 }
 
-/// What the title of the trial in this place asks for: `NAME WORD NUMBER STEPS`, where the word is that of an act, and `NAME spoils PLACE BYTE
-/// STEPS`.
+/// What the title of the trial in this place asks for: `NAME WORD NUMBER STEPS`, where the word is that of an act, and `NAME spoils
+/// PLACE BYTE STEPS`.
 pub fn task_of(place: usize, title: &str) -> Result<Task, TrialFault> {
     match read_title(title) {
         Some(task) => Ok(task),
@@ -62,7 +64,7 @@ pub fn task_of(place: usize, title: &str) -> Result<Task, TrialFault> {
 fn read_title(title: &str) -> Option<Task> {
     let (words, first) = last_number(title)?;
     let (words, number) = last_number(words)?;
-    let (words, place) = placed(words);
+    let (words, place) = words_and_place(words);
     let act = act_in(words)?;
     Some(Task {
         act,
@@ -80,7 +82,7 @@ fn last_number(words: &str) -> Option<(&str, u32)> {
 }
 
 /// The same; 0 and all words where none does.
-fn placed(words: &str) -> (&str, u32) {
+fn words_and_place(words: &str) -> (&str, u32) {
     match last_number(words) {
         Some((front, place)) => (front, place),
         None => (words, 0),

@@ -4,7 +4,7 @@ use crate::again::{judge_again, run_on, tell_again};
 use crate::course::{Course, course_of};
 use crate::each::try_each;
 use crate::fault::TrialFault;
-use crate::named::{fail_at, spoil_byte, stop_after};
+use crate::one_stop::{fail_at, spoil_byte, stop_after};
 use crate::tally::{Named, Row, push_number, raise};
 use crate::title::{Act, Task, task_of, trial_of};
 use r10_machine::Reply;
@@ -78,7 +78,7 @@ fn try_task(
 ) -> Result<Row, TrialFault> {
     let script = script_of(alloc, place, script)?;
     let course = course_of(alloc, script, task)?;
-    tried(alloc, task, &course, text)
+    row_of(alloc, task, &course, text)
 }
 
 fn script_of(alloc: Global, place: usize, text: &str) -> Result<Script, TrialFault> {
@@ -89,7 +89,7 @@ fn script_of(alloc: Global, place: usize, text: &str) -> Result<Script, TrialFau
 }
 
 /// Adds the lines of what a task came to, and answers the row.
-fn tried(
+fn row_of(
     alloc: Global,
     task: &Task,
     course: &Course,
@@ -121,7 +121,8 @@ fn push_tried(
     }
 }
 
-/// Tries each call of a course behind the first so many, adds the lines of each word of a step, and of all, and answers the row of all.
+/// Tries each call of a course behind the first so many, adds the lines of each word of a step, and of all, and answers the row of
+/// all.
 fn push_each(
     alloc: Global,
     course: &Course,

@@ -51,7 +51,8 @@ impl UartBody {
     /// written them.
     pub fn decode(alloc: Global, body: &[u8]) -> Result<Reading<UartBody>, AllocError>
         ensures found { IfOk result (ReadsBody (λ read. IsUart read.entries body.now) (IsForeignUart body.now)) }
-        ensures only { (entries : List UartEntryValue) → IsUart entries body.now → IfOk result (λ reading. reading ≡ Strict (record { entries = entries })) }
+        ensures only { (entries : List UartEntryValue) → IsUart entries body.now
+            → IfOk result (λ reading. reading ≡ Strict (record { entries = entries })) }
     {
         match read_body(alloc, 0, 0, body)? {
             Reading::Strict(entries) => Ok(Reading::Strict(UartBody { entries })),

@@ -11,7 +11,7 @@ use Rattle.r10_dirchain.specs.Chain.{listed_files}
 use Rattle.r10_dirchain.specs.Mount.{stands}
 use Rattle.r10_dirchain.proofs.Standing.{Stand, usable_of}
 use Rattle.r10_dirchain.proofs.Unique.{one_directory}
-use Rattle.r10_volume.specs.Holding.{HoldsFiles, Open}
+use Rattle.r10_volume.specs.Holding.{HoldsFiles, OpenState}
 use Rattle.r10_machine.specs.Checks.{is_sealed, is_taken}
 use Rattle.r10_machine.specs.Config.{Config}
 use Rattle.r10_machine.specs.Machine.{File}
@@ -28,7 +28,7 @@ pub record IsListed (s : Config) (image : Image) (entries : List Entry) (files :
   pub stand : Stand s.blocks (s.directory + 1) entries
   pub blocks : length image ≡ s.blocks
 
-pub held_lists : (s : Config) (image : Image) (chain : List ChainBlock) (written : Option Open) (files : List File) → HoldsFiles s image chain written files → IsListed s image (listed_files chain) files
+pub held_lists : (s : Config) (image : Image) (chain : List ChainBlock) (written : Option OpenState) (files : List File) → HoldsFiles s image chain written files → IsListed s image (listed_files chain) files
 held_lists s image chain written files holds =
     let says = holds.says in
     let same : says.chain ≡ chain = one_directory image says.chain chain says.directory holds.directory in
@@ -136,7 +136,7 @@ behind_inside blocks reserved entries le stand = last_inside blocks (reserved + 
 
 -- ---- the whole
 
-module _ (s : Config) (image : Image) (chain : List ChainBlock) (written : Option Open) (files : List File) where
+module _ (s : Config) (image : Image) (chain : List ChainBlock) (written : Option OpenState) (files : List File) where
   lists : HoldsFiles s image chain written files → IsListed s image (listed_files chain) files
   lists = held_lists s image chain written files
 
@@ -158,7 +158,7 @@ module _ (s : Config) (image : Image) (chain : List ChainBlock) (written : Optio
   pub inside_told : HoldsFiles s image chain written files → s.directory < length image → next_block s files ≤ length image
   inside_told holds less = let is = lists holds in omega (arith, is.blocks, behind_told holds, behind_inside s.blocks s.directory (listed_files chain) (omega (arith, less, is.blocks)) is.stand)
 
-pub names_told : (s : Config) (image : Image) (chain : List ChainBlock) (written : Option Open) (files : List File) (name : List ℕ) → HoldsFiles s image chain written files → has_name name (listed_files chain) ≡ is_taken name files
+pub names_told : (s : Config) (image : Image) (chain : List ChainBlock) (written : Option OpenState) (files : List File) (name : List ℕ) → HoldsFiles s image chain written files → has_name name (listed_files chain) ≡ is_taken name files
 names_told s image chain written files name holds = same_names image (listed_files chain) files name (held_lists s image chain written files holds).each
 
 -- ---- lists behind one another

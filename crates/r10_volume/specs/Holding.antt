@@ -15,19 +15,19 @@ use Rattle.r10_machine.specs.Machine.{File}
 use Rattle.r10_machine.specs.Says.{IsFound, MediumSays}
 
 -- the file that is written, and how many of its packets the medium shows
-pub record Open : Type 0 where
+pub record OpenState : Type 0 where
   pub recording : Recording
   pub shown : ℕ
 
 -- Whatever files the medium has: over the image the file carries this setup and these entries, and the first of its packets, as many as are shown, stand there.
-pub record IsCarried (image : Image) (o : Open) (text : List ℕ) (entries : List Entry) : Type 0 where
+pub record IsCarried (image : Image) (o : OpenState) (text : List ℕ) (entries : List Entry) : Type 0 where
   pub carries : Records o.recording image text entries
   pub within : o.shown ≤ length carries.packets
   pub stands : Shows image (first_of o.recording.out.blocks) (file_bytes (take o.shown carries.packets))
 
 -- Over the image the file carries its setup and entries; its first packets, so many, are what the medium shows of it: they
 -- stand there, and on each channel they say the entries that it shows.
-pub record IsWritten (s : Config) (image : Image) (o : Open) (f : File) : Type 0 where
+pub record IsWritten (s : Config) (image : Image) (o : OpenState) (f : File) : Type 0 where
   pub time : o.recording.time ≡ s.time
   pub event : o.recording.event ≡ s.event
   pub first : first_of o.recording.out.blocks ≡ f.first_block
@@ -43,7 +43,7 @@ abbrev pub OthersAreFound : Image → List File → Type 0
 OthersAreFound image files = AllByRecursion (λ (f : File). f.own ≡ false → IsFound image f) files
 
 -- the medium says these files, by this directory, and the last of them is the one that is written, where one is
-pub record HoldsFiles (s : Config) (image : Image) (chain : List ChainBlock) (written : Option Open) (files : List File) : Type 0 where
+pub record HoldsFiles (s : Config) (image : Image) (chain : List ChainBlock) (written : Option OpenState) (files : List File) : Type 0 where
   pub says : MediumSays s image files
   pub directory : IsDirectory image chain
   pub found : OthersAreFound image files

@@ -30,7 +30,8 @@ pub fn format<M: BlockMedium>(medium: &mut M, settings: &Settings) -> Result<(),
     ensures settled { OnOk result (Settled (IsFormatted settings.now (M.disk medium.old).blocks) (M.disk medium.new)) }
     // Block 1 is byte for byte the one that this recorder writes.
     ensures bytes { OnOk result (block_at (M.disk medium.new).blocks 1 ≡ block_bytes (at (formatted settings.now.volume) 0).block) }
-    ensures moments { Leaves (λ image. MayLeave (M.disk medium.old) image ⊎ IsFormatted settings.now (M.disk medium.old).blocks image)
+    ensures moments { Leaves
+        (λ image. MayLeave (M.disk medium.old) image ⊎ IsFormatted settings.now (M.disk medium.old).blocks image)
         (M.disk medium.old) (M.disk medium.new) }
     ensures blocks { length (M.disk medium.new).blocks ≡ length (M.disk medium.old).blocks }
     ensures refused { IfErr result (λ r. r ≡ refusals.Medium) }

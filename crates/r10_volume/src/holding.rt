@@ -8,5 +8,6 @@ ghost use Rattle.r10_volume.specs.Holding.{OthersAreFound};
 
 /// The files that another recorder began are found again where the files' bytes stay.
 pub fn found_files_stay()
-    ensures { (old new : Image) (files : List File) → KeepBytes old new files → OthersAreFound old files → OthersAreFound new files }
+    ensures { (old new : Image) (files : List File) → KeepBytes old new files
+        → OthersAreFound old files → OthersAreFound new files }
 {}

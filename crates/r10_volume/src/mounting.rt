@@ -25,9 +25,11 @@ pub fn mount<M: BlockMedium>(
 ) -> Result<Directory, ChainError>
     ensures mounted { IfOk result (IsMounted reserved (M.disk medium.old).blocks) }
     ensures fault { IfErr result (IsMountError reserved (M.disk medium.old).blocks) }
-    ensures usable { (chain : List ChainBlock) → IsUsable reserved (M.disk medium.old).blocks chain → MatchResult result (λ directory. directory ≡ with_shutdown 0x00 chain) IsNoFault }
+    ensures usable { (chain : List ChainBlock) → IsUsable reserved (M.disk medium.old).blocks chain
+        → MatchResult result (λ directory. directory ≡ with_shutdown 0x00 chain) IsNoFault }
     // What can't be used is as it was, also where the medium fails.
-    ensures unusable { (n : ℕ) → IsUnusable reserved (M.disk medium.old).blocks n → IsSpared n (M.disk medium.old) (M.disk medium.new) result }
+    ensures unusable { (n : ℕ) → IsUnusable reserved (M.disk medium.old).blocks n
+        → IsSpared n (M.disk medium.old) (M.disk medium.new) result }
     // What is kept is the medium's directory, and a stop then leaves what is read.
     ensures directory { IfOk result (λ directory. IsPublished directory (M.disk medium.new)) }
     ensures ready { IfOk result (IsUsable reserved (M.disk medium.new).blocks) }

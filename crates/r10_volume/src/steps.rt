@@ -26,14 +26,21 @@ pub fn dismount<M: BlockMedium>(
     ensures done { OnOk result (directory.new ≡ with_shutdown 0xFF directory.old) }
     ensures kept { OnErr result (directory.new ≡ directory.old) }
     ensures directory { OnOk result (IsPublished directory.new (M.disk medium.new)) }
-    ensures usable { (reserved : ℕ) → IsUsable reserved (M.disk medium.old).blocks directory.old → OnOk result (IsUsable reserved (M.disk medium.new).blocks directory.new) }
-    ensures turns { Turns directory.old (with_shutdown 0xFF directory.old) [] (1 ∷ []) (M.disk medium.old) (M.disk medium.new) result }
-    ensures holds { (s : Config) (files : List File) → HoldsFiles s (M.disk medium.old).blocks directory.old None files → OnOk result (HoldsFiles s (M.disk medium.new).blocks directory.new None files) }
-    ensures says { (s : Config) (files : List File) → HoldsFiles s (M.disk medium.old).blocks directory.old None files → MediumSays s (M.disk medium.new).blocks files }
-    ensures bytes { (s : Config) (files : List File) → HoldsFiles s (M.disk medium.old).blocks directory.old None files → KeepBytes (M.disk medium.old).blocks (M.disk medium.new).blocks files }
-    ensures moments { (s : Config) (files : List File) → HoldsFiles s (M.disk medium.old).blocks directory.old None files → Settled (λ image. MediumSays s image files) (M.disk medium.old)
+    ensures usable { (reserved : ℕ) → IsUsable reserved (M.disk medium.old).blocks directory.old
+        → OnOk result (IsUsable reserved (M.disk medium.new).blocks directory.new) }
+    ensures turns { Turns directory.old (with_shutdown 0xFF directory.old) [] (1 ∷ [])
+        (M.disk medium.old) (M.disk medium.new) result }
+    ensures holds { (s : Config) (files : List File) → HoldsFiles s (M.disk medium.old).blocks directory.old None files
+        → OnOk result (HoldsFiles s (M.disk medium.new).blocks directory.new None files) }
+    ensures says { (s : Config) (files : List File) → HoldsFiles s (M.disk medium.old).blocks directory.old None files
+        → MediumSays s (M.disk medium.new).blocks files }
+    ensures bytes { (s : Config) (files : List File) → HoldsFiles s (M.disk medium.old).blocks directory.old None files
+        → KeepBytes (M.disk medium.old).blocks (M.disk medium.new).blocks files }
+    ensures moments { (s : Config) (files : List File) → HoldsFiles s (M.disk medium.old).blocks directory.old None files
+        → Settled (λ image. MediumSays s image files) (M.disk medium.old)
         → Leaves (λ image. MediumSays s image files) (M.disk medium.old) (M.disk medium.new) }
-    ensures settled { (s : Config) (files : List File) → HoldsFiles s (M.disk medium.old).blocks directory.old None files → OnOk result (IsSettled s files (M.disk medium.new)) }
+    ensures settled { (s : Config) (files : List File) → HoldsFiles s (M.disk medium.old).blocks directory.old None files
+        → OnOk result (IsSettled s files (M.disk medium.new)) }
     ensures writes { WritesCounted (M.disk medium.old) (M.disk medium.new) result }
 {
     directory.set_shutdown(medium, 0xFF)
@@ -45,15 +52,20 @@ pub fn erase<M: BlockMedium>(medium: &mut M, directory: &mut Directory) -> Resul
     ensures done { OnOk result (directory.new ≡ emptied directory.old) }
     ensures kept { OnErr result (directory.new ≡ directory.old) }
     ensures directory { OnOk result (IsPublished directory.new (M.disk medium.new)) }
-    ensures usable { (reserved : ℕ) → IsUsable reserved (M.disk medium.old).blocks directory.old → OnOk result (IsUsable reserved (M.disk medium.new).blocks directory.new) }
+    ensures usable { (reserved : ℕ) → IsUsable reserved (M.disk medium.old).blocks directory.old
+        → OnOk result (IsUsable reserved (M.disk medium.new).blocks directory.new) }
     ensures turns { Turns directory.old (emptied directory.old) [] (1 ∷ []) (M.disk medium.old) (M.disk medium.new) result }
-    ensures holds { (s : Config) (files : List File) → HoldsFiles s (M.disk medium.old).blocks directory.old None files → OnOk result (HoldsFiles s (M.disk medium.new).blocks directory.new None []) }
+    ensures holds { (s : Config) (files : List File) → HoldsFiles s (M.disk medium.old).blocks directory.old None files
+        → OnOk result (HoldsFiles s (M.disk medium.new).blocks directory.new None []) }
     ensures failed { (s : Config) (files : List File) → HoldsFiles s (M.disk medium.old).blocks directory.old None files
         → OnErr result (MediumSays s (M.disk medium.new).blocks files ⊎ MediumSays s (M.disk medium.new).blocks []) }
-    ensures bytes { (s : Config) (files : List File) → HoldsFiles s (M.disk medium.old).blocks directory.old None files → KeepBytes (M.disk medium.old).blocks (M.disk medium.new).blocks files }
-    ensures moments { (s : Config) (files : List File) → HoldsFiles s (M.disk medium.old).blocks directory.old None files → Settled (λ image. MediumSays s image files) (M.disk medium.old)
+    ensures bytes { (s : Config) (files : List File) → HoldsFiles s (M.disk medium.old).blocks directory.old None files
+        → KeepBytes (M.disk medium.old).blocks (M.disk medium.new).blocks files }
+    ensures moments { (s : Config) (files : List File) → HoldsFiles s (M.disk medium.old).blocks directory.old None files
+        → Settled (λ image. MediumSays s image files) (M.disk medium.old)
         → Leaves (λ image. MediumSays s image files ⊎ MediumSays s image []) (M.disk medium.old) (M.disk medium.new) }
-    ensures settled { (s : Config) (files : List File) → HoldsFiles s (M.disk medium.old).blocks directory.old None files → OnOk result (IsSettled s [] (M.disk medium.new)) }
+    ensures settled { (s : Config) (files : List File) → HoldsFiles s (M.disk medium.old).blocks directory.old None files
+        → OnOk result (IsSettled s [] (M.disk medium.new)) }
     ensures writes { WritesCounted (M.disk medium.old) (M.disk medium.new) result }
 {
     directory.erase(medium)

@@ -29,24 +29,29 @@ use r10_cursor::cursors_stay_over_steps;
 use r10_machine::{a_new_recorder_is_sound, a_step_stays_sound, files_on_a_medium_are_found};
 use r10_medium::BlockMedium;
 
-/// A new recorder over a medium that has files, joined by an empty table, stands for a machine that is unmounted, with these files and empty
-/// lanes.
+/// A new recorder over a medium that has files, joined by an empty table, stands for a machine that is unmounted, with these files
+/// and empty lanes.
 pub fn a_new_recorder_stands()
-    ensures { (s : Config) (image : Image) (files : List File) (failures : ℕ) → MediumHas s image files → KeptAndSlotsStandFor (new_kept s) image failures [] (fresh s.channels files failures) }
+    ensures { (s : Config) (image : Image) (files : List File) (failures : ℕ) → MediumHas s image files
+        → KeptAndSlotsStandFor (new_kept s) image failures [] (fresh s.channels files failures) }
 {
     // For the proof: a new recorder is sound; the files that a medium has are found by a new recorder.
     a_new_recorder_is_sound();
     files_on_a_medium_are_found();
 }
 
-/// A recorder's call, which leaves the cursors, is a step of the machine that both stand for. In the same generation no file may have fewer
-/// bytes afterwards, and the medium shows those that it showed; a call that leaves files and medium needs nothing more.
+/// A recorder's call, which leaves the cursors, is a step of the machine that both stand for. In the same generation no file may
+/// have fewer bytes afterwards, and the medium shows those that it showed; a call that leaves files and medium needs nothing more.
 pub fn recorders_calls_are_steps()
-    ensures moves { (k : Kept) (later : Kept) (old : Image) (new : Image) (before : ℕ) (now : ℕ) (m : Machine) (machine : Machine) (event : EventValue) (reply : ReplyValue) (slots : List (Option Cursor))
-        → KeptAndSlotsStandFor k old before slots m → KeptStepsTo k m event reply later new now machine → machine.cursors ≡ m.cursors → later.config ≡ k.config
-        → (machine.generation ≡ m.generation → NoneShrinks m.files machine.files × KeepsBytes old new m.files) → KeptAndSlotsStepTo k m event reply machine later new now slots }
-    ensures stays { (k : Kept) (later : Kept) (old : Image) (new : Image) (before : ℕ) (now : ℕ) (m : Machine) (machine : Machine) (event : EventValue) (reply : ReplyValue) (slots : List (Option Cursor))
-        → KeptAndSlotsStandFor k old before slots m → KeptStepsTo k m event reply later new now machine → machine.cursors ≡ m.cursors → later.config ≡ k.config → machine.files ≡ m.files → new ≡ old
+    ensures moves { (k : Kept) (later : Kept) (old : Image) (new : Image) (before : ℕ) (now : ℕ) (m : Machine) (machine : Machine)
+        (event : EventValue) (reply : ReplyValue) (slots : List (Option Cursor)) → KeptAndSlotsStandFor k old before slots m
+        → KeptStepsTo k m event reply later new now machine → machine.cursors ≡ m.cursors → later.config ≡ k.config
+        → (machine.generation ≡ m.generation → NoneShrinks m.files machine.files × KeepsBytes old new m.files)
+        → KeptAndSlotsStepTo k m event reply machine later new now slots }
+    ensures stays { (k : Kept) (later : Kept) (old : Image) (new : Image) (before : ℕ) (now : ℕ) (m : Machine)
+        (machine : Machine) (event : EventValue) (reply : ReplyValue) (slots : List (Option Cursor))
+        → KeptAndSlotsStandFor k old before slots m → KeptStepsTo k m event reply later new now machine
+        → machine.cursors ≡ m.cursors → later.config ≡ k.config → machine.files ≡ m.files → new ≡ old
         → KeptAndSlotsStepTo k m event reply machine later new now slots }
 {
     // For the proof: cursors stand for the machine over a step that leaves them.
@@ -55,26 +60,36 @@ pub fn recorders_calls_are_steps()
 
 /// A call on the table, which sets one cursor, is a step of the machine too, where the recorder's checks pass.
 pub fn tables_calls_are_steps()
-    ensures opens { (k : Kept) (image : Image) (before : ℕ) (now : ℕ) (m : Machine) (file : ℕ) (channels : List ℕ) (from : ℕ) (to : ℕ) (id : ℕ) (slots : List (Option Cursor)) (later : List (Option Cursor))
-        → IsConfig k.config → KeptAndSlotsStandFor k image before slots m → before ≤ now → refusal k.config m (events.Cursor file channels from to) ≡ None
+    ensures opens { (k : Kept) (image : Image) (before : ℕ) (now : ℕ) (m : Machine) (file : ℕ) (channels : List ℕ)
+        (from : ℕ) (to : ℕ) (id : ℕ) (slots : List (Option Cursor)) (later : List (Option Cursor))
+        → IsConfig k.config → KeptAndSlotsStandFor k image before slots m
+        → before ≤ now → refusal k.config m (events.Cursor file channels from to) ≡ None
         → StepsTo (Opens (record m { failures = now }) file channels from to id) (record m { failures = now }) image slots later
         → SlotsStepTo k m (events.Cursor file channels from to) (replies.Cursor id) image now later }
-    ensures advances { (k : Kept) (image : Image) (before : ℕ) (now : ℕ) (m : Machine) (id : ℕ) (n : ℕ) (slots : List (Option Cursor)) (later : List (Option Cursor))
-        → IsConfig k.config → KeptAndSlotsStandFor k image before slots m → before ≤ now → refusal k.config m (events.Advance id) ≡ None
-        → StepsTo (Advances (record m { failures = now }) id n) (record m { failures = now }) image slots later → SlotsStepTo k m (events.Advance id) (replies.Advanced n) image now later }
-    ensures gives { (k : Kept) (image : Image) (before : ℕ) (now : ℕ) (m : Machine) (id : ℕ) (given : Option Entry) (slots : List (Option Cursor)) (later : List (Option Cursor))
-        → IsConfig k.config → KeptAndSlotsStandFor k image before slots m → before ≤ now → refusal k.config m (events.Next id) ≡ None
-        → StepsTo (GivesQueued (record m { failures = now }) id given) (record m { failures = now }) image slots later → SlotsStepTo k m (events.Next id) (replies.Next given) image now later }
-    ensures closes { (k : Kept) (image : Image) (before : ℕ) (now : ℕ) (m : Machine) (id : ℕ) (slots : List (Option Cursor)) (later : List (Option Cursor))
-        → IsConfig k.config → KeptAndSlotsStandFor k image before slots m → before ≤ now → refusal k.config m (events.Close id) ≡ None
-        → StepsTo (λ new. SetsCursor (record m { failures = now }) new id None) (record m { failures = now }) image slots later → SlotsStepTo k m (events.Close id) replies.Done image now later }
+    ensures advances { (k : Kept) (image : Image) (before : ℕ) (now : ℕ) (m : Machine) (id : ℕ)
+        (n : ℕ) (slots : List (Option Cursor)) (later : List (Option Cursor)) → IsConfig k.config
+        → KeptAndSlotsStandFor k image before slots m → before ≤ now → refusal k.config m (events.Advance id) ≡ None
+        → StepsTo (Advances (record m { failures = now }) id n) (record m { failures = now }) image slots later
+        → SlotsStepTo k m (events.Advance id) (replies.Advanced n) image now later }
+    ensures gives { (k : Kept) (image : Image) (before : ℕ) (now : ℕ) (m : Machine) (id : ℕ)
+        (given : Option Entry) (slots : List (Option Cursor)) (later : List (Option Cursor)) → IsConfig k.config
+        → KeptAndSlotsStandFor k image before slots m → before ≤ now → refusal k.config m (events.Next id) ≡ None
+        → StepsTo (GivesQueued (record m { failures = now }) id given) (record m { failures = now }) image slots later
+        → SlotsStepTo k m (events.Next id) (replies.Next given) image now later }
+    ensures closes { (k : Kept) (image : Image) (before : ℕ) (now : ℕ) (m : Machine) (id : ℕ)
+        (slots : List (Option Cursor)) (later : List (Option Cursor)) → IsConfig k.config
+        → KeptAndSlotsStandFor k image before slots m → before ≤ now → refusal k.config m (events.Close id) ≡ None
+        → StepsTo (λ new. SetsCursor (record m { failures = now }) new id None) (record m { failures = now }) image slots later
+        → SlotsStepTo k m (events.Close id) replies.Done image now later }
 {
     // For the proof: a step keeps a state sound.
     a_step_stays_sound();
 }
 
-/// An event that is refused, and not because the medium failed, changes nothing but the count of a loss, whatever files the medium has.
+/// An event that is refused, and not because the medium failed, changes nothing but the count of a loss, whatever files the medium
+/// has.
 pub fn refusals_change_nothing<M: BlockMedium>(_medium: &M)
-    ensures { (old : RecorderState M Lane) (slots : List (Option Cursor)) (event : EventValue) (r : RefusalValue) (new : RecorderState M Lane) (later : List (Option Cursor))
-        → AnswersSo M.disk old slots event (replies.Refused r) new later → (r ≡ refusals.Medium → ⊥) → ChangesNothing M.disk old slots event new later }
+    ensures { (old : RecorderState M Lane) (slots : List (Option Cursor)) (event : EventValue) (r : RefusalValue)
+        (new : RecorderState M Lane) (later : List (Option Cursor)) → AnswersSo M.disk old slots event (replies.Refused r) new later
+        → (r ≡ refusals.Medium → ⊥) → ChangesNothing M.disk old slots event new later }
 {}

@@ -36,8 +36,10 @@ pub(crate) fn open<M: BlockMedium>(
     from: u64,
     to: u64,
 ) -> Reply
-    ensures tells { RecorderStepsTo M.disk recorder.old cursors.old.slots (events.Cursor file channels.now from to) result recorder.new cursors.new.slots }
-    ensures answers { AnswersSo M.disk recorder.old cursors.old.slots (events.Cursor file channels.now from to) result recorder.new cursors.new.slots }
+    ensures tells { RecorderStepsTo M.disk recorder.old cursors.old.slots
+        (events.Cursor file channels.now from to) result recorder.new cursors.new.slots }
+    ensures answers { AnswersSo M.disk recorder.old cursors.old.slots
+        (events.Cursor file channels.now from to) result recorder.new cursors.new.slots }
     ensures power_loss { Survives M.disk recorder.old (events.Cursor file channels.now from to) result recorder.new }
     ensures spares { Spares recorder.old.kept (M.disk recorder.old.medium) (events.Cursor file channels.now from to)
         (M.disk recorder.new.medium) }
@@ -67,13 +69,15 @@ pub(crate) fn advance<M: BlockMedium>(
     cursors: &mut Slab<Cursor>,
     id: usize,
 ) -> Reply
-    ensures tells { RecorderStepsTo M.disk recorder.old cursors.old.slots (events.Advance id) result recorder.new cursors.new.slots }
+    ensures tells { RecorderStepsTo M.disk recorder.old cursors.old.slots
+        (events.Advance id) result recorder.new cursors.new.slots }
     ensures answers { AnswersSo M.disk recorder.old cursors.old.slots (events.Advance id) result recorder.new cursors.new.slots }
     ensures power_loss { Survives M.disk recorder.old (events.Advance id) result recorder.new }
     ensures spares { Spares recorder.old.kept (M.disk recorder.old.medium) (events.Advance id) (M.disk recorder.new.medium) }
     ensures config { recorder.new.kept.config ≡ recorder.old.kept.config }
 {
-    // For the proof: a recorder's call is a step of the machine; a call on the cursors is a step too; a refusal is a step that changes nothing; what a cursor takes is what the machine's takes.
+    // For the proof: a recorder's call is a step of the machine; a call on the cursors is a step too; a refusal is a step that
+    // changes nothing; what a cursor takes is what the machine's takes.
     recorders_calls_are_steps();
     tables_calls_are_steps();
     refusals_are_steps();
@@ -98,10 +102,13 @@ pub(crate) fn advance<M: BlockMedium>(
 
 /// A cursor gives the first of its queue.
 pub(crate) fn next(cursors: &mut Slab<Cursor>, id: usize) -> Reply
-    ensures tells { (k : Kept) (image : Image) (failures : ℕ) (lanes : List Lane) (m : Machine) → PartsStandFor k image failures lanes cursors.old.slots m → PartsStepTo k m (events.Next id) result k image failures lanes cursors.new.slots }
+    ensures tells { (k : Kept) (image : Image) (failures : ℕ) (lanes : List Lane) (m : Machine)
+        → PartsStandFor k image failures lanes cursors.old.slots m
+        → PartsStepTo k m (events.Next id) result k image failures lanes cursors.new.slots }
     ensures answers { AnswersNext cursors.old.slots id result cursors.new.slots }
 {
-    // For the proof: a recorder's call is a step of the machine; a call on the cursors is a step too; a refusal is a step that changes nothing.
+    // For the proof: a recorder's call is a step of the machine; a call on the cursors is a step too; a refusal is a step that
+    // changes nothing.
     recorders_calls_are_steps();
     tables_calls_are_steps();
     refusals_are_steps();
@@ -113,10 +120,13 @@ pub(crate) fn next(cursors: &mut Slab<Cursor>, id: usize) -> Reply
 
 /// A cursor is closed.
 pub(crate) fn close(cursors: &mut Slab<Cursor>, id: usize) -> Reply
-    ensures tells { (k : Kept) (image : Image) (failures : ℕ) (lanes : List Lane) (m : Machine) → PartsStandFor k image failures lanes cursors.old.slots m → PartsStepTo k m (events.Close id) result k image failures lanes cursors.new.slots }
+    ensures tells { (k : Kept) (image : Image) (failures : ℕ) (lanes : List Lane) (m : Machine)
+        → PartsStandFor k image failures lanes cursors.old.slots m
+        → PartsStepTo k m (events.Close id) result k image failures lanes cursors.new.slots }
     ensures answers { AnswersClose cursors.old.slots id result cursors.new.slots }
 {
-    // For the proof: a recorder's call is a step of the machine; a call on the cursors is a step too; a refusal is a step that changes nothing.
+    // For the proof: a recorder's call is a step of the machine; a call on the cursors is a step too; a refusal is a step that
+    // changes nothing.
     recorders_calls_are_steps();
     tables_calls_are_steps();
     refusals_are_steps();

@@ -17,24 +17,27 @@ fn message_of(alloc: Global, event: &Event) -> Result<Option<Message>, AllocErro
     ensures { IfOk result (λ copy. IsCopy event.now copy) }
 {
     match event {
-        Event::Offer { message, .. } => Ok(Some(message.copied(alloc)?)),
+        Event::Offer { message, .. } => Ok(Some(message.duplicate(alloc)?)),
         _ => Ok(None),
     }
 }
 
 /// Does events in order, until one can't be told or taken for want of memory, and adds their replies. It answers how many events it
-/// did; it fails only where it did none though there are some. Of every machine for which the world stands, the events that were done and
-/// their replies are a run to one for which it stands then. Whatever files the medium has, also where no machine stands for them: a refusal names the
-/// first check that doesn't hold, or what is lacking, and changes nothing but the count of a loss, unless the medium failed; and any other reply comes where
-/// all checks hold, and says what the event did.
+/// did; it fails only where it did none though there are some. Of every machine for which the world stands, the events that were
+/// done and their replies are a run to one for which it stands then. Whatever files the medium has, also where no machine stands
+/// for them: a refusal names the first check that doesn't hold, or what is lacking, and changes nothing but the count of a loss,
+/// unless the medium failed; and any other reply comes where all checks hold, and says what the event did.
 pub fn run<M: BlockMedium>(
     world: &mut World<M>,
     events: &[Event],
     replies: &mut Vec<Reply>,
 ) -> Result<usize, AllocError>
-    ensures run { IfOk result (λ n. WorldRuns M.disk world.old (take n events.now) (drop (vec_len replies.old) replies.new.items) world.new) }
-    ensures answers { IfOk result (λ n. AnswersEach M.disk world.old (take n events.now) (drop (vec_len replies.old) replies.new.items) world.new) }
-    ensures power_loss { IfOk result (λ n. RunsSafely M.disk world.old (take n events.now) (drop (vec_len replies.old) replies.new.items) world.new) }
+    ensures run { IfOk result
+        (λ n. WorldRuns M.disk world.old (take n events.now) (drop (vec_len replies.old) replies.new.items) world.new) }
+    ensures answers { IfOk result
+        (λ n. AnswersEach M.disk world.old (take n events.now) (drop (vec_len replies.old) replies.new.items) world.new) }
+    ensures power_loss { IfOk result
+        (λ n. RunsSafely M.disk world.old (take n events.now) (drop (vec_len replies.old) replies.new.items) world.new) }
     ensures config { world.new.recorder.kept.config ≡ world.old.recorder.kept.config }
     ensures within { IfOk result (λ n. n ≤ length events.now) }
     ensures some { IfOk result (λ n. 0 < length events.now → 0 < n) }

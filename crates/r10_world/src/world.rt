@@ -67,14 +67,17 @@ fn lanes_of(alloc: Global, channels: &[ChannelSpec]) -> Result<Vec<RingLane>, Al
 }
 
 impl<M: BlockMedium> World<M> {
-    /// A world over a medium of these settings, which is not mounted yet. Where the medium has files, the world stands for a machine that
-    /// has them. Where memory is refused, settings and medium come back.
+    /// A world over a medium of these settings, which is not mounted yet. Where the medium has files, the world stands for a
+    /// machine that has them. Where memory is refused, settings and medium come back.
     pub fn new(alloc: Global, settings: Settings, medium: M) -> Result<World<M>, (Settings, M)>
         requires { length (M.disk medium).blocks ≡ settings.blocks }
-        ensures stands { (files : List File) → MediumHas settings (M.disk medium).blocks files → IfOk result (λ w. WorldStandsFor M.disk w (fresh settings.channels files (M.disk medium).failures)) }
+        ensures stands { (files : List File) → MediumHas settings (M.disk medium).blocks files
+            → IfOk result (λ w. WorldStandsFor M.disk w (fresh settings.channels files (M.disk medium).failures)) }
         // So it does over what a stop left of a medium that said files: it finds these again.
-        ensures recovers { (files : List File) → MediumSays settings (M.disk medium).blocks files → IfOk result (Recovers M.disk settings (M.disk medium) files) }
-        ensures safe { (files : List File) → Settled (λ image. MediumSays settings image files) (M.disk medium) → IfOk result (λ w. IsSafe w.recorder.kept.config w.recorder.kept.work files (M.disk w.recorder.medium)) }
+        ensures recovers { (files : List File) → MediumSays settings (M.disk medium).blocks files
+            → IfOk result (Recovers M.disk settings (M.disk medium) files) }
+        ensures safe { (files : List File) → Settled (λ image. MediumSays settings image files) (M.disk medium)
+            → IfOk result (λ w. IsSafe w.recorder.kept.config w.recorder.kept.work files (M.disk w.recorder.medium)) }
         ensures begins { IfOk result (λ w. w ≡ begun_world settings medium) }
         ensures config { IfOk result (λ w. w.recorder.kept.config ≡ settings) }
         ensures medium { IfOk result (λ w. w.recorder.medium ≡ medium) }
@@ -111,8 +114,8 @@ impl<M: BlockMedium> World<M> {
         medium
     }
 
-    /// How many entries of a channel erases took, in every mode, up to `u64::MAX`. None where the settings have no such channel. It takes no
-    /// memory.
+    /// How many entries of a channel erases took, in every mode, up to `u64::MAX`. None where the settings have no such channel. It
+    /// takes no memory.
     pub fn erased(&self, channel: u16) -> Option<u64>
         ensures { result ≡ number_on channel self.now.recorder.kept.config.channels self.now.recorder.kept.erased }
     {

@@ -10,7 +10,7 @@ check_files-requires g c =
     let image = (disk c.args.medium.now).blocks in
     let chain = c.in-Ok.directory in
     let none : first_broken (inside_rules (length image) chain) ≡ None =
-    found_of c.first_outside.result c.blocks-2.result (disk c.read_chain.new.medium).blocks image c.deref.result.now c.in-Ok-listed.files.items chain
-    c.first_outside.ensures c.blocks-2.ensures c.in-Ok.ensures.same.reads c.deref.ensures.value c.in-Ok-listed.ensures
+    found_of c.first_outside.result c.blocks-2.result (disk c.read_chain.new.medium).blocks image c.deref.result.now c.in-Ok-listing.files.items chain
+    c.first_outside.ensures c.blocks-2.ensures c.in-Ok.ensures.same.reads c.deref.ensures.value c.in-Ok-listing.ensures
     ∙ c.in_default-first_outside.is in
-    rw (c.deref-2.ensures.value, c.in-Ok-listed.ensures, c.in-Ok.ensures.same.reads) (all_placed image chain c.in-Ok.ensures.read none)
+    rw (c.deref-2.ensures.value, c.in-Ok-listing.ensures, c.in-Ok.ensures.same.reads) (all_placed image chain c.in-Ok.ensures.read none)

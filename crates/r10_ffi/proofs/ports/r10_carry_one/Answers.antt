@@ -9,5 +9,5 @@ returns-clause-carries c = λ is. λ end. record {
   carried_is = refl;
   is_open = c.put.ensures.1;
   does = between _ _ _ _ _ _ c.take-held.ensures.taken c.deref_mut-inside.ensures.value c.put.ensures.0
-      (c.carry_one-carry.ensures.does end, refl, rw c.offered.ensures at c.count_accepted.ensures);
+      (c.carry_one-carry.ensures.does end, refl, rw c.offer_status.ensures at c.count_accepted.ensures);
 }

@@ -5,4 +5,4 @@ use Rattle.r10_body.specs.Rules.{IsSoundReport}
 use Rattle.r10_file_rules.proofs.reports.keeps_report.Goals as goal
 
 pub returns : goal.returns
-returns c = λ p kind. subst (λ (o : Option LossBody). IsTrue c.is_sound.result ↔ IfSome o IsSoundReport) (c.reported.ensures p kind) c.is_sound.ensures
+returns c = λ p kind. subst (λ (o : Option LossBody). IsTrue c.is_sound.result ↔ IfSome o IsSoundReport) (c.report_in.ensures p kind) c.is_sound.ensures

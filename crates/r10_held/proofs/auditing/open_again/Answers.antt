@@ -16,8 +16,8 @@ returns-in-Err-check_file-clause-refused g c =
     (subst (λ (to : ℕ). RefusesCall disk (recorder_refusal k (events.Cursor t.file t.channels c.get-first.result to)) (IsReadFileRefusal k.work (disk c.args.recorder.now.medium).blocks t.file) k c.check_file.new.self.kept c.args.recorder.now.medium c.check_file.new.self.medium c.in-Err-check_file.refusal) c.get-last.ensures.value
     (c.in-Err-check_file.ensures.refused t.channels))
 
-pub returns-in_default-copied-clause-refused : goal.returns-in_default-copied-clause-refused
-returns-in_default-copied-clause-refused g c =
+pub returns-in_default-duplicate-clause-refused : goal.returns-in_default-duplicate-clause-refused
+returns-in_default-duplicate-clause-refused g c =
     let disk = g.M.BlockMedium.disk in
     let t = c.args.transcript.now in
     let k = c.args.recorder.now.kept in

@@ -10,7 +10,7 @@ returns-then-not-is_inside-clause-refused g c =
     let image = (disk c.args.medium.now).blocks in
     let file = c.in-Some.file in
     let at : IsListed image c.args.number file =
-    listed_file image c.in-Ok.directory c.deref.result.now c.in-Ok-listed.files.items c.args.number file c.file_at.result c.in-Ok.ensures.read c.deref.ensures.value c.in-Ok-listed.ensures c.file_at.ensures.value c.in-Some.is in
+    listed_file image c.in-Ok.directory c.deref.result.now c.in-Ok-listing.files.items c.args.number file c.file_at.result c.in-Ok.ensures.read c.deref.ensures.value c.in-Ok-listing.ensures c.file_at.ensures.value c.in-Some.is in
     let no : c.is_inside.result ≡ false = search rules in
     let outside : is_inside (length image) file.entry ≡ c.is_inside.result =
     inside_is c.is_inside.result c.blocks-2.result (disk c.read_chain.new.medium).blocks image file.entry c.is_inside.ensures c.blocks-2.ensures c.in-Ok.ensures.same.reads in
@@ -22,7 +22,7 @@ returns-clause-found g c =
     let image = (disk c.args.medium.now).blocks in
     let file = c.in-Some.file in
     let at : IsListed image c.args.number file =
-    listed_file image c.in-Ok.directory c.deref.result.now c.in-Ok-listed.files.items c.args.number file c.file_at.result c.in-Ok.ensures.read c.deref.ensures.value c.in-Ok-listed.ensures c.file_at.ensures.value c.in-Some.is in
+    listed_file image c.in-Ok.directory c.deref.result.now c.in-Ok-listing.files.items c.args.number file c.file_at.result c.in-Ok.ensures.read c.deref.ensures.value c.in-Ok-listing.ensures c.file_at.ensures.value c.in-Some.is in
     let yes : c.is_inside.result ≡ true = search rules in
     let here : is_inside (length image) file.entry ≡ c.is_inside.result =
     inside_is c.is_inside.result c.blocks-2.result (disk c.read_chain.new.medium).blocks image file.entry c.is_inside.ensures c.blocks-2.ensures c.in-Ok.ensures.same.reads in

@@ -2,7 +2,7 @@ use denote.Param.Object.{read_made}
 use mathlib.Core.Logic.{inl}
 use Rattle.std.proofs.Common.{rules, arith, ◌≡◌, ◌∙◌, List, [], IsSomeAnd, refl, ap, subst}
 use Rattle.std.proofs.lemmas.List.{nil_from_length}
-use Rattle.r10_source.specs.declared.source.Turn.{Turn}
+use Rattle.r10_source.specs.declared.source.SourceItem.{SourceItem}
 use Rattle.r10_session.specs.Turns.{turns_in}
 use Rattle.r10_session.proofs.Coming.{all_came}
 use Rattle.r10_session.proofs.Feeding.{all_paired, first_has, none_paired, one_paired, rest_are_apart, rest_have}
@@ -29,8 +29,8 @@ loop-table-preserved g c =
     let split = c.in-Some.ensures.steps.0 in
     let feed = c.feed_of.ensures in
     let left : c.in_ok-new.field-0.value.left.items ≡ c.in-Some.table.items = search rules in
-    let given = read_made own-1 (own-1.entry (inl tt)) (inl tt) refl (List Turn) (λ j w. j.1.rest w) c.into_dyn_box.result.vtable c.into_dyn_box.result.value c.in_ok-new.field-0.value c.into_dyn_box.ensures.1 in
-    let source = subst (λ (l : List Turn). IsSomeAnd c.feed_of.result.source (λ s. (own-1.entry s.vtable).1.rest s.value ≡ l)) (given ∙ ap turns_in left) feed.source in
+    let given = read_made own-1 (own-1.entry (inl tt)) (inl tt) refl (List SourceItem) (λ j w. j.1.rest w) c.into_dyn_box.result.vtable c.into_dyn_box.result.value c.in_ok-new.field-0.value c.into_dyn_box.ensures.1 in
+    let source = subst (λ (l : List SourceItem). IsSomeAnd c.feed_of.result.source (λ s. (own-1.entry s.vtable).1.rest s.value ≡ l)) (given ∙ ap turns_in left) feed.source in
     record {
       named = feed.named;
       there = rest_have _ _ _ split _ _ at.there at.apart feed.others;

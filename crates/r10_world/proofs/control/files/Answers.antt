@@ -17,21 +17,21 @@ returns-clause-tells g c =
     let call = c.files in
     let r = c.args.recorder.now in
     let medium = g.M.BlockMedium.disk r.medium in
-    telling g.M.BlockMedium.disk r r c.recorders_calls_are_steps.ensures.moves events.Files (λ v. replies.Files v.items) call.result c.listed.result call.ensures.does.steps (keeps_same r.kept medium.blocks medium.failures) refl refl c.listed.ensures
+    telling g.M.BlockMedium.disk r r c.recorders_calls_are_steps.ensures.moves events.Files (λ v. replies.Files v.items) call.result c.files_reply.result call.ensures.does.steps (keeps_same r.kept medium.blocks medium.failures) refl refl c.files_reply.ensures
 
 pub returns-clause-power_loss : goal.returns-clause-power_loss
-returns-clause-power_loss g c = survives_same g.M.BlockMedium.disk c.args.recorder.now c.args.recorder.now events.Files c.listed.result refl refl refl
+returns-clause-power_loss g c = survives_same g.M.BlockMedium.disk c.args.recorder.now c.args.recorder.now events.Files c.files_reply.result refl refl refl
 
 pub returns-clause-answers : goal.returns-clause-answers
 returns-clause-answers g c = λ slots.
     let call = c.files in
     let old = c.args.recorder.now in
     let disk = g.M.BlockMedium.disk in
-    matched _ _ _ (λ (x : Reply). AnswersSo disk old slots events.Files x old slots) (λ infos. replies.Files infos.items) call.result c.listed.result call.ensures.does.passed call.ensures.told call.ensures.does.refused
+    matched _ _ _ (λ (x : Reply). AnswersSo disk old slots events.Files x old slots) (λ infos. replies.Files infos.items) call.result c.files_reply.result call.ensures.does.passed call.ensures.told call.ensures.does.refused
     (λ v is passed told. (passed, (told, refl, refl)))
     (λ r is refuses. refused_call disk (recorder_refusal old.kept events.Files) nothing_lacks old old slots events.Files r refuses refl refl (or_memory nothing_lacks) (λ none fails. absurd (failed_refuses old.kept.work none (ap (λ (k : Kept). k.work) fails)))
     (λ lacks. tt) (λ left. left) tt (λ lanes. lanes))
-    c.listed.ensures
+    c.files_reply.ensures
 
 pub returns-clause-spares : goal.returns-clause-spares
 returns-clause-spares g c = unchanged (g.M.BlockMedium.disk c.args.recorder.now.medium)

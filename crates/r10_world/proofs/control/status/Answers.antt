@@ -15,20 +15,20 @@ pub returns-clause-tells : goal.returns-clause-tells
 returns-clause-tells g c =
     let call = c.status_with_lost in
     let r = c.args.recorder.now in
-    telling_with g.M.BlockMedium.disk r r c.recorders_calls_are_steps.ensures.stays events.Status (λ v. replies.Status v) call.result c.reported.result call.ensures.steps refl refl c.reported.ensures
+    telling_with g.M.BlockMedium.disk r r c.recorders_calls_are_steps.ensures.stays events.Status (λ v. replies.Status v) call.result c.status_reply.result call.ensures.steps refl refl c.status_reply.ensures
 
 pub returns-clause-power_loss : goal.returns-clause-power_loss
-returns-clause-power_loss g c = survives_same g.M.BlockMedium.disk c.args.recorder.now c.args.recorder.now events.Status c.reported.result refl refl refl
+returns-clause-power_loss g c = survives_same g.M.BlockMedium.disk c.args.recorder.now c.args.recorder.now events.Status c.status_reply.result refl refl refl
 
 pub returns-clause-answers : goal.returns-clause-answers
 returns-clause-answers g c = λ slots.
     let call = c.status_with_lost in
     let old = c.args.recorder.now in
     let disk = g.M.BlockMedium.disk in
-    told_apart _ _ (λ (x : Reply). AnswersSo disk old slots events.Status x old slots) (λ status. replies.Status status) call.result c.reported.result call.ensures.told call.ensures.refused
+    told_apart _ _ (λ (x : Reply). AnswersSo disk old slots events.Status x old slots) (λ status. replies.Status status) call.result c.status_reply.result call.ensures.told call.ensures.refused
     (λ v told. (refl, (told, refl, refl)))
     (λ r lacks. subst (λ (q : Refusal). AnswersSo disk old slots events.Status (replies.Refused q) old slots) (sym lacks) (record { cause = tt; leaves = (refl, unchanged (disk old.medium)); own = own_same old.kept old.kept (disk old.medium).blocks (disk old.medium).blocks refl refl; lanes = refl; cursors = refl }))
-    c.reported.ensures
+    c.status_reply.ensures
 
 pub returns-clause-spares : goal.returns-clause-spares
 returns-clause-spares g c = unchanged (g.M.BlockMedium.disk c.args.recorder.now.medium)

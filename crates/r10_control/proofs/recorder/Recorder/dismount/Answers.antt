@@ -64,8 +64,8 @@ returns-in-Ok-clause-does g c =
       steps =
           let at : k.work ≡ idle c.in-Idle.directory = ap work_of c.in-Idle.is in
           subst (λ (v : RecorderState _ _). (m : Machine) → KeptStandsFor v.kept (disk v.medium).blocks (disk v.medium).failures m
-          → KeptStepsTaking none_taken v.kept m events.Dismount replies.Done (record k { work = work_of c.turn.new.work }) later.blocks later.failures) c.self.view_is
-          (subst (λ (x : Doing). (m : Machine) → KeptStandsFor k (disk w.medium).blocks (disk w.medium).failures m → KeptStepsTaking none_taken k m events.Dismount replies.Done (record k { work = work_of x }) later.blocks later.failures) (sym c.turn.ensures)
+          → KeptStepsTaking none_taken v.kept m events.Dismount replies.Done (record k { work = work_of c.set_work.new.work }) later.blocks later.failures) c.self.view_is
+          (subst (λ (x : Doing). (m : Machine) → KeptStandsFor k (disk w.medium).blocks (disk w.medium).failures m → KeptStepsTaking none_taken k m events.Dismount replies.Done (record k { work = work_of x }) later.blocks later.failures) (sym c.set_work.ensures)
           (λ m means.
           let holds = c.in-Ok.ensures.holds k.config m.files (held k c.in-Idle.directory (disk w.medium).blocks m at means.files) in
           dismount_done c.a_step_stays_sound.ensures k (disk w.medium).blocks later.blocks (disk w.medium).failures later.failures m c.in-Idle.directory c.self.invariant.limits means at
@@ -74,23 +74,23 @@ returns-in-Ok-clause-does g c =
           subst (λ (v : RecorderState _ _). MachinesKeepShown v.kept (disk v.medium).blocks (disk v.medium).failures (disk c.dismount.new.medium).blocks) c.self.view_is
           (λ m means. c.dismount.ensures.bytes w.settings m.files (holds_of w.settings (work_of w.work) c.in-Idle.directory (disk w.medium).blocks m.files (ap work_of c.in-Idle.is) means.files));
       power_loss =
-          subst (λ (v : RecorderState _ _). StaysSafe whichever v.kept events.Dismount replies.Done (disk v.medium) (record k { work = work_of c.turn.new.work }) later) c.self.view_is
-          (synced_safely whichever k (record k { work = work_of c.turn.new.work }) events.Dismount replies.Done (disk w.medium) later c.in-Ok.ensures.directory.synced (makes_none whichever k events.Dismount (disk w.medium) later (idle_leaves k (disk w.medium) later c.in-Idle.directory (ap work_of c.in-Idle.is) (λ files held settled. c.dismount.ensures.moments k.config files held settled))));
+          subst (λ (v : RecorderState _ _). StaysSafe whichever v.kept events.Dismount replies.Done (disk v.medium) (record k { work = work_of c.set_work.new.work }) later) c.self.view_is
+          (synced_safely whichever k (record k { work = work_of c.set_work.new.work }) events.Dismount replies.Done (disk w.medium) later c.in-Ok.ensures.directory.synced (makes_none whichever k events.Dismount (disk w.medium) later (idle_leaves k (disk w.medium) later c.in-Idle.directory (ap work_of c.in-Idle.is) (λ files held settled. c.dismount.ensures.moments k.config files held settled))));
       effect =
           let at : k.work ≡ idle c.in-Idle.directory = ap work_of c.in-Idle.is in
-          subst (λ (v : RecorderState _ _). DismountEffect v.kept (disk v.medium) (record k { work = work_of c.turn.new.work }) later) c.self.view_is
-          (subst (λ (x : Doing). DismountEffect k (disk w.medium) (record k { work = work_of x }) later) (sym c.turn.ensures)
+          subst (λ (v : RecorderState _ _). DismountEffect v.kept (disk v.medium) (record k { work = work_of c.set_work.new.work }) later) c.self.view_is
+          (subst (λ (x : Doing). DismountEffect k (disk w.medium) (record k { work = work_of x }) later) (sym c.set_work.ensures)
           (dismount_effect k (disk w.medium) later c.in-Idle.directory c.dismount.new.directory c.dismount.result at
           (idle_usable g.L.LaneOut.spec_of g.L.LaneOut.reached k (disk w.medium).blocks w.lanes.items c.in-Idle.directory at c.self.invariant.work) c.dismount.ensures.turns c.in-Ok.ensures.done c.in-Ok.ensures.directory));
       owned =
           let chain = c.in-Idle.directory in
           let at : k.work ≡ idle chain = ap work_of c.in-Idle.is in
           let usable = idle_usable g.L.LaneOut.spec_of g.L.LaneOut.reached k (disk w.medium).blocks w.lanes.items chain at c.self.invariant.work in
-          subst (λ (v : RecorderState _ _). OwnStay v.kept (disk v.medium).blocks (record k { work = work_of c.turn.new.work }) later.blocks) c.self.view_is
-          (stay_by k (record k { work = work_of c.turn.new.work }) (disk w.medium).blocks later.blocks
-          (dismounted_own k (record k { work = work_of c.turn.new.work }) (disk w.medium).blocks later.blocks chain at (whole_reads (disk w.medium)) usable
+          subst (λ (v : RecorderState _ _). OwnStay v.kept (disk v.medium).blocks (record k { work = work_of c.set_work.new.work }) later.blocks) c.self.view_is
+          (stay_by k (record k { work = work_of c.set_work.new.work }) (disk w.medium).blocks later.blocks
+          (dismounted_own k (record k { work = work_of c.set_work.new.work }) (disk w.medium).blocks later.blocks chain at (whole_reads (disk w.medium)) usable
           (one_block k.config.directory (length (disk w.medium).blocks) chain (with_shutdown 0xFF chain) (disk w.medium) later c.dismount.result (some_reserved k.config.directory (disk w.medium).blocks chain usable) c.dismount.ensures.turns)
-          (subst (λ (l : List ChainBlock). IsDirectory later.blocks l) c.in-Ok.ensures.done c.in-Ok.ensures.directory.directory) (ap work_of c.turn.ensures) refl));
+          (subst (λ (l : List ChainBlock). IsDirectory later.blocks l) c.in-Ok.ensures.done c.in-Ok.ensures.directory.directory) (ap work_of c.set_work.ensures) refl));
       spares =
           subst (λ (v : RecorderState _ _). IdleSpares (with_shutdown 0xFF) v.kept.work (disk v.medium) later) c.self.view_is
           (idle_spares (with_shutdown 0xFF) (work_of w.work) c.in-Idle.directory (disk w.medium) later c.dismount.result (ap work_of c.in-Idle.is) c.dismount.ensures.turns);
@@ -111,8 +111,8 @@ returns-in-Err-dismount-clause-does g c =
           let at : k.work ≡ idle c.in-Idle.directory = ap work_of c.in-Idle.is in
           let fine : first_broken (idle_checks (mode_of k.work)) ≡ None = ap (λ mode. first_broken (idle_checks mode)) (sym c.mode_in.ensures) ∙ c.in_default.ensures in
           subst (λ (v : RecorderState _ _). (m : Machine) → KeptStandsFor v.kept (disk v.medium).blocks (disk v.medium).failures m
-          → KeptStepsTaking none_taken v.kept m events.Dismount (replies.Refused refusals.Medium) (record k { work = work_of c.turn-in-Err-dismount.new.work }) later.blocks later.failures) c.self.view_is
-          (subst (λ (x : Doing). (m : Machine) → KeptStandsFor k (disk w.medium).blocks (disk w.medium).failures m → KeptStepsTaking none_taken k m events.Dismount (replies.Refused refusals.Medium) (record k { work = work_of x }) later.blocks later.failures) (sym c.turn-in-Err-dismount.ensures)
+          → KeptStepsTaking none_taken v.kept m events.Dismount (replies.Refused refusals.Medium) (record k { work = work_of c.set_work-in-Err-dismount.new.work }) later.blocks later.failures) c.self.view_is
+          (subst (λ (x : Doing). (m : Machine) → KeptStandsFor k (disk w.medium).blocks (disk w.medium).failures m → KeptStepsTaking none_taken k m events.Dismount (replies.Refused refusals.Medium) (record k { work = work_of x }) later.blocks later.failures) (sym c.set_work-in-Err-dismount.ensures)
           (λ m means.
           dismount_fails c.a_step_stays_sound.ensures k (disk w.medium).blocks later.blocks (disk w.medium).failures later.failures m c.self.invariant.limits means fine c.dismount.ensures.writes.counts.no_fewer
           (c.in-Err-dismount.ensures.writes.counts.cause refl) (c.dismount.ensures.says k.config m.files (held k c.in-Idle.directory (disk w.medium).blocks m at means.files))));
@@ -120,12 +120,12 @@ returns-in-Err-dismount-clause-does g c =
           subst (λ (v : RecorderState _ _). MachinesKeepShown v.kept (disk v.medium).blocks (disk v.medium).failures (disk c.dismount.new.medium).blocks) c.self.view_is
           (λ m means. c.dismount.ensures.bytes w.settings m.files (holds_of w.settings (work_of w.work) c.in-Idle.directory (disk w.medium).blocks m.files (ap work_of c.in-Idle.is) means.files));
       power_loss =
-          subst (λ (v : RecorderState _ _). StaysSafe whichever v.kept events.Dismount (replies.Refused refusals.Medium) (disk v.medium) (record k { work = work_of c.turn-in-Err-dismount.new.work }) later) c.self.view_is
-          (failed_safely whichever k (record k { work = work_of c.turn-in-Err-dismount.new.work }) events.Dismount (replies.Refused refusals.Medium) (disk w.medium) later (ap work_of c.turn-in-Err-dismount.ensures) (makes_none whichever k events.Dismount (disk w.medium) later (idle_leaves k (disk w.medium) later c.in-Idle.directory (ap work_of c.in-Idle.is) (λ files held settled. c.dismount.ensures.moments k.config files held settled))));
+          subst (λ (v : RecorderState _ _). StaysSafe whichever v.kept events.Dismount (replies.Refused refusals.Medium) (disk v.medium) (record k { work = work_of c.set_work-in-Err-dismount.new.work }) later) c.self.view_is
+          (failed_safely whichever k (record k { work = work_of c.set_work-in-Err-dismount.new.work }) events.Dismount (replies.Refused refusals.Medium) (disk w.medium) later (ap work_of c.set_work-in-Err-dismount.ensures) (makes_none whichever k events.Dismount (disk w.medium) later (idle_leaves k (disk w.medium) later c.in-Idle.directory (ap work_of c.in-Idle.is) (λ files held settled. c.dismount.ensures.moments k.config files held settled))));
       effect = search rules;
       owned =
-          subst (λ (v : RecorderState _ _). OwnStay v.kept (disk v.medium).blocks (record k { work = work_of c.turn-in-Err-dismount.new.work }) (disk c.dismount.new.medium).blocks) c.self.view_is
-          (stay_failed k (record k { work = work_of c.turn-in-Err-dismount.new.work }) (disk w.medium).blocks (disk c.dismount.new.medium).blocks (ap work_of c.turn-in-Err-dismount.ensures));
+          subst (λ (v : RecorderState _ _). OwnStay v.kept (disk v.medium).blocks (record k { work = work_of c.set_work-in-Err-dismount.new.work }) (disk c.dismount.new.medium).blocks) c.self.view_is
+          (stay_failed k (record k { work = work_of c.set_work-in-Err-dismount.new.work }) (disk w.medium).blocks (disk c.dismount.new.medium).blocks (ap work_of c.set_work-in-Err-dismount.ensures));
       spares =
           subst (λ (v : RecorderState _ _). IdleSpares (with_shutdown 0xFF) v.kept.work (disk v.medium) later) c.self.view_is
           (idle_spares (with_shutdown 0xFF) (work_of w.work) c.in-Idle.directory (disk w.medium) later c.dismount.result (ap work_of c.in-Idle.is) c.dismount.ensures.turns);

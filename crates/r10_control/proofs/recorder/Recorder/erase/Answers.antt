@@ -174,8 +174,8 @@ returns-in-Err-erase g c =
             let fine : checked k ≡ None =
             rules_pass (idle_checks (mode_of k.work)) (erase_checks k.generation) (ap (λ mode. first_broken (idle_checks mode)) (sym c.mode_in.ensures) ∙ c.in_default.ensures) ∙ c.in_default-check_erase.ensures in
             subst (λ (v : RecorderState _ _). (m : Machine) → KeptStandsFor v.kept (disk v.medium).blocks (disk v.medium).failures m
-            → KeptStepsTaking none_taken v.kept m events.Erase (replies.Refused refusals.Medium) (record k { work = work_of c.turn.new.work }) later.blocks later.failures) c.self.view_is
-            (subst (λ (x : Doing). (m : Machine) → KeptStandsFor k (disk w.medium).blocks (disk w.medium).failures m → KeptStepsTaking none_taken k m events.Erase (replies.Refused refusals.Medium) (record k { work = work_of x }) later.blocks later.failures) (sym c.turn.ensures)
+            → KeptStepsTaking none_taken v.kept m events.Erase (replies.Refused refusals.Medium) (record k { work = work_of c.set_work.new.work }) later.blocks later.failures) c.self.view_is
+            (subst (λ (x : Doing). (m : Machine) → KeptStandsFor k (disk w.medium).blocks (disk w.medium).failures m → KeptStepsTaking none_taken k m events.Erase (replies.Refused refusals.Medium) (record k { work = work_of x }) later.blocks later.failures) (sym c.set_work.ensures)
             (λ m means.
             erase_fails c.a_step_stays_sound.ensures k (disk w.medium).blocks later.blocks (disk w.medium).failures later.failures m c.self.invariant.limits means fine c.erase.ensures.writes.counts.no_fewer
             (c.in-Err-erase.ensures.writes.counts.cause refl) (c.in-Err-erase.ensures.failed k.config m.files (held k c.in-Idle.directory (disk w.medium).blocks m at means.files))));
@@ -185,12 +185,12 @@ returns-in-Err-erase g c =
         power_loss =
             let fine : checked k ≡ None =
             rules_pass (idle_checks (mode_of k.work)) (erase_checks k.generation) (ap (λ mode. first_broken (idle_checks mode)) (sym c.mode_in.ensures) ∙ c.in_default.ensures) ∙ c.in_default-check_erase.ensures in
-            subst (λ (v : RecorderState _ _). StaysSafe whichever v.kept events.Erase (replies.Refused refusals.Medium) (disk v.medium) (record k { work = work_of c.turn.new.work }) later) c.self.view_is
-            (failed_safely whichever k (record k { work = work_of c.turn.new.work }) events.Erase (replies.Refused refusals.Medium) (disk w.medium) later (ap work_of c.turn.ensures) (made_of whichever k events.Erase (disk w.medium) later (erase_left k (disk w.medium) later c.in-Idle.directory (ap work_of c.in-Idle.is) fine (λ files held settled. c.erase.ensures.moments k.config files held settled))));
+            subst (λ (v : RecorderState _ _). StaysSafe whichever v.kept events.Erase (replies.Refused refusals.Medium) (disk v.medium) (record k { work = work_of c.set_work.new.work }) later) c.self.view_is
+            (failed_safely whichever k (record k { work = work_of c.set_work.new.work }) events.Erase (replies.Refused refusals.Medium) (disk w.medium) later (ap work_of c.set_work.ensures) (made_of whichever k events.Erase (disk w.medium) later (erase_left k (disk w.medium) later c.in-Idle.directory (ap work_of c.in-Idle.is) fine (λ files held settled. c.erase.ensures.moments k.config files held settled))));
         effect = search rules;
         owned =
-            subst (λ (v : RecorderState _ _). OwnStay v.kept (disk v.medium).blocks (record k { work = work_of c.turn.new.work }) (disk c.erase.new.medium).blocks) c.self.view_is
-            (stay_failed k (record k { work = work_of c.turn.new.work }) (disk w.medium).blocks (disk c.erase.new.medium).blocks (ap work_of c.turn.ensures));
+            subst (λ (v : RecorderState _ _). OwnStay v.kept (disk v.medium).blocks (record k { work = work_of c.set_work.new.work }) (disk c.erase.new.medium).blocks) c.self.view_is
+            (stay_failed k (record k { work = work_of c.set_work.new.work }) (disk w.medium).blocks (disk c.erase.new.medium).blocks (ap work_of c.set_work.ensures));
         spares =
             subst (λ (v : RecorderState _ _). IdleSpares emptied v.kept.work (disk v.medium) later) c.self.view_is
             (idle_spares emptied (work_of w.work) c.in-Idle.directory (disk w.medium) later c.erase.result (ap work_of c.in-Idle.is) c.erase.ensures.turns);

@@ -65,7 +65,7 @@ returns-in-Err g c =
 pub invariant_of-self-in-Err-Medium : goal.invariant_of-self-in-Err-Medium
 invariant_of-self-in-Err-Medium g c =
     let i = c.self.invariant in
-    rw c.turn-in-Err-Medium.ensures (record {
+    rw c.set_work-in-Err-Medium.ensures (record {
       limits = i.limits;
       blocks = c.mount.ensures.blocks ∙ i.blocks;
       specs = i.specs;
@@ -94,8 +94,8 @@ returns-in-Ok g c =
             let first : c.found_first-self-inside.result ≡ option_or k.found (Some (length (listed_files c.in-Ok.directory))) = c.found_first-self-inside.ensures ∙ ap (λ (n : ℕ). option_or k.found (Some n)) few in
             let fine : first_broken (unmounted_checks (mode_of k.work)) ≡ None = ap (λ mode. first_broken (unmounted_checks mode)) (sym c.mode_in.ensures) ∙ c.in_default.ensures in
             subst (λ (v : RecorderState _ _). (m : Machine) → KeptStandsFor v.kept (disk v.medium).blocks (disk v.medium).failures m
-            → KeptStepsTaking none_taken v.kept m events.Mount replies.Done (record k { work = work_of c.turn.new.work; found = c.found_first-self-inside.result }) later.blocks later.failures) c.self.view_is
-            (subst (λ (x : Doing). (m : Machine) → KeptStandsFor k (disk w.medium).blocks (disk w.medium).failures m → KeptStepsTaking none_taken k m events.Mount replies.Done (record k { work = work_of x; found = c.found_first-self-inside.result }) later.blocks later.failures) (sym c.turn.ensures)
+            → KeptStepsTaking none_taken v.kept m events.Mount replies.Done (record k { work = work_of c.set_work.new.work; found = c.found_first-self-inside.result }) later.blocks later.failures) c.self.view_is
+            (subst (λ (x : Doing). (m : Machine) → KeptStandsFor k (disk w.medium).blocks (disk w.medium).failures m → KeptStepsTaking none_taken k m events.Mount replies.Done (record k { work = work_of x; found = c.found_first-self-inside.result }) later.blocks later.failures) (sym c.set_work.ensures)
             (subst (λ (o : Option ℕ). (m : Machine) → KeptStandsFor k (disk w.medium).blocks (disk w.medium).failures m → KeptStepsTaking none_taken k m events.Mount replies.Done (record k { work = idle c.in-Ok.directory; found = o }) later.blocks later.failures) (sym first)
             (λ m means.
             let says = said k k.work (disk w.medium).blocks m refl (unmounted_work k.work fine) means.files in
@@ -107,8 +107,8 @@ returns-in-Ok g c =
             (λ m means. c.mount.ensures.files.bytes w.settings m.files (says_of w.settings (work_of w.work) (disk w.medium).blocks m.files (unmounted_work (work_of w.work) fine) means.files));
         power_loss =
             let fine : first_broken (unmounted_checks (mode_of k.work)) ≡ None = ap (λ mode. first_broken (unmounted_checks mode)) (sym c.mode_in.ensures) ∙ c.in_default.ensures in
-            subst (λ (v : RecorderState _ _). StaysSafe whichever v.kept events.Mount replies.Done (disk v.medium) (record k { work = work_of c.turn.new.work; found = c.found_first-self-inside.result }) later) c.self.view_is
-            (synced_safely whichever k (record k { work = work_of c.turn.new.work; found = c.found_first-self-inside.result }) events.Mount replies.Done (disk w.medium) later c.in-Ok.ensures.directory.synced (makes_none whichever k events.Mount (disk w.medium) later (unmounted_leaves k (disk w.medium) later (unmounted_work k.work fine) (λ files settled. c.mount.ensures.files.moments k.config files settled))));
+            subst (λ (v : RecorderState _ _). StaysSafe whichever v.kept events.Mount replies.Done (disk v.medium) (record k { work = work_of c.set_work.new.work; found = c.found_first-self-inside.result }) later) c.self.view_is
+            (synced_safely whichever k (record k { work = work_of c.set_work.new.work; found = c.found_first-self-inside.result }) events.Mount replies.Done (disk w.medium) later c.in-Ok.ensures.directory.synced (makes_none whichever k events.Mount (disk w.medium) later (unmounted_leaves k (disk w.medium) later (unmounted_work k.work fine) (λ files settled. c.mount.ensures.files.moments k.config files settled))));
         effect =
             let reserved : c.directory.result ≡ k.config.directory = c.directory.ensures.value in
             let mounted = subst (λ (n : ℕ). IsMounted n (disk w.medium).blocks c.in-Ok.directory) c.directory.ensures.value c.in-Ok.ensures.mounted in
@@ -116,8 +116,8 @@ returns-in-Ok g c =
             let few : min (length (listed_files c.in-Ok.directory)) (2 ^ 64 - 1) ≡ length (listed_files c.in-Ok.directory) =
             subst (λ (l : List DirectoryEntry). min (length l) (2 ^ 64 - 1) ≡ length l) (sym listed) (few_listed k.config (disk w.medium).blocks mounted.chain c.self.invariant.limits c.self.invariant.blocks mounted.usable) in
             let first : c.found_first-self-inside.result ≡ option_or k.found (Some (length (listed_files c.in-Ok.directory))) = c.found_first-self-inside.ensures ∙ ap (λ (n : ℕ). option_or k.found (Some n)) few in
-            subst (λ (v : RecorderState _ _). MountEffect v.kept (disk v.medium) (record k { work = work_of c.turn.new.work; found = c.found_first-self-inside.result }) later) c.self.view_is
-            (subst (λ (x : Doing). MountEffect k (disk w.medium) (record k { work = work_of x; found = c.found_first-self-inside.result }) later) (sym c.turn.ensures)
+            subst (λ (v : RecorderState _ _). MountEffect v.kept (disk v.medium) (record k { work = work_of c.set_work.new.work; found = c.found_first-self-inside.result }) later) c.self.view_is
+            (subst (λ (x : Doing). MountEffect k (disk w.medium) (record k { work = work_of x; found = c.found_first-self-inside.result }) later) (sym c.set_work.ensures)
             (mount_effect k (disk w.medium) later c.in-Ok.directory c.mount.result (subst (λ (n : ℕ). IsMounted n (disk w.medium).blocks c.in-Ok.directory) reserved c.in-Ok.ensures.mounted)
             (λ chain usable. c.mount.ensures.turns chain (subst (λ (n : ℕ). IsUsable n (disk w.medium).blocks chain) (sym reserved) usable)) c.in-Ok.ensures.directory c.found_first-self-inside.result first));
         owned =
@@ -130,11 +130,11 @@ returns-in-Ok g c =
             let first : c.found_first-self-inside.result ≡ option_or k.found (Some (length (listed_files c.in-Ok.directory))) = c.found_first-self-inside.ensures ∙ ap (λ (n : ℕ). option_or k.found (Some n)) few in
             let is = subst (λ (n : ℕ). IsMounted n (disk w.medium).blocks c.in-Ok.directory) reserved c.in-Ok.ensures.mounted in
             let turns = c.mount.ensures.turns is.chain (subst (λ (n : ℕ). IsUsable n (disk w.medium).blocks is.chain) (sym reserved) is.usable) in
-            subst (λ (v : RecorderState _ _). OwnStay v.kept (disk v.medium).blocks (record k { work = work_of c.turn.new.work; found = c.found_first-self-inside.result }) later.blocks) c.self.view_is
-            (stay_by k (record k { work = work_of c.turn.new.work; found = c.found_first-self-inside.result }) (disk w.medium).blocks later.blocks
-            (mounted_own k (record k { work = work_of c.turn.new.work; found = c.found_first-self-inside.result }) (disk w.medium).blocks later.blocks is.chain (unmounted_work k.work fine) (whole_reads (disk w.medium)) is.usable
+            subst (λ (v : RecorderState _ _). OwnStay v.kept (disk v.medium).blocks (record k { work = work_of c.set_work.new.work; found = c.found_first-self-inside.result }) later.blocks) c.self.view_is
+            (stay_by k (record k { work = work_of c.set_work.new.work; found = c.found_first-self-inside.result }) (disk w.medium).blocks later.blocks
+            (mounted_own k (record k { work = work_of c.set_work.new.work; found = c.found_first-self-inside.result }) (disk w.medium).blocks later.blocks is.chain (unmounted_work k.work fine) (whole_reads (disk w.medium)) is.usable
             (one_block k.config.directory (length (disk w.medium).blocks) is.chain (with_shutdown 0x00 is.chain) (disk w.medium) later c.mount.result (some_reserved k.config.directory (disk w.medium).blocks is.chain is.usable) turns)
-            (ap work_of c.turn.ensures ∙ ap idle is.made_is) (first ∙ ap (λ (l : List DirectoryEntry). option_or k.found (Some (length l))) listed)));
+            (ap work_of c.set_work.ensures ∙ ap idle is.made_is) (first ∙ ap (λ (l : List DirectoryEntry). option_or k.found (Some (length l))) listed)));
         spares =
             subst (λ (v : RecorderState _ _). MountSpares v.kept.config.directory (disk v.medium) later) c.self.view_is
             (subst (λ (n : ℕ). MountSpares n (disk w.medium) later) c.directory.ensures.value (mount_spares c.directory.result (disk w.medium) later c.mount.result (λ chain usable. c.mount.ensures.turns chain usable) (λ n is. (c.mount.ensures.unusable n is).same)));
@@ -219,8 +219,8 @@ returns-in-Err-Medium g c =
         steps =
             let fine : first_broken (unmounted_checks (mode_of k.work)) ≡ None = ap (λ mode. first_broken (unmounted_checks mode)) (sym c.mode_in.ensures) ∙ c.in_default.ensures in
             subst (λ (v : RecorderState _ _). (m : Machine) → KeptStandsFor v.kept (disk v.medium).blocks (disk v.medium).failures m
-            → KeptStepsTaking none_taken v.kept m events.Mount (replies.Refused refusals.Medium) (record k { work = work_of c.turn-in-Err-Medium.new.work }) later.blocks later.failures) c.self.view_is
-            (subst (λ (x : Doing). (m : Machine) → KeptStandsFor k (disk w.medium).blocks (disk w.medium).failures m → KeptStepsTaking none_taken k m events.Mount (replies.Refused refusals.Medium) (record k { work = work_of x }) later.blocks later.failures) (sym c.turn-in-Err-Medium.ensures)
+            → KeptStepsTaking none_taken v.kept m events.Mount (replies.Refused refusals.Medium) (record k { work = work_of c.set_work-in-Err-Medium.new.work }) later.blocks later.failures) c.self.view_is
+            (subst (λ (x : Doing). (m : Machine) → KeptStandsFor k (disk w.medium).blocks (disk w.medium).failures m → KeptStepsTaking none_taken k m events.Mount (replies.Refused refusals.Medium) (record k { work = work_of x }) later.blocks later.failures) (sym c.set_work-in-Err-Medium.ensures)
             (λ m means.
             let says = said k k.work (disk w.medium).blocks m refl (unmounted_work k.work fine) means.files in
             mount_fails c.a_step_stays_sound.ensures k (disk w.medium).blocks later.blocks (disk w.medium).failures later.failures m c.self.invariant.limits means fine c.mount.ensures.no_fewer
@@ -231,12 +231,12 @@ returns-in-Err-Medium g c =
             (λ m means. c.mount.ensures.files.bytes w.settings m.files (says_of w.settings (work_of w.work) (disk w.medium).blocks m.files (unmounted_work (work_of w.work) fine) means.files));
         power_loss =
             let fine : first_broken (unmounted_checks (mode_of k.work)) ≡ None = ap (λ mode. first_broken (unmounted_checks mode)) (sym c.mode_in.ensures) ∙ c.in_default.ensures in
-            subst (λ (v : RecorderState _ _). StaysSafe whichever v.kept events.Mount (replies.Refused refusals.Medium) (disk v.medium) (record k { work = work_of c.turn-in-Err-Medium.new.work }) later) c.self.view_is
-            (failed_safely whichever k (record k { work = work_of c.turn-in-Err-Medium.new.work }) events.Mount (replies.Refused refusals.Medium) (disk w.medium) later (ap work_of c.turn-in-Err-Medium.ensures) (makes_none whichever k events.Mount (disk w.medium) later (unmounted_leaves k (disk w.medium) later (unmounted_work k.work fine) (λ files settled. c.mount.ensures.files.moments k.config files settled))));
+            subst (λ (v : RecorderState _ _). StaysSafe whichever v.kept events.Mount (replies.Refused refusals.Medium) (disk v.medium) (record k { work = work_of c.set_work-in-Err-Medium.new.work }) later) c.self.view_is
+            (failed_safely whichever k (record k { work = work_of c.set_work-in-Err-Medium.new.work }) events.Mount (replies.Refused refusals.Medium) (disk w.medium) later (ap work_of c.set_work-in-Err-Medium.ensures) (makes_none whichever k events.Mount (disk w.medium) later (unmounted_leaves k (disk w.medium) later (unmounted_work k.work fine) (λ files settled. c.mount.ensures.files.moments k.config files settled))));
         effect = search rules;
         owned =
-            subst (λ (v : RecorderState _ _). OwnStay v.kept (disk v.medium).blocks (record k { work = work_of c.turn-in-Err-Medium.new.work }) (disk c.mount.new.medium).blocks) c.self.view_is
-            (stay_failed k (record k { work = work_of c.turn-in-Err-Medium.new.work }) (disk w.medium).blocks (disk c.mount.new.medium).blocks (ap work_of c.turn-in-Err-Medium.ensures));
+            subst (λ (v : RecorderState _ _). OwnStay v.kept (disk v.medium).blocks (record k { work = work_of c.set_work-in-Err-Medium.new.work }) (disk c.mount.new.medium).blocks) c.self.view_is
+            (stay_failed k (record k { work = work_of c.set_work-in-Err-Medium.new.work }) (disk w.medium).blocks (disk c.mount.new.medium).blocks (ap work_of c.set_work-in-Err-Medium.ensures));
         spares =
             subst (λ (v : RecorderState _ _). MountSpares v.kept.config.directory (disk v.medium) later) c.self.view_is
             (subst (λ (n : ℕ). MountSpares n (disk w.medium) later) c.directory.ensures.value (mount_spares c.directory.result (disk w.medium) later c.mount.result (λ chain usable. c.mount.ensures.turns chain usable) (λ n is. (c.mount.ensures.unusable n is).same)));

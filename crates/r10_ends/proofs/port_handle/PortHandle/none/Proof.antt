@@ -20,7 +20,7 @@ use Rattle.std.proofs.ResultValues.{and_tt}
 use Rattle.std.proofs.alloc.Calls.{handle_tells}
 use Rattle.std.proofs.alloc.Global.TheLaws as heap_laws
 use Rattle.std.specs.contracts.impls.GlobalAllocator.TheImpl.{ghosts}
-use Rattle.r10_ends.specs.contracts.sender.Sender.{the_row as R}
+use Rattle.r10_ends.specs.contracts.sender.PortSender.{the_row as R}
 use Rattle.r10_ends.proofs.Words.{al, both}
 use Rattle.r10_ends.proofs.PortHandles.{Z, port_none_in}
 use Rattle.r10_ends.specs.contracts.port_handle.PortHandle.none as f

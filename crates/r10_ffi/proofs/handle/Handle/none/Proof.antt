@@ -20,7 +20,7 @@ use Rattle.std.proofs.ResultValues.{and_tt}
 use Rattle.std.proofs.alloc.Calls.{handle_tells}
 use Rattle.std.proofs.alloc.Global.TheLaws as heap_laws
 use Rattle.std.specs.contracts.impls.GlobalAllocator.TheImpl.{ghosts}
-use Rattle.r10_ffi.specs.contracts.held.Held.{the_row as R}
+use Rattle.r10_ffi.specs.contracts.held.LentRecorder.{the_row as R}
 use Rattle.r10_ffi.proofs.Words.{al, both}
 use Rattle.r10_ffi.proofs.Handles.{Z, none_in}
 use Rattle.r10_ffi.specs.contracts.handle.Handle.none as f

@@ -9,4 +9,4 @@ pub returns : goal.returns
 returns c = λ packets p kept tells keeps.
     let updates = on_ok _ c.insert.result (c.insert.ensures.succeeds c.requires) c.insert.ensures.updates in
     let found : IsKeptOfChannel packets c.args.facts.now.channel c.find.result = subst (λ (o : Option ChannelTrack). IsKeptOfChannel packets c.args.facts.now.channel o) (sym c.find.ensures) (kept c.args.facts.now.channel) in
-    are_kept packets p c.args.facts.now _ c.args.self.now.known c.insert.new.self updates.0 kept tells (c.grown-track.ensures packets p found tells keeps)
+    are_kept packets p c.args.facts.now _ c.args.self.now.known c.insert.new.self updates.0 kept tells (c.track_with-track.ensures packets p found tells keeps)

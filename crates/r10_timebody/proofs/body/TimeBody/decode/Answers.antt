@@ -8,11 +8,11 @@ use Rattle.r10_timebody.proofs.Times.{told_parts-IsTime}
 use Rattle.r10_timebody.proofs.body.TimeBody.decode.Goals as goal
 
 -- the digits tell no civil time
-no_civil : (c : goal.In_default-told_civil) → (civil : PartsValue) → IsTime civil c.args.body.now → ⊥
+no_civil : (c : goal.In_default-civil_in) → (civil : PartsValue) → IsTime civil c.args.body.now → ⊥
 no_civil c civil h =
     let whole : c.in-Ok.body ≡ c.args.body.now = c.in-Ok.ensures.1.same in
     let told : told_parts c.in-Ok.body ≡ civil = ap told_parts whole ∙ told_parts-IsTime civil c.args.body.now h in
-    c.in_default-told_civil.ensures (subst (λ p. IsCivil p) (sym told) h.0)
+    c.in_default-civil_in.ensures (subst (λ p. IsCivil p) (sym told) h.0)
 
 -- the bytes are not those of the civil time that the digits tell
 same_bytes : (bytes : List ℕ) → pointwise eqb bytes bytes ≡ true
@@ -27,11 +27,11 @@ other_bytes c civil h =
     let both : false ≡ true = c.if-eq.ensures ∙ ap (λ t. pointwise eqb t c.in-Ok.body) bytes ∙ same_bytes c.in-Ok.body in
     cc
 
-pub returns-in_default-told_civil-clause-found : goal.returns-in_default-told_civil-clause-found
-returns-in_default-told_civil-clause-found c = (search rules, no_civil c)
+pub returns-in_default-civil_in-clause-found : goal.returns-in_default-civil_in-clause-found
+returns-in_default-civil_in-clause-found c = (search rules, no_civil c)
 
-pub returns-in_default-told_civil-clause-only : goal.returns-in_default-told_civil-clause-only
-returns-in_default-told_civil-clause-only c = λ civil h. absurd (no_civil c civil h)
+pub returns-in_default-civil_in-clause-only : goal.returns-in_default-civil_in-clause-only
+returns-in_default-civil_in-clause-only c = λ civil h. absurd (no_civil c civil h)
 
 pub returns-then-eq-clause-only : goal.returns-then-eq-clause-only
 returns-then-eq-clause-only c = λ civil h.

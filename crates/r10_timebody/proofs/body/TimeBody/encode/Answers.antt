@@ -9,5 +9,5 @@ pub returns : goal.returns
 returns c =
     let word : c.to_le_bytes.result ≡ le_bytes 4 (time_word c.args.self.now.civil) = search rules in
     let civil : IsCivil c.args.self.now.civil = rw (← c.parts-parts.ensures.value) c.parts-parts.ensures.civil in
-    rw (word, c.packed.ensures, c.packed-2.ensures, c.packed-3.ensures, c.packed-4.ensures, c.packed-5.ensures, c.packed-6.ensures, c.packed-7.ensures, c.packed-8.ensures, c.parts-parts.ensures.value)
+    rw (word, c.to_bcd.ensures, c.to_bcd-2.ensures, c.to_bcd-3.ensures, c.to_bcd-4.ensures, c.to_bcd-5.ensures, c.to_bcd-6.ensures, c.to_bcd-7.ensures, c.to_bcd-8.ensures, c.parts-parts.ensures.value)
     (sym (time_body-digit_bytes c.args.self.now.civil (IsCivil-HasDigits c.args.self.now.civil civil)))
