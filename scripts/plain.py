@@ -1,14 +1,14 @@
 #!/usr/bin/env python3
 """Measures whether the documents are plain English.
 
-    scripts/plain.py                 README.md, docs/*.md and crates/*/README.md: prints each finding; status 1 if there is one
+    scripts/plain.py                 documents and comments: prints each finding; status 1 if there is one
     scripts/plain.py FILE..          these files alone
     scripts/plain.py --table         a line for each file: sentences, words a sentence, the longest sentence
 
 A finding is a sentence of more than 25 words, a document of 20 words a sentence or more on average, or a word that these documents
 used with a meaning of their own. Code blocks, headings and pages that a script writes are not measured; a cell of a table and an
 item of a list each end a sentence; averages leave out tables. Code in backquotes and a link each count by what a reader sees, code
-as one word.
+as one word. Of comments in code, definitions and proofs the words alone are looked at.
 
 scripts/plain_allowed.txt lists what may stay: a path, a colon, and words that the sentence has. An entry that excuses nothing is a
 finding too.
@@ -33,6 +33,7 @@ WORDS = {
     "stand for": "say 'represent'",
 }
 PRIVATE = re.compile(r"\b(%s)\b" % "|".join(re.escape(word) for word in WORDS), re.IGNORECASE)
+COMMENT = {".rt": re.compile(r"^(?:[^\"]*\s)?//[/!]?\s(.*)$"), ".antt": re.compile(r"^(?:[^\"]*\s)?--\s(.*)$")}
 ENDS = re.compile(r"(?<=[.?!])[)\"'*_]*\s+(?=[\"'(*_`\[]*[A-Z0-9`])")
 SHORT = re.compile(r"\b(?:e\.g|i\.e|etc|Ch|cf|No|vs)\.\s")
 
@@ -99,6 +100,15 @@ def sentences(path: Path) -> list[Sentence]:
     return found
 
 
+def comments() -> Iterator[str]:
+    """The words with a meaning of their own in comments of the crates, code in backquotes left out."""
+    for path in sorted(it for kind in COMMENT for it in (TOP / "crates").glob(f"*/[sp]*/**/*{kind}")):
+        for number, line in enumerate(path.read_text(encoding="utf-8").split("\n"), 1):
+            it = COMMENT[path.suffix].match(line)
+            for word in PRIVATE.findall(readable(it.group(1))) if it else []:
+                yield f"{path.relative_to(TOP)}:{number}: '{word}': {WORDS[word.lower()]}: {it.group(1)[:100]}"
+
+
 def documents() -> list[Path]:
     """The documents that a person writes."""
     found = [TOP / "README.md", *sorted((TOP / "docs").glob("*.md")), *sorted((TOP / "crates").glob("*/README.md"))]
@@ -158,6 +168,7 @@ def main(words: list[str]) -> int:
     excuses, used = allowed(), set()
     found = [line for path in paths for line in findings(path, excuses, used)]
     if not names:
+        found += comments()
         found += [f"scripts/plain_allowed.txt: excuses nothing: {path}: {text}" for path, text in excuses
                   if (path, text) not in used]
     print("\n".join(found), end="\n" if found else "")

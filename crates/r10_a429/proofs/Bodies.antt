@@ -22,7 +22,7 @@ pub are_fits : (before : ℕ) (es : List ArincEntry) → FitsAll arinc_form befo
 are_fits before [] fits = (tt, tt)
 are_fits before (e ∷ es) fits = let left = are_fits e.count es fits.1 in ((fits.0.fields, left.0), (fits.0.soon, left.1))
 
--- so many words are told by the low half of the channel specific data word
+-- so many words are known by the low half of the channel specific data word
 low_half : (n : ℕ) → n < 65536 → n % 65536 ≡ n
 low_half n lt = omega arith
 

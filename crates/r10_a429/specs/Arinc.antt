@@ -12,7 +12,7 @@ arinc_header gap e = 2 ^ 24 * e.bus + flag_at 23 e.format + flag_at 22 e.parity 
 abbrev pub arinc_entry : ℕ → ArincEntry → List ℕ
 arinc_entry gap e = le_bytes 4 (arinc_header gap e) ++ le_bytes 4 e.word
 
--- each word behind one at this count
+-- each word after one at this count
 abbrev pub arinc_entries : ℕ → List ArincEntry → List ℕ
 arinc_entries before [] = []
 arinc_entries before (e ∷ entries) = arinc_entry (e.count - before) e ++ arinc_entries e.count entries

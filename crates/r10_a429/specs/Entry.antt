@@ -33,7 +33,7 @@ low_fits false true false gap hg = omega arith
 low_fits false false true gap hg = omega arith
 low_fits false false false gap hg = omega arith
 
--- a flag above low bits is told by their sum
+-- a flag above low bits is known by their sum
 bit_21 : (b c : Bool) (low other : ℕ) → low < 2 ^ 21 → other < 2 ^ 21 → flag_at 21 b + low ≡ flag_at 21 c + other → (b ≡ c) × (low ≡ other)
 bit_21 true true low other hl ho e = (refl, omega arith)
 bit_21 false false low other hl ho e = (refl, omega arith)

@@ -23,7 +23,7 @@ pub struct ArincBody {
     pub entries: Items<ArincEntry>,
 }
 
-/// Whether counts don't fall behind the one before, and no gap is over a tenth of a second.
+/// Whether counts don't come before the one before them, and no gap is over a tenth of a second.
 fn has_short_gaps(before: u64, entries: &[ArincEntry]) -> bool
     ensures { IsTrue result ↔ FitsAll arinc_form before entries.now }
 {

@@ -1,4 +1,4 @@
-//! ARINC 429 packets: a body is written as exactly the bytes of its words, each behind its gap since the word before, and read as
+//! ARINC 429 packets: a body is written as exactly the bytes of its words, each after its gap since the word before, and read as
 //! exactly the words that this recorder writes so, as another recorder's, or as no body.
 #![tactic(auto)]
 

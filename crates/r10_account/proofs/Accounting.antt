@@ -12,17 +12,17 @@ use Rattle.r10_account.specs.Account.{waiting_of, missed_of, erased_of}
 use Rattle.r10_account.proofs.Files.{AllBehind}
 use Rattle.r10_account.proofs.Numbers.{same_number}
 
--- an offer on the channel that was refused because too many waited, or a loss that was told of it
+-- an offer on the channel that was refused because too many waited, or a loss that was reported of it
 abbrev pub is_loss : ℕ → Exchange → Bool
 is_loss channel (Offer id count message, Refused Overflow) = id == channel
 is_loss channel (Lose id lost, Done) = id == channel
 is_loss channel exchange = false
 
--- how many were missed behind an exchange
+-- how many were missed after an exchange
 abbrev pub missed_behind : ℕ → ℕ → Exchange → ℕ
 missed_behind channel missed x = cond (was_accepted channel x) 0 (cond (is_loss channel x) (saturated (missed + lost_by channel x)) missed)
 
--- from lanes and files to others: erases take the first of the channel's entries, and what the exchange accepts comes behind all
+-- from lanes and files to others: erases take the first of the channel's entries, and what the exchange accepts comes after all
 pub record StepAccounts (channel : ℕ) (lanes : List Lane) (files : List File) (x : Exchange) (later : List Lane) (news : List File) : Type 0 where
   pub gone : List Entry
   pub each : gone ++ own_entries channel news ++ waiting_of channel later ≡ own_entries channel files ++ waiting_of channel lanes ++ entry_with channel (missed_of channel lanes) x

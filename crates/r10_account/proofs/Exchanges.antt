@@ -1,4 +1,4 @@
--- What one exchange more asks of the message behind it.
+-- What one exchange more asks of the message after it.
 use Rattle.std.proofs.Common.{◌≡◌, ℕ, ◌+◌, ◌-◌, ◌^◌, Bool, true, false, ◌||◌, cond, List, [], ◌∷◌, ◌++◌, refl, ap, ◌∙◌, arith}
 use Rattle.std.specs.List.{list_any, sum_by}
 use Rattle.std.proofs.lemmas.List.Folds.{list_any-append}
@@ -47,7 +47,7 @@ no_loss channel (Offer id count message) (Refused Overflow) other = ap (λ (b : 
 no_loss channel (Lose id lost) Done other = ap (λ (b : Bool). cond b lost 0) other
 no_loss channel event reply other = refl
 
--- behind a message that is accepted none is lost, and behind one that is lost, or losses that are told, so many more
+-- after a message that is accepted none is lost, and after one that is lost, or losses that are reported, so many more
 pub lost_next : (channel missed : ℕ) (before : List Exchange) (x : Exchange) → lost_since channel missed (before ++ x ∷ []) ≡ missed_behind channel (lost_since channel missed before) x
 lost_next channel missed before x =
     ap (λ (xs : List Exchange). saturated (sum_by (lost_by channel) xs + cond (list_any (was_accepted channel) (before ++ x ∷ [])) 0 missed)) (behind_more (was_accepted channel) before x)

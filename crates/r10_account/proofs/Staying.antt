@@ -32,7 +32,7 @@ use Rattle.r10_machine.proofs.Steps.{refused_files}
 stays_same : (found files news : List File) → news ≡ files → AreStillFirst found files → AreStillFirst found news
 stays_same found files news is still = subst (AreStillFirst found) (sym is) still
 
--- an own file behind them changes
+-- an own file after them changes
 own_changes : (change : File → File) (found files : List File) (f : File) → last_or None files ≡ Some f → f.own ≡ true → AreStillFirst found files → AreStillFirst found (change_last change files)
 own_changes change [] files f last own still = tt
 own_changes change (g ∷ found) [] f last own still = absurd still

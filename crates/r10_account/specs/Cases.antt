@@ -80,7 +80,7 @@ offer count = ask.Offer 5 count (text [])
 abbrev lane_full : Reply
 lane_full = say.Refused refusals.Overflow
 
--- two losses are told by the next message, and not by the one behind it
+-- two losses are known by the next message, and not by the one after it
 pub two-told : accepted_entries 5 0 (offer 1 ∷ offer 2 ∷ offer 3 ∷ offer 4 ∷ []) (lane_full ∷ lane_full ∷ say.Done ∷ say.Done ∷ []) ≡ entry 5 3 (text []) (Lost 2) ∷ entry 5 4 (text []) Whole ∷ []
 two-told = refl
 
@@ -100,7 +100,7 @@ most-told = refl
 pub none-told : accepted_entries 5 0 (ask.Offer 6 1 (text []) ∷ offer 1 ∷ offer 2 ∷ []) (lane_full ∷ say.Refused refusals.CountBack ∷ say.Done ∷ []) ≡ entry 5 2 (text []) Whole ∷ []
 none-told = refl
 
--- losses that were told count with those that were refused, and on their channel alone
+-- losses that were reported count with those that were refused, and on their channel alone
 pub told-too : accepted_entries 5 0 (ask.Lose 5 40 ∷ offer 1 ∷ ask.Lose 5 2 ∷ ask.Lose 6 9 ∷ offer 2 ∷ offer 3 ∷ []) (say.Done ∷ lane_full ∷ say.Done ∷ say.Done ∷ say.Done ∷ say.Done ∷ [])
     ≡ entry 5 2 (text []) (Lost 43) ∷ entry 5 3 (text []) Whole ∷ []
 told-too = refl

@@ -1,4 +1,4 @@
-//! Where the accepted messages of a channel are: over every run of the small machine erases took the first of them, those behind
+//! Where the accepted messages of a channel are: over every run of the small machine erases took the first of them, those after
 //! them are in the files that the recorder began, and the last wait.
 #![tactic(auto)]
 

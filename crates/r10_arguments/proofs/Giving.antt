@@ -32,7 +32,7 @@ one_more known words rest behind given found begins stands =
     (All-cons (λ (g : OptionWords). Contains known g.option) (found_words found) [] is_known (All-nil (λ (g : OptionWords). Contains known g.option))) in
     rw more (record { front = front; are_known = are_known })
 
--- an option stands first, and not behind
+-- an option stands first, and not after
 pub gives_first : (given : List FoundOption) (d : FoundOption) (option value : List ℕ) → 1 ≤ length given → bytes_eq (get_or given 0 d).option.now option ≡ true → bytes_eq (get_or given 0 d).value.now value ≡ true
     → IsLeftOut (map found_words (drop 1 given)) option → GivesOption (map found_words given) option value
 gives_first [] d option value some same is out = absurd (omega (arith, some))

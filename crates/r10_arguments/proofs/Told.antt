@@ -1,4 +1,4 @@
--- Which options stand among words is told by the words.
+-- Which options stand among words is known by the words.
 use Rattle.std.proofs.Common.{◌≡◌, ℕ, Bool, true, false, not, ◌==◌, ◌≤◌, drop, length, List, [], ◌∷◌, ◌++◌, get_or, refl, arith, ap, sym, subst, ◌∙◌}
 use Rattle.std.proofs.lemmas.List.{append-nil, get_or_default}
 use Rattle.std.proofs.lemmas.List.Elements.{All-head, All-tail}

@@ -42,11 +42,11 @@ help_of (name ∷ other ∷ []) word command is next three within says one = abs
 help_of (name ∷ other ∷ third ∷ []) word command is next three within says one = (ap string_bytes (sym is) ∙ says, subst (λ (w : String Global). Contains commands (string_bytes w)) next one)
 help_of (name ∷ other ∷ third ∷ fourth ∷ words) word command is next three within says one = absurd (omega (arith, within))
 
--- all that stands behind the first ones of a list
+-- all that stands after the first ones of a list
 pub all_behind : {X : Type 0} (n : ℕ) (xs : List X) → take (length xs - n) (drop n xs) ≡ drop n xs
 all_behind n xs = take_all (length xs - n) (drop n xs) (omega (arith, length-drop n xs))
 
--- behind a command its options and nothing else
+-- after a command its options and nothing else
 pub only_these : (words rest : List (String Global)) (word : String Global) (command : List ℕ) (known : List (List ℕ)) (given : List OptionWords) → word ≡ get_or words 1 word → 2 ≤ length words → string_bytes word ≡ command
     → BeginsWithOptions known (map string_bytes (drop 2 words)) given (map string_bytes rest) → length rest ≡ 0 → AsksCommand command (map string_bytes words) × BeginsWithOptions known (drop 2 (map string_bytes words)) given []
 only_these [] rest word command known given is two says begins none = absurd (omega (arith, two))

@@ -13,12 +13,12 @@ pub record OptionWords : Type 0 where
 abbrev pub as_words : OptionWords → List (List ℕ)
 as_words given = if given.is_joined then (given.option ++ 61 ∷ given.value) ∷ [] else given.option ∷ given.value ∷ []
 
--- these options, each with its value and each one of those that are known, stand at the front of the words, and the rest behind them
+-- these options, each with its value and each one of those that are known, stand at the front of the words, and the rest after them
 pub record BeginsWithOptions (known words : List (List ℕ)) (given : List OptionWords) (rest : List (List ℕ)) : Type 0 where
   pub front : words ≡ flat_map as_words given ++ rest
   pub are_known : All (λ (g : OptionWords). Contains known g.option) given
 
--- behind the program's own name and the command stand these options, each one that the command knows, and nothing else
+-- after the program's own name and the command stand these options, each one that the command knows, and nothing else
 abbrev pub HasOnlyOptions : List (List ℕ) → List (List ℕ) → List OptionWords → Type 0
 HasOnlyOptions known words given = BeginsWithOptions known (drop 2 words) given []
 

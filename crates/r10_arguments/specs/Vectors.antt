@@ -12,7 +12,7 @@ use Rattle.std.proofs.lemmas.Slice.Eq.{bytes_eq-Decides}
 use Rattle.r10_arguments.specs.Options.{BeginsWithOptions, HasOnlyOptions, OptionWords, values_of, as_words}
 use Rattle.r10_arguments.specs.Words.{GivesSelection, play_options}
 
--- an option whose value is the next word, and one with its value behind `=`
+-- an option whose value is the next word, and one with its value after `=`
 abbrev channel_5 : OptionWords
 channel_5 = record { option = codes "--channel"; value = decimal 5; is_joined = false }
 

@@ -8,14 +8,14 @@ use Rattle.r10_arguments.specs.declared.asked.Asked.TheVariants.{Sim, Image, Fil
 use Rattle.r10_arguments.specs.declared.asked.FormatWords.{FormatWords}
 use Rattle.r10_arguments.specs.declared.asked.PlayWords.{PlayWords}
 
--- behind the program's own name nothing, or the word `sim`
+-- after the program's own name nothing, or the word `sim`
 abbrev pub AsksSim : List (List ℕ) → Type 0
 AsksSim [] = Unit {0}
 AsksSim (name ∷ []) = Unit {0}
 AsksSim (name ∷ word ∷ []) = word ≡ codes "sim"
 AsksSim (name ∷ word ∷ other ∷ words) = ⊥
 
--- behind the program's own name this word and `--image`
+-- after the program's own name this word and `--image`
 abbrev pub AsksImageOf : List ℕ → List (List ℕ) → Type 0
 AsksImageOf command [] = ⊥
 AsksImageOf command (name ∷ []) = ⊥
@@ -23,11 +23,11 @@ AsksImageOf command (name ∷ word ∷ []) = ⊥
 AsksImageOf command (name ∷ word ∷ option ∷ []) = (word ≡ command) × (option ≡ codes "--image")
 AsksImageOf command (name ∷ word ∷ option ∷ more ∷ words) = ⊥
 
--- behind the program's own name `sim --image` alone
+-- after the program's own name `sim --image` alone
 abbrev pub AsksImage : List (List ℕ) → Type 0
 AsksImage words = AsksImageOf (codes "sim") words
 
--- behind the program's own name this word alone
+-- after the program's own name this word alone
 abbrev pub AsksOnly : List ℕ → List (List ℕ) → Type 0
 AsksOnly command [] = ⊥
 AsksOnly command (name ∷ []) = ⊥
@@ -40,11 +40,11 @@ AsksFiles words = AsksOnly (codes "files") words
 abbrev pub AsksCheck : List (List ℕ) → Type 0
 AsksCheck words = AsksOnly (codes "check") words
 
--- behind the program's own name `run` alone
+-- after the program's own name `run` alone
 abbrev pub AsksRun : List (List ℕ) → Type 0
 AsksRun words = AsksOnly (codes "run") words
 
--- behind the program's own name `run --image` alone
+-- after the program's own name `run --image` alone
 abbrev pub AsksRunImage : List (List ℕ) → Type 0
 AsksRunImage words = AsksImageOf (codes "run") words
 
@@ -88,7 +88,7 @@ pub record GivesSelection (words : List (List ℕ)) (play : PlayWords) : Type 0 
   pub only : HasOnlyOptions play_options words given
   pub gives : OptionsOfPlay given play
 
--- the first word behind the program's own name
+-- the first word after the program's own name
 abbrev pub AsksCommand : List ℕ → List (List ℕ) → Type 0
 AsksCommand command words = word_at words 1 ≡ command
 
@@ -110,7 +110,7 @@ image_commands = codes "sim" ∷ codes "run" ∷ []
 abbrev pub commands : List (List ℕ)
 commands = codes "format" ∷ codes "play" ∷ codes "help" ∷ plain_commands
 
--- behind the program's own name `help`, alone or with one command
+-- after the program's own name `help`, alone or with one command
 abbrev pub AsksHelpWord : List (List ℕ) → Type 0
 AsksHelpWord [] = ⊥
 AsksHelpWord (name ∷ []) = ⊥
@@ -118,7 +118,7 @@ AsksHelpWord (name ∷ word ∷ []) = word ≡ codes "help"
 AsksHelpWord (name ∷ word ∷ command ∷ []) = (word ≡ codes "help") × Contains commands command
 AsksHelpWord (name ∷ word ∷ command ∷ more ∷ words) = ⊥
 
--- behind options of the command, each with its value, help is asked for
+-- after options of the command, each with its value, help is asked for
 pub record AsksHelpBehind (known words : List (List ℕ)) : Type 0 where
   pub given : List OptionWords
   pub rest : List (List ℕ)

@@ -90,7 +90,7 @@ pub enum WordsFault {
     Wrong(String),
 }
 
-/// What the words ask for, the program's own name first: a run for no word behind it or for `sim` alone, its medium for
+/// What the words ask for, the program's own name first: a run for no word after it or for `sim` alone, its medium for
 /// `sim --image`, a list for `files` alone, a verdict for `check` alone, and else what the command line says.
 pub fn read_words(alloc: Global, words: &[String]) -> Result<Asked, WordsFault>
     ensures sim { AsksSim (map string_bytes words.now) → result ≡ Ok Sim }
@@ -116,7 +116,7 @@ pub fn read_words(alloc: Global, words: &[String]) -> Result<Asked, WordsFault>
     read_other(alloc, words)
 }
 
-/// Whether the words ask for a session's lines: `run` alone behind the program's own name. It starts threads, so it is none of
+/// Whether the words ask for a session's lines: `run` alone after the program's own name. It starts threads, so it is none of
 /// those that `read_words` reads.
 pub fn asks_run(words: &[String]) -> bool
     ensures { IsTrue result ↔ AsksRun (map string_bytes words.now) }
@@ -124,7 +124,7 @@ pub fn asks_run(words: &[String]) -> bool
     asks_only(words, "run")
 }
 
-/// Whether the words ask for the image that a session leaves: `run --image` alone behind the program's own name.
+/// Whether the words ask for the image that a session leaves: `run --image` alone after the program's own name.
 fn asks_run_image(words: &[String]) -> bool
     ensures { IsTrue result ↔ AsksRunImage (map string_bytes words.now) }
 {
@@ -148,7 +148,7 @@ fn asks_sim(words: &[String]) -> bool
     }
 }
 
-/// Whether this command and `--image` are the two words behind the program's own name.
+/// Whether this command and `--image` are the two words after the program's own name.
 fn asks_image_of(words: &[String], command: &str) -> bool
     ensures { IsTrue result ↔ AsksImageOf command.now (map string_bytes words.now) }
 {
@@ -168,7 +168,7 @@ fn is_image_of(word: &String, option: &String, command: &str) -> bool
     }
 }
 
-/// Whether this command is the one word behind the program's own name.
+/// Whether this command is the one word after the program's own name.
 fn asks_only(words: &[String], command: &str) -> bool
     ensures { IsTrue result ↔ AsksOnly command.now (map string_bytes words.now) }
 {
@@ -303,7 +303,7 @@ fn play_words(found: &ArgMatches<'_>) -> PlayWords {
     }
 }
 
-/// The options behind the program's own name and this command, if nothing else stands there.
+/// The options after the program's own name and this command, if nothing else stands there.
 fn only_options<'a>(
     alloc: Global,
     words: &'a [String],
@@ -327,10 +327,10 @@ fn only_options<'a>(
     }
 }
 
-/// What is said of numbers that are spelled otherwise.
+/// What is stated of numbers that are spelled otherwise.
 const NUMBERS: &str = "a number has neither a sign nor zeros before it";
 
-/// A fault with this line, and behind it which help to see.
+/// A fault with this line, and after it which help to see.
 fn wrong(alloc: Global, line: &str, called: Called) -> WordsFault {
     match wrong_line(alloc, line, called) {
         Ok(line) => WordsFault::Wrong(line),
@@ -393,7 +393,7 @@ fn is_help_at(words: &[String], place: usize) -> bool
     has_at(words, place, "-h") || has_at(words, place, "--help")
 }
 
-/// Whether help is asked for behind a command without options that have values.
+/// Whether help is asked for after a command without options that have values.
 fn asks_help_of_plain(words: &[String]) -> bool
     ensures { IsTrue result
         → Contains plain_commands (word_at (map string_bytes words.now) 1) × IsHelp (word_at (map string_bytes words.now) 2) }
@@ -404,7 +404,7 @@ fn asks_help_of_plain(words: &[String]) -> bool
     }
 }
 
-/// Whether help is asked for behind `sim --image` or `run --image`.
+/// Whether help is asked for after `sim --image` or `run --image`.
 fn asks_help_of_image(words: &[String]) -> bool
     ensures { IsTrue result → Contains image_commands (word_at (map string_bytes words.now) 1)
         × (word_at (map string_bytes words.now) 2 ≡ codes "--image") × IsHelp (word_at (map string_bytes words.now) 3) }
@@ -419,7 +419,7 @@ fn asks_help_of_image(words: &[String]) -> bool
     }
 }
 
-/// Whether help is asked for behind options of a command that are known.
+/// Whether help is asked for after options of a command that are known.
 fn asks_help_behind(alloc: Global, words: &[String], known: &[&str]) -> Result<bool, AllocError>
     ensures { IfOk result (λ r. IsTrue r → AsksHelpBehind (map (λ k. k.now) known.now) (map string_bytes words.now)) }
 {

@@ -17,14 +17,14 @@ pub(crate) struct FoundOption<'a> {
     is_joined: bool,
 }
 
-/// An option at the front of some words, and the words behind it.
+/// An option at the front of some words, and the words after it.
 #[derive(Clone, Copy)]
 struct FirstOption<'a> {
     found: FoundOption<'a>,
     rest: &'a [String],
 }
 
-/// The options at the front of some words, and the words behind them.
+/// The options at the front of some words, and the words after them.
 #[derive(Drop)]
 pub(crate) struct FrontOptions<'a> {
     pub(crate) given: Vec<FoundOption<'a>>,
@@ -138,7 +138,7 @@ pub(crate) fn is_left_out(given: &[FoundOption<'_>], option: &str) -> bool
     }
 }
 
-/// The words behind a command tell in one way alone which options are given: what is read of them is what they say.
+/// The words after a command tell in one way alone which options are given: what is read of them is what they say.
 pub fn options_are_told()
     ensures format { (words : List (List ℕ)) (given other : List OptionWords) → HasOnlyOptions format_options words given
         → HasOnlyOptions format_options words other → given ≡ other }

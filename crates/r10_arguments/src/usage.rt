@@ -1,4 +1,4 @@
-//! The command line as `clap` knows it, and what is said of wrong words.
+//! The command line as `clap` knows it, and what is stated of wrong words.
 
 use clap::builder::ValueParser;
 use clap::error::ErrorKind;
@@ -162,7 +162,7 @@ Exit status: 0; 1 if an image is refused, a file of it is not strict, a
 recording is faulty, or an audit says no; 2 for a wrong command line or script;
 3 if memory, reading or writing fails.";
 
-/// What is said of words that are not refused and ask for nothing.
+/// What is stated of words that are not refused and ask for nothing.
 pub(crate) const ASK_NOTHING: &str = "these words ask for nothing";
 
 /// How many characters of a word are printed.
@@ -399,7 +399,7 @@ fn number_option<'a>(option: Arg<'a>, number: ValueParser<'a>, is_needed: bool) 
         .required(is_needed)
 }
 
-/// Which command the first word behind the program's own name calls.
+/// Which command the first word after the program's own name calls.
 #[derive(Clone, Copy, PartialEq, Eq)]
 pub(crate) enum Called {
     /// None: that word is missing, or no command's name.
@@ -464,7 +464,7 @@ pub(crate) fn help_hint(called: Called) -> &'static str {
     }
 }
 
-/// What is said of words that `clap` refuses: what it says of these words as they are printed, for a word that looks like a file
+/// What is stated of words that `clap` refuses: what it says of these words as they are printed, for a word that looks like a file
 /// where such a file goes, and which help to see.
 pub(crate) fn usage_line(alloc: Global, words: &[String]) -> Result<String, AllocError> {
     let printed = printed_words(alloc, words)?;
@@ -522,7 +522,7 @@ fn without_quotes(text: &str) -> &str {
     }
 }
 
-/// The first line of what `clap` says, without its first word. After it stand the word that may be meant, the command that an
+/// The first line of what `clap` says, without its first word. After it stand the word that may be intended, the command that an
 /// option without one goes after, the options that are missing, for a word that looks like a file where such a file goes, and for
 /// another word that is no command the commands.
 fn fault_line(alloc: Global, error: &clap::Error, called: Called) -> Result<String, AllocError> {
@@ -536,7 +536,7 @@ fn fault_line(alloc: Global, error: &clap::Error, called: Called) -> Result<Stri
     Ok(line)
 }
 
-/// Adds what is said of a fault of this kind, of which `clap` says this text.
+/// Adds what is stated of a fault of this kind, of which `clap` says this text.
 fn push_fault(
     line: &mut String,
     kind: ErrorKind,
@@ -591,7 +591,7 @@ fn is_number_wanted(said: &str) -> bool {
     said.ends_with(NO_DIGITS)
 }
 
-/// What is said of a value, without what is said of its digits.
+/// What is stated of a value, without what is stated of its digits.
 fn without_digits(said: &str) -> &str {
     match said.strip_suffix(NO_DIGITS) {
         Some(front) => front,
@@ -655,7 +655,7 @@ const OWNERS: [(&str, &str); 8] = [
     ("argument '--volume'", "; it goes after format"),
 ];
 
-/// Adds what goes with each of these words that is said.
+/// Adds what goes with each of these words that is stated.
 fn push_matches(line: &mut String, said: &str, table: &[(&str, &str)]) -> Result<(), AllocError> {
     for (word, hint) in table {
         if said.contains(*word) {

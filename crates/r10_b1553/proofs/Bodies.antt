@@ -60,7 +60,7 @@ pub one_bus_body : (es ds : List BusEntry) → AllByRecursion FitsBus es → All
 one_bus_body es ds fe fd same =
     one_spelled bus_form 0 es ds (fits_are 0 es fe) (fits_are 0 ds fd) (spelled_is 0 es ∙ ap (drop 4) same ∙ sym (spelled_is 0 ds))
 
--- the entries that are left are the next one and those behind it
+-- the entries that are left are the next one and those after it
 pub next_size : (es : List BusEntry) (i : ℕ) (e : BusEntry) → i < length es → e ≡ get_or es i e → length (flat_map bus_entry (drop i es)) ≡ bus_entry_size e + length (flat_map bus_entry (drop (i + 1) es))
 next_size = next_long bus_entry bus_entry_size bus_entry-size
 

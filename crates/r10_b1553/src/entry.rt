@@ -74,7 +74,7 @@ pub fn push_entry(
     Ok(())
 }
 
-/// The block status, the gap times and the length at the front of the bytes, and the bytes behind them.
+/// The block status, the gap times and the length at the front of the bytes, and the bytes after them.
 fn split_fields(bytes: &[u8]) -> Option<(u16, u16, u16, &[u8])>
     ensures found { IfSome result (λ x. bytes.now ≡ le_bytes 2 x.0 ++ le_bytes 2 x.1 ++ le_bytes 2 x.2 ++ x.3.now) }
     ensures none { IfNone result (length bytes.now < 6) }

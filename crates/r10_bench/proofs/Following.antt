@@ -1,4 +1,4 @@
--- A builder stays behind its lane.
+-- A builder stays after its lane.
 use Rattle.std.proofs.Common.{◌≡◌, ◌≤◌, ℕ, Option, None, MatchOption, sym, ap, subst, ◌∙◌, arith}
 use Rattle.r10_body.specs.declared.entry.Sample.{Sample}
 use Rattle.r10_body.specs.declared.spec.ChannelSpec.{ChannelSpec}

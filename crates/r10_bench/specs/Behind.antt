@@ -1,4 +1,4 @@
--- A builder behind a lane.
+-- A builder after a lane.
 use Rattle.std.specs.Prelude.{◌≡◌, ◌≤◌, ℕ}
 use Rattle.r10_body.specs.declared.spec.ChannelSpec.{ChannelSpec}
 use Rattle.r10_builder.specs.Packing.{last_sample_count}

@@ -13,7 +13,7 @@ use std::time::{CpuClock, Duration};
 /// How many packets a book has at most.
 const MOST: u32 = 10_000_000;
 
-/// How many counts a packet begins behind the one before it.
+/// How many counts a packet begins after the one before it.
 const STEP: u64 = 20_000;
 
 /// What was measured.

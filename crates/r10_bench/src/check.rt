@@ -32,7 +32,7 @@ pub struct Shape {
     pub channels: u16,
     /// The packet flags that tell the data checksum.
     pub flags: u8,
-    /// How many bytes a message has, behind its stamp and its header.
+    /// How many bytes a message has, after its stamp and its header.
     pub message: usize,
 }
 

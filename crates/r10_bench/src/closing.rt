@@ -12,7 +12,7 @@ use std::time::{CpuClock, Duration};
 /// How many packets a file has at most.
 const MOST: u32 = 10_000_000;
 
-/// How many counts a message comes behind the one before it, which is on another of the four channels.
+/// How many counts a message comes after the one before it, which is on another of the four channels.
 const STEP: u64 = 2_000;
 
 /// What was measured.

@@ -96,7 +96,7 @@ pub struct HandingFigures {
 }
 
 impl HandingFigures {
-    /// Adds a batch, of which so many were accepted and taken: the times before the offers, behind them and behind the takes.
+    /// Adds a batch, of which so many were accepted and taken: the times before the offers, after them and after the takes.
     pub fn add(&mut self, times: [Duration; 3], accepted: u64, taken: u64)
         ensures accepted { self.new.accepted ≡ min (self.old.accepted + accepted) u64.MAX }
         ensures taken { self.new.taken ≡ min (self.old.taken + taken) u64.MAX }

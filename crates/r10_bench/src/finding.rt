@@ -16,7 +16,7 @@ const MOST: u32 = 10_000_000;
 /// How often an entry is looked for.
 const SEARCHES: u32 = 10_000;
 
-/// How many counts a message comes behind the one before it, which is on another of the four channels: 2 ms and 200 us.
+/// How many counts a message comes after the one before it, which is on another of the four channels: 2 ms and 200 us.
 pub const STEPS: [u64; 2] = [20_000, 2_000];
 
 /// What was measured.

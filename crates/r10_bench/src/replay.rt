@@ -1,6 +1,6 @@
 //! How long a replay through the public recorder takes: what a cursor gives, entry by entry, in processor time. A closed file is
 //! replayed in one instalment, and the check of it, which judges it whole where it is read first, is timed by itself; a file that
-//! is recorded is replayed behind each commit.
+//! is recorded is replayed after each commit.
 
 use crate::fault::BenchFault;
 use crate::figures::a_second;
@@ -34,7 +34,7 @@ pub struct ReplayFigures {
 }
 
 impl ReplayFigures {
-    /// Adds an instalment: the times before it, behind it and behind what it gave, and how many entries that was.
+    /// Adds an instalment: the times before it, after it and after what it gave, and how many entries that was.
     fn add(&mut self, times: [Duration; 3], entries: u64) {
         let [start, middle, end] = times;
         self.instalments = self.instalments.saturating_add(1);
@@ -93,7 +93,7 @@ pub(crate) fn run<R: CpuClock>(
     Ok(figures)
 }
 
-/// Records so many messages in a file, with a commit behind each four rounds, and replays it behind each.
+/// Records so many messages in a file, with a commit after each four rounds, and replays it after each.
 pub(crate) fn follow<R: CpuClock>(
     rt: &R,
     alloc: Global,

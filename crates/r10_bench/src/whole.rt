@@ -54,7 +54,7 @@ pub(crate) fn rounds(number: u32) -> u32 {
     number.div_ceil(ROUND)
 }
 
-/// Offers each message to the channel that its number says, so many counts behind the one before it.
+/// Offers each message to the channel that its number says, so many counts after the one before it.
 fn offer_all(recorder: &mut InMemory, messages: Vec<Timed>, step: u64) -> Result<(), Refusal> {
     for Timed { count, message } in messages {
         let number = count.get();
@@ -71,7 +71,7 @@ fn pump_all(recorder: &mut InMemory) -> Result<(), Refusal> {
     Ok(())
 }
 
-/// Records messages, each so many counts behind the one before it: they are offered, and each channel is pumped.
+/// Records messages, each so many counts after the one before it: they are offered, and each channel is pumped.
 pub(crate) fn record(
     recorder: &mut InMemory,
     messages: Vec<Timed>,

@@ -8,7 +8,7 @@ use Rattle.r10_medium.proofs.Bytes.{take-concat, whole_drop}
 use Rattle.r10_blockout.specs.Blocks.{Shows}
 use Rattle.r10_blockout.specs.Bytes.{bytes_of}
 
--- what is left of the bytes behind some blocks
+-- what is left of the bytes after some blocks
 drop-concat : (q s : ℕ) (blocks : Image) → IsWhole blocks → drop (512 * q + s) (concat blocks) ≡ drop s (concat (drop q blocks))
 drop-concat zero s blocks whole = ap (λ (k : ℕ). drop k (concat blocks)) none
   where

@@ -1,4 +1,4 @@
--- Each rule of a file: a packet that keeps it and one that breaks it, behind the first recording's packets.
+-- Each rule of a file: a packet that keeps it and one that breaks it, after the first recording's packets.
 use Rattle.std.specs.Prelude.{◌≡◌, ℕ, true, false, List, [], ◌∷◌, ◌++◌, length, map, take, drop, replicate, Some, None, refl}
 use Rattle.std.specs.List.{sum_by}
 use Rattle.std.proofs.Common.{inl, lit<, lit≤, arith, sym, ap, ◌≤◌}
@@ -120,7 +120,7 @@ pub root-names-another : KeepsIndex (data_packets ++ a_node_packet ∷ []) (reco
 unfolding packet_bytes header_bytes
 root-names-another (ends, entries) = omega (arith, ap (sum_by (λ (e : RootEntry). e.offset)) entries)
 
--- of a hundred times behind the setup the first group has a node of a hundred packets, and so has the second one node
+-- of a hundred times after the setup the first group has a node of a hundred packets, and so has the second one node
 abbrev times : List Packet
 times = a_setup_packet ∷ replicate 100 a_time_packet
 
@@ -181,7 +181,7 @@ second-event = refl
 pub other-event : KeepsEvents (data_packets ++ event_packet 0 3 0 ∷ []) (event_packet 1 4 0)
 other-event = refl
 
--- a file that ends behind its setup packet
+-- a file that ends after its setup packet
 pub no-time-at-all : IsAtFault (file_bytes (a_setup_packet ∷ [])) false 32 (Rule 4)
 unfolding packet_bytes header_bytes
 no-time-at-all = record { packets = a_setup_packet ∷ []; rest = []; bytes_are = refl; offset_is = refl; strict = (setup-first, tt); unclosed = λ _. refl; answered = tt; wrong = no_time refl refl }
@@ -238,7 +238,7 @@ least-four m (broken_rules.reports p loss reads is breaks) = lit≤ tt
 pub begins-with-time : IsAtFault (packet_bytes a_time_packet) false 0 (Rule 4)
 begins-with-time = record { packets = []; rest = packet_bytes a_time_packet; bytes_are = refl; offset_is = refl; strict = tt; unclosed = λ _. refl; answered = tt; wrong = rule time-is (broken_rules.start a_time_packet time-reads no-setup) least-four }
 
--- rule 11: of a report and the packet behind it
+-- rule 11: of a report and the packet after it
 
 abbrev reporting : List Packet
 reporting = data_packets ++ a_report_packet ∷ []
@@ -293,6 +293,6 @@ report-fourth = record {
   reports = (refl, (refl, lit< tt));
 }
 
--- the entries of a lossy packet behind its report
+-- the entries of a lossy packet after its report
 pub lossy-entries : map (λ (e : Entry). e.gap) (file_entries (reporting ++ lossy_packet (Lost 1) ∷ [])) ≡ Whole ∷ Whole ∷ Whole ∷ Lost 1 ∷ []
 lossy-entries = refl

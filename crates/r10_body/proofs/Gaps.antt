@@ -16,7 +16,7 @@ pub flag_sound : (b : Bool) → IsSoundGap (gap_of_flag b)
 flag_sound true = tt
 flag_sound false = tt
 
--- where no number is told, the flag says all
+-- where no number is reported, the flag says all
 pub plain_gap : (g h : Gap) → is_gap g ≡ is_gap h → told_lost g ≡ 0 → told_lost h ≡ 0 → IsSoundGap g → IsSoundGap h → g ≡ h
 plain_gap Whole Whole e a b f k = refl
 plain_gap Unknown Unknown e a b f k = refl

@@ -7,7 +7,7 @@ use Rattle.r10_body.specs.Packets.{Packet, packet_bytes, file_bytes}
 use Rattle.r10_body.specs.Rules.{is_node, is_root, root_entry_of, last_nodes, unnamed, last_root, group_size}
 use Rattle.r10_body.proofs.Indexes.{counted_first}
 
--- where a packet stands behind others that stand at an offset
+-- where a packet stands after others that stand at an offset
 placed : (offset : ℕ) (q : Packet) (ps : List Packet) → offset + length (packet_bytes q) + length (file_bytes ps) ≡ offset + length (file_bytes (q ∷ ps))
 placed offset q ps = omega (arith, length-append (packet_bytes q) (file_bytes ps))
 
@@ -25,7 +25,7 @@ nodes_from offset names (q ∷ ps) p =
     nodes_from (offset + length (packet_bytes q)) (cond (is_node q) (names ++ root_entry_of offset q ∷ []) []) ps p
     ∙ ap (λ n. cond (is_node p) (last ++ root_entry_of n p ∷ []) []) (placed offset q ps)
 
--- a node more is the last of those that no root names, and behind any other packet there are none
+-- a node more is the last of those that no root names, and after any other packet there are none
 pub unnamed_with : (ps : List Packet) (p : Packet) → is_node p ≡ true → unnamed (ps ++ p ∷ []) ≡ unnamed ps ++ root_entry_of (length (file_bytes ps)) p ∷ []
 unnamed_with ps p is =
     nodes_from 0 [] ps p ∙ ap (λ n. cond (is_node p) (unnamed ps ++ root_entry_of n p ∷ []) []) (from_start (length (file_bytes ps)))

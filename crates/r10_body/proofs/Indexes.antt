@@ -89,7 +89,7 @@ pub not_closed : (ps : List Packet) → count_by is_index ps ≡ 0 → is_closed
 not_closed [] none = refl
 not_closed (p ∷ ps) none = let parts = none_at p ps (part_of p) none in rw parts.2 (not_closed ps parts.3)
 
--- an index is whole only behind a root
+-- an index is whole only after a root
 pub not_whole : (ps : List Packet) → is_closed_file ps ≡ false → has_whole_index ps ≡ false
 not_whole ps unclosed = rw unclosed refl
 

@@ -51,7 +51,7 @@ entries_paid size said paid (e ∷ es) channel gap =
     let sizes : sum_by size (e ∷ es) ≡ size e + sum_by size es = sum_by-cons size e es in
     omega (arith, paid e)
 
--- and behind a loss whose number is told, what the report costs too
+-- and after a loss whose number is reported, what the report costs too
 entries_lost : {E : Type 0} (size : E → ℕ) (said : E → Timed) (paid : (e : E) → IsPaid size said e) (es : List E) (channel : ℕ) (gap : Gap) → 0 < length es
     → sum_by size es + 103 * length es + lost_cost gap ≤ sum_by entry_cost (with_gaps channel gap (map said es))
 entries_lost size said paid [] channel gap some = absurd (omega (arith, some))
@@ -143,7 +143,7 @@ packet_covered before p false false is said may other =
 
 -- ---- files
 
--- behind the first packet there is no setup packet
+-- after the first packet there is no setup packet
 pub not_setup : (before : List Packet) (p : Packet) → 0 < length before → MayFollow before p → is_setup_packet p ≡ false
 not_setup before p some may = false_from_ne_true (is_setup_packet p) (λ h. let none : length before ≡ 0 = may.start.0.0 h in omega arith)
 

@@ -80,7 +80,7 @@ no_report_at p (report loss) other = absurd (let no : true ≡ false = other in 
 pub no_report : (p : Packet) → is_report_packet p ≡ false → report_of p ≡ None
 no_report p other = no_report_at p p.content other
 
--- behind a packet that is none, none stands last
+-- after a packet that is none, none stands last
 pub quiet_more : (packets : List Packet) (p : Packet) → is_report_packet p ≡ false → EndsReports (packets ++ p ∷ [])
 quiet_more packets p other = last_with None packets p ∙ no_report p other
 

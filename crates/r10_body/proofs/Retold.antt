@@ -1,4 +1,4 @@
--- A packet with another number told of what was lost before it keeps the same rules, but for the one of reports.
+-- A packet with another number reported of what was lost before it keeps the same rules, but for the one of reports.
 use Rattle.std.proofs.Common.{◌≡◌, ℕ, ◌+◌, ◌≤◌, Bool, true, false, List, [], ◌∷◌, ◌++◌, take, filter, refl, sym, ap, subst, ◌∙◌}
 use Rattle.std.specs.List.{AllByRecursion}
 use Rattle.r10_body.specs.Content.{Timed, messages_of}
@@ -21,7 +21,7 @@ still_whole g Whole e is = refl
 still_whole g (Lost n) e is = absurd (let no : false ≡ true = sym (ap is_gap is) ∙ e in cc)
 still_whole g Unknown e is = absurd (let no : false ≡ true = sym (ap is_gap is) ∙ e in cc)
 
--- entries whose counts go on behind others
+-- entries whose counts go on after others
 abbrev GoOn : ℕ → List Entry → List Entry → Type 0
 GoOn counter before es = AllByRecursion (λ e. counter ≡ e.count) (take 1 es) × Rise 0 (before ++ es) × AllByRecursion (λ e. e.count ≤ counter + 1000000) es
 

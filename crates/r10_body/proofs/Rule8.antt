@@ -19,7 +19,7 @@ use Rattle.r10_body.proofs.Injective.{one_packet}
 use Rattle.r10_body.proofs.Retold.{IsRetold, retold_start, retold_channels, retold_sequence, retold_counts}
 use Rattle.std.proofs.lemmas.Bool.{false≢true}
 
--- what stands first is one packet, whatever number is told
+-- what stands first is one packet, whatever number is reported
 the_packet : (p q : Packet) (bytes : List ℕ) → ReadsPacket bytes p → ReadsPacket bytes q → IsRetold p q
 the_packet p q bytes rp rq = one_packet p q [] [] rp.0 rq.0 (ap (λ (b : List ℕ). b ++ []) (sym rp.2 ∙ rq.2))
 
@@ -88,7 +88,7 @@ root-misplaced =
     })
     not_itself tt
 
--- a packet of data behind an index packet
+-- a packet of data after an index packet
 abbrev pub too_late : Packet
 too_late = record uart_packet { sequence = 1; counter = 1010; content = uart (record { count = 1010; parity = false; sub = 0; bytes = [] } ∷ []) }
 

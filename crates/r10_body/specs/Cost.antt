@@ -25,7 +25,7 @@ each_entry = 104
 abbrev pub each_file : ℕ
 each_file = 152
 
--- what a loss whose number is told costs: a report of 44 bytes, and its part of the index
+-- what a loss whose number is reported costs: a report of 44 bytes, and its part of the index
 abbrev pub each_report : ℕ
 each_report = 68
 
@@ -34,7 +34,7 @@ abbrev pub lost_cost : Gap → ℕ
 lost_cost (Lost n) = each_report
 lost_cost gap = 0
 
--- what a report adds to the cost of the entry that comes behind it
+-- what a report adds to the cost of the entry that comes after it
 abbrev pub owed : Option LossBody → ℕ
 owed None = 0
 owed (Some loss) = each_report

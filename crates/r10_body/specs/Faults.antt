@@ -52,7 +52,7 @@ KeepsFiller bytes =
     let bits = checksum_bits h.flags in
     slice_range bytes 24 h.packet_len ≡ filled bits (body_at bytes) (least_filler bits (body_at bytes))
 
--- the packet that stands first is this one of the recorder's, whatever number is told of what was lost before it
+-- the packet that stands first is this one of the recorder's, whatever number is reported of what was lost before it
 abbrev pub ReadsPacket : List ℕ → Packet → Type 0
 ReadsPacket bytes p = FitsPacket p × KeepsChecksums p × (first_packet bytes ≡ packet_bytes p)
 
@@ -64,7 +64,7 @@ IsAnswered loss bytes = (framing_fault bytes ≡ None) × ((header_at bytes).cha
 abbrev pub IsReportAnswered : List Packet → List ℕ → Type 0
 IsReportAnswered packets rest = IfSome (last_report packets) (λ loss. IsAnswered loss rest)
 
--- what stands first breaks a rule, behind these packets of a file whose directory entry is closed or not
+-- what stands first breaks a rule, after these packets of a file whose directory entry is closed or not
 pub data BreaksRule (before : List Packet) (bytes : List ℕ) (closed : Bool) : ℕ → Type 0 where
   version : ¬ KeepsHeader bytes → BreaksRule before bytes closed 1
   filler : opaque_at bytes ≡ false → ¬ KeepsFiller bytes → BreaksRule before bytes closed 2
@@ -80,7 +80,7 @@ pub data BreaksRule (before : List Packet) (bytes : List ℕ) (closed : Bool) : 
   -- the report itself is at fault where no flagged packet of its channel comes next
   reports : (p : Packet) (loss : LossBody) → ReadsPacket bytes p → p.content ≡ report loss → ¬ (IsSoundReport loss × IsAnswered loss (drop (header_at bytes).packet_len bytes)) → BreaksRule before bytes closed 11
 
--- what is wrong behind these packets, where no fault of framing, data checksum or body comes before a rule, and of rules the least is named
+-- what is wrong after these packets, where no fault of framing, data checksum or body comes before a rule, and of rules the least is named
 pub data IsWrongHere (before : List Packet) (rest : List ℕ) (closed : Bool) : FileFault → Type 0 where
   packet : {fault : FileFault} → (0 < length rest) ⊎ (length before ≡ 0) → HasFault rest fault → IsWrongHere before rest closed fault
   rule : {n : ℕ} → IsForeignPacket (first_packet rest) → BreaksRule before rest closed n → ((m : ℕ) → BreaksRule before rest closed m → n ≤ m) → IsWrongHere before rest closed (Rule n)

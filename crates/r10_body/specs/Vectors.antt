@@ -283,7 +283,7 @@ start-cost = refl
 pub four-bytes-cost : file_cost (replicate 100 0) (a_time_entry ∷ entry 5 1001 (1 ∷ 2 ∷ 3 ∷ 4 ∷ []) ∷ []) + 28 ≡ 512
 four-bytes-cost = refl
 
--- a setup of 4 bytes and a time leave 30,964 bytes of the 61 blocks behind the directory
+-- a setup of 4 bytes and a time leave 30,964 bytes of the 61 blocks after the directory
 pub free : file_cost (replicate 4 0) (a_time_entry ∷ []) + 30964 ≡ 61 * 512
 free = refl
 
@@ -387,6 +387,6 @@ report-read = refl
 pub type-0 : is_opaque_packet (record { channel = 9; packet_len = 28; data_len = 4; version = 8; sequence = 0; flags = 0; data_type = 0x00; counter = 1000 }) (0 ∷ 0 ∷ 0 ∷ 0 ∷ []) ≡ true
 type-0 = refl
 
--- an entry behind a loss of three messages: the report costs 68
+-- an entry after a loss of three messages: the report costs 68
 pub lost-cost : map entry_cost (record { channel = 5; count = 1004; message = Uart false 0 (0x44 ∷ []); gap = Lost 3 } ∷ entry 5 1004 (0x44 ∷ []) ∷ []) ≡ 185 ∷ 117 ∷ []
 lost-cost = refl

@@ -13,7 +13,7 @@ pub const ENTRY_COST: u64 = 104;
 /// What every file costs in bytes before its setup text and its entries.
 pub const FILE_COST: u64 = 152;
 
-/// What an entry behind a loss whose number is told costs more in bytes: the report, and no more for its part of the index.
+/// What an entry after a loss whose number is reported costs more in bytes: the report, and no more for its part of the index.
 pub const LOSS_COST: u64 = 68;
 
 /// What a message and the gap before it add to the cost of their entry, in bytes: this recorder's own measure of room.

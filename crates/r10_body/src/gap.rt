@@ -28,7 +28,7 @@ impl Gap {
         }
     }
 
-    /// Whether a packet that begins behind it is flagged.
+    /// Whether a packet that begins after it is flagged.
     pub fn is_gap(&self) -> bool
         ensures { result ≡ is_gap self.now }
     {

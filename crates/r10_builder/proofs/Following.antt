@@ -141,7 +141,7 @@ report_follows packets channel lost growing small some few =
 
 -- ---- a packet of a channel's samples
 
--- what a packet comes behind: packets that grow, and its report where it has one
+-- what a packet comes after: packets that grow, and its report where it has one
 record IsFront (packets : List Packet) (p : Packet) (type : ℕ) (before : List Packet) : Type 0 where
   pub each : EachFollows [] before
   pub start : 2 ≤ length before
@@ -186,7 +186,7 @@ front_at : (packets : List Packet) (p : Packet) (type : ℕ) → IsSoundGap p.ga
     → IsFront packets p type (reporting packets p)
 front_at packets p type sound growing above small has = front_with packets p type p.gap refl sound growing above small has
 
--- what is told doesn't depend on the number
+-- what is reported doesn't depend on the number
 told_numbered : (o : Option _) (before : List Packet) (p : Packet) → IsGapTold o p → IsGapTold o (numbered before p)
 told_numbered None before p told = told
 told_numbered (Some loss) before p told = told

@@ -1,4 +1,4 @@
--- Counts that don't fall, over two lists one behind the other.
+-- Counts that don't fall, over two lists one after the other.
 use Rattle.std.proofs.Common.{ℕ, ◌≤◌, List, [], ◌∷◌, ◌++◌, arith}
 use Rattle.r10_body.specs.Rules.{Rise}
 use Rattle.r10_body.specs.declared.entry.Entry.{Entry}

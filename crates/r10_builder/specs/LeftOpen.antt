@@ -39,7 +39,7 @@ Closes test old new result =
 
 -- ---- samples that are taken
 
--- a sample goes behind those of the open packet; or those are closed for a reason, and it begins the next packet
+-- a sample goes after those of the open packet; or those are closed for a reason, and it begins the next packet
 abbrev pub next_open : Option Reason → List Sample → Sample → List Sample
 next_open None samples s = samples ++ s ∷ []
 next_open (Some why) samples s = s ∷ []

@@ -1,4 +1,4 @@
--- Two packets of a channel on which a message was lost: the packet behind the loss is flagged, not the one before it, and a report stands between them.
+-- Two packets of a channel on which a message was lost: the packet after the loss is flagged, not the one before it, and a report stands between them.
 use Rattle.std.specs.Prelude.{◌≡◌, ℕ, false, List, [], ◌∷◌, ◌++◌, take, drop, refl}
 use Rattle.r10_packet.specs.Header.{header_bytes}
 use Rattle.r10_body.specs.Content.{uart, report}

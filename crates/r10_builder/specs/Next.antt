@@ -34,7 +34,7 @@ setup_packet counter text = record { channel = 0; sequence = 0; gap = Whole; che
 abbrev pub time_packet : ℕ → ℕ → Parts → Packet
 time_packet channel counter civil = record { channel = channel; sequence = 0; gap = Whole; check = 0; counter = counter; content = time civil }
 
--- the event of a number that comes next behind packets
+-- the event of a number that comes next after packets
 abbrev pub event_packet : ℕ → ℕ → ℕ → List Packet → Packet
 event_packet channel counter number packets = record {
   channel = channel;
@@ -51,7 +51,7 @@ report_packet counter channel lost = record { channel = 0; sequence = 0; gap = W
 
 -- ---- a packet that is handed out
 
--- packets, and behind them the report that tells how many messages were lost before a packet, where a number is told
+-- packets, and after them the report that tells how many messages were lost before a packet, where a number is reported
 abbrev pub reporting : List Packet → Packet → List Packet
 reporting packets p = elim p.gap [ Lost n ↦ packets ++ numbered packets (report_packet (last_time 0 packets) p.channel n) ∷ [] | _ ↦ packets ]
 

@@ -21,11 +21,11 @@ pub record Packed (packets : List Packet) (builders : List BuilderState) : Type 
   pub kept : AllByRecursion (KeepsSettings (specs_of builders)) packets
   pub rise : (channel : ℕ) → Rise 0 (on_channel channel (taken_in packets builders))
 
--- counts don't fall with these entries behind those that were taken in
+-- counts don't fall with these entries after those that were taken in
 abbrev pub MayTake : List Packet → List BuilderState → List Entry → Type 0
 MayTake packets builders more = (channel : ℕ) → Rise 0 (on_channel channel (taken_in packets builders) ++ on_channel channel more)
 
--- what was handed out is a packet that may come next, behind its report; with both and with the builders that are left these entries were taken in
+-- what was handed out is a packet that may come next, after its report; with both and with the builders that are left these entries were taken in
 pub record HandsOn (closed : Closed) (packets : List Packet) (builders : List BuilderState) (more : List Entry) (left : List BuilderState) : Type 0 where
   pub packet : Packet
   pub fits : FitsPacket packet
@@ -36,7 +36,7 @@ pub record HandsOn (closed : Closed) (packets : List Packet) (builders : List Bu
   -- it is on the channel of a builder, and no packet that the recorder makes itself
   pub on : HasNone packet.channel builders → ⊥
   pub data_type : type_time < type_of packet.content
-  -- where a number is told of what was lost before it, a report may come next, and then the packet
+  -- where a number is reported of what was lost before it, a report may come next, and then the packet
   pub reports : (n : ℕ) → packet.gap ≡ Lost n → MayFollow packets (numbered packets (report_packet (last_time 0 packets) packet.channel n))
   pub follows : MayFollow (reporting packets packet) (numbered (reporting packets packet) packet)
   pub packed : Packed (grown_by packets packet) left

@@ -19,7 +19,7 @@ words_at (suc n) bytes = u16_at bytes 0 ∷ words_at n (drop 2 bytes)
 abbrev pub sample_of : ℕ → Message → Sample
 sample_of count m = record { count = count; message = m; gap = Whole }
 
--- the sample that stands first in bytes, behind one at a count
+-- the sample that stands first in bytes, after one at a count
 unfoldable pub sample_at : Kind → ℕ → List ℕ → Sample
 sample_at kinds.Uart before bytes =
     let header = u32_at bytes 8 in

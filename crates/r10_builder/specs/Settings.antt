@@ -29,7 +29,7 @@ is_of channel b = b.spec.id == channel
 abbrev pub is_old : ℕ → BuilderState → Bool
 is_old now b = elim b.samples [ [] ↦ false | s ∷ samples ↦ not (nat_le now (s.count + tenth)) ]
 
--- the channel has a builder, which takes the sample behind those that it holds
+-- the channel has a builder, which takes the sample after those that it holds
 abbrev pub BuilderTakes : ℕ → Sample → List BuilderState → Type 0
 BuilderTakes channel s builders = IsSomeAnd (find (is_of channel) builders) (λ b. (channel_refusal b.spec s.message ≡ None) × (last_sample_count 0 b.samples ≤ s.count) × IsSoundGap s.gap)
 

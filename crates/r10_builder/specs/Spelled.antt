@@ -31,7 +31,7 @@ arinc_of count bus format parity high word = record { count = count; bus = bus; 
 abbrev pub discrete_of : ℕ → ℕ → DiscreteEntry
 discrete_of count states = record { count = count; states = states }
 
--- a message at a count, behind one at another; times and events are on no channel
+-- a message at a count, after one at another; times and events are on no channel
 abbrev pub message_bytes : ℕ → ℕ → Message → List ℕ
 message_bytes before count (messages.Uart parity sub bytes) = uart_entry (uart_of count parity sub bytes)
 message_bytes before count (messages.Bus1553 status gap words) = bus_entry (bus_of count status gap words)
@@ -48,7 +48,7 @@ abbrev pub Reaches : ℕ → ℕ → Message → Type 0
 Reaches before count (messages.Arinc bus format parity high word) = (before ≤ count) × (count ≤ before + tenth)
 Reaches before count m = Unit {0}
 
--- the fields of a message are in their ranges, on a channel of so many discretes and behind one at a count
+-- the fields of a message are in their ranges, on a channel of so many discretes and after one at a count
 pub record Fits (bits before : ℕ) (s : Sample) : Type 0 where
   pub range : IsTrue (is_in_range bits s.message)
   pub short : IsTrue (is_short s.message)
@@ -64,7 +64,7 @@ pub record Typed (s : Sample) : Type 0 where
   pub count : IsCount s.count
   pub fields : HasTypes s.message
 
--- each sample behind the one before, the first behind a count
+-- each sample after the one before, the first after a count
 abbrev pub all_bytes : ℕ → List Sample → List ℕ
 all_bytes before [] = []
 all_bytes before (s ∷ samples) = sample_bytes before s ++ all_bytes s.count samples

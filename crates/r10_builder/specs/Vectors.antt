@@ -125,7 +125,7 @@ pub three-words-read : samples_in kinds.Arinc (Some (record { first = 5000; last
 unfolding samples_in sample_at
 three-words-read = refl
 
--- ---- the other kinds: two samples, the first behind a gap
+-- ---- the other kinds: two samples, the first after a gap
 
 abbrev pub two_of : ℕ → MessageValue → MessageValue → List Sample
 two_of count m n = record { count = count; message = m; gap = Lost 2 } ∷ record { count = count + 1; message = n; gap = Whole } ∷ []

@@ -9,7 +9,7 @@ use r10_count::Count;
 /// A tenth of a second in units of 100 ns: no sample of a packet is later than its first by more.
 pub(crate) const TENTH: u64 = 1_000_000;
 
-/// Whether a sample of this kind may stand in a packet behind one at a count: the words of an
+/// Whether a sample of this kind may stand in a packet after one at a count: the words of an
 /// ARINC bus tell their distance, which is at most a tenth of a second.
 pub(crate) fn is_near(kind: Kind, before: Count, count: Count) -> bool
     ensures { result ≡ comes_near kind before count }

@@ -20,7 +20,7 @@ ghost use Rattle.r10_builder.specs.Next.{ChannelGoesOn, IsGrowing, event_packet}
 ghost use Rattle.r10_builder.specs.Next.{report_packet, reporting, setup_packet, time_packet};
 ghost use Rattle.r10_body.specs.Sequence.{numbered};
 
-/// What a builder hands out may come next, with its channel's next number, behind its report where a number is told of
+/// What a builder hands out may come next, with its channel's next number, after its report where a number is reported of
 /// what was lost before it.
 pub fn handed_out_may_follow()
     ensures { (packets : List Packet) (spec : ChannelSpec) (samples : List Sample)

@@ -32,7 +32,7 @@ impl OpenPacket {
     }
 }
 
-/// Counts a message into an open packet, which is this one, behind its last.
+/// Counts a message into an open packet, which is this one, after its last.
 #[inline(always)]
 pub(crate) fn count_in(place: &mut Option<OpenPacket>, packet: &OpenPacket, count: Count)
     requires is { place.old ≡ Some packet.now }

@@ -9,7 +9,7 @@ use Rattle.r10_machine.specs.declared.reply.Reply.TheVariants.{Refused}
 use Rattle.r10_medium.specs.Disk.{Disk}
 use Rattle.r10_calls.specs.declared.desk.Desk.{Desk as DeskValue}
 
--- what is so of the events that were done and of the replies behind those that were there, is so of the one event and the one reply
+-- what is so of the events that were done and of the replies after those that were there, is so of the one event and the one reply
 pub one_reply : {E R : Type 0} (P : List E → List R → Type 0) (event : E) (n k : ℕ) (items rest : List R) (reply : R)
     → n ≤ 1 → 0 < n → k ≡ 0 → length items ≡ k + n → items ≡ rest ++ (reply ∷ []) → P (take n (event ∷ [])) (drop k items) → P (event ∷ []) (reply ∷ [])
 one_reply {R = R} P event n k items rest reply le lt zero size is p =
@@ -19,6 +19,6 @@ one_reply {R = R} P event n k items rest reply le lt zero size is p =
     subst (λ (xs : List R). P (event ∷ []) xs) items_are
     (subst (λ (j : ℕ). P (event ∷ []) (drop j items)) zero (subst (λ (m : ℕ). P (take m (event ∷ [])) (drop k items)) one p))
 
--- where memory was refused before the event was told
+-- where memory was refused before the event was given
 pub refused : {M : Type 0} (disk : M → Disk) (old : DeskValue M) (event : EventValue) (tells : ReplyValue → Type 0) → tells (Refused OutOfMemory) → DoesEvent disk old event tells old
 refused disk old event tells says = record { reply = Refused OutOfMemory; told = inr (refl, refl); says = says; config = refl; fault = refl; hand = refl }

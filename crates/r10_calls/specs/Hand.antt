@@ -27,7 +27,7 @@ abbrev pub next_fields : ReplyValue → EntryOut → EntryOut
 next_fields (Next (Some e)) old = fields_of e
 next_fields reply old = old
 
--- A cursor was told to give its next, and of the reply this is so. What it gave is in hand then, in place of what was.
+-- A cursor was asked to give its next, and of the reply this is so. What it gave is in hand then, in place of what was.
 pub record TakesInHand {M : Type 0} (disk : M → Disk) (old : DeskValue M) (id : ℕ) (tells : ReplyValue → Type 0) (new : DeskValue M) : Type 0 where
   pub reply : ReplyValue
   pub told : Told disk old.world (events.Next id) reply new.world

@@ -67,7 +67,7 @@ status_told (Found f) = None
 status_told (CountAt c) = None
 status_told (Refused r) = None
 
--- the file of this number, where files were told
+-- the file of this number, where files were reported
 abbrev pub told_file : ReplyValue → ℕ → Option FileInfo
 told_file reply n = elim (files_told reply) [ None ↦ None | Some fs ↦ slice_get fs n ]
 
@@ -80,7 +80,7 @@ file_in reply n old = elim (told_file reply n) [ None ↦ old | Some f ↦ file_
 abbrev pub name_in : ReplyValue → ℕ → List ℕ → List ℕ
 name_in reply n old = elim (told_file reply n) [ None ↦ old | Some f ↦ copied f.name old ]
 
--- 43 where files were told, and none of this number
+-- 43 where files were reported, and none of this number
 abbrev pub file_place : ReplyValue → ℕ → ℕ
 file_place reply n = elim (files_told reply) [ None ↦ number_of reply | Some fs ↦ elim (slice_get fs n) [ None ↦ 43 | Some f ↦ 0 ] ]
 

@@ -23,7 +23,7 @@ IsSettings text s = (table : Members) × (parse_document text ≡ Some table) ×
 abbrev pub HasOtherBlocks : List ℕ → ℕ → Type 0
 HasOtherBlocks text blocks = (s : Config) × IsSettings text s × (blocks ≢ s.blocks)
 
--- a new recorder of the script's settings finds no files on it, and this is sure
+-- a new recorder of the script's settings finds no files on it, and it is synced
 abbrev pub FormatsByScript : List ℕ → Disk → Type 0
 FormatsByScript text disk = (s : Config) × IsSettings text s × MediumHas s disk.blocks [] × IsSynced disk
 
@@ -31,8 +31,8 @@ FormatsByScript text disk = (s : Config) × IsSettings text s × MediumHas s dis
 abbrev pub FormatsOver : List ℕ → Image → Disk → Type 0
 FormatsOver text old disk = (s : Config) × IsSettings text s × Settled (IsFormatted s old) disk
 
--- A recorder of the script's settings over the medium, and no readers. Over a medium that has files it stands for a machine that has them; over
--- what a stop left of one that said files it finds these again, and they are safe.
+-- A recorder of the script's settings over the medium, and no readers. Over a medium that has files it represents a machine that has them; over
+-- what a stop left of one that stated files it finds these again, and they are safe.
 pub record OpensRecorder {M : Type 0} (disk : M → Disk) (text : List ℕ) (medium : M) (w : WorldState M) : Type 0 where
   pub settings : IsSettings text w.recorder.kept.config
   pub holds : w.recorder.medium ≡ medium

@@ -1,4 +1,4 @@
--- What one event that is told to a recorder and its readers comes to.
+-- What one event that is given to a recorder and its readers comes to.
 use Rattle.std.specs.Prelude.{◌≡◌, ◌⊎◌, ℕ, ◌<◌, List, [], ◌∷◌, Option, None, Some, length, if◌then◌else◌, nat_lt, slice_get}
 use Rattle.r10_body.specs.Refusals.{refusal_number}
 use Rattle.r10_body.specs.declared.refusal.Refusal.TheVariants as refusals
@@ -26,7 +26,7 @@ pub record StepsToReply {M : Type 0} (disk : M → Disk) (old : WorldState M) (e
 abbrev pub Told : {M : Type 0} → (M → Disk) → WorldState M → EventValue → ReplyValue → WorldState M → Type 0
 Told disk old event reply new = StepsToReply disk old event reply new ⊎ ((reply ≡ Refused refusals.OutOfMemory) × (new ≡ old))
 
--- An event was told, and of its reply this is so. What a refusal carries is kept, and the entry in hand stays.
+-- An event was given, and of its reply this is so. What a refusal carries is kept, and the entry in hand stays.
 pub record DoesEvent {M : Type 0} (disk : M → Disk) (old : DeskValue M) (event : EventValue) (tells : ReplyValue → Type 0) (new : DeskValue M) : Type 0 where
   pub reply : ReplyValue
   pub told : Told disk old.world event reply new.world

@@ -1,4 +1,4 @@
-//! A recorder and its readers, to which one event at a time is told.
+//! A recorder and its readers, to which one event at a time is given.
 
 ghost use Rattle.std.specs.Prelude.{◌≡◌};
 ghost use Rattle.r10_calls.specs.Faults.{fault_in};

@@ -75,7 +75,7 @@ pub struct EntryOut {
     pub high: bool,
 }
 
-/// How many were lost; 0 where that isn't told.
+/// How many were lost; 0 where that isn't reported.
 fn lost_in(gap: Gap) -> u64
     ensures { result ≡ told_lost gap }
 {

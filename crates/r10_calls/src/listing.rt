@@ -107,7 +107,7 @@ fn channel_of(status: &ChannelStatus) -> ChannelOut
     }
 }
 
-/// How many files were told.
+/// How many files were reported.
 fn files_in(reply: &Reply, old: usize) -> usize
     ensures { result ≡ files_in reply.now old }
 {
@@ -136,7 +136,7 @@ fn put_file(reply: &Reply, number: usize, out: &mut FileOut, name: &mut [u8]) ->
     }
 }
 
-/// How the recorder was told to be.
+/// How the recorder was set to be.
 fn status_in(reply: &Reply, old: StatusOut) -> StatusOut
     ensures { result ≡ status_given reply.now old }
 {

@@ -67,7 +67,7 @@ pub(crate) fn place_in(reply: &Reply, old: usize) -> usize
     }
 }
 
-/// Whether a count was told.
+/// Whether a count was reported.
 pub(crate) fn is_count_in(reply: &Reply, old: bool) -> bool
     ensures { result ≡ is_count_in reply.now old }
 {
@@ -78,7 +78,7 @@ pub(crate) fn is_count_in(reply: &Reply, old: bool) -> bool
     }
 }
 
-/// The count that was told.
+/// The count that was reported.
 pub(crate) fn count_in(reply: &Reply, old: u64) -> u64
     ensures { result ≡ count_in reply.now old }
 {

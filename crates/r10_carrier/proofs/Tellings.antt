@@ -1,4 +1,4 @@
--- What a sample comes to, told event by event.
+-- What a sample comes to, given event by event.
 use Rattle.std.proofs.Common.{◌≡◌, ◌≢◌, ℕ, ◌==◌, Bool, cond, List, [], ◌∷◌, ◌++◌, inr, refl, sym, ap, subst, ◌∙◌}
 use Rattle.std.proofs.lemmas.Bool.{ne_eqb}
 use Rattle.r10_body.specs.declared.gap.Gap.TheVariants.{Whole}
@@ -12,7 +12,7 @@ use Rattle.r10_machine.specs.declared.event.Event.TheVariants as events
 use Rattle.r10_machine.specs.declared.reply.Reply.TheVariants.{Refused}
 use Rattle.r10_medium.specs.Disk.{Disk}
 
--- memory was refused before the event was told
+-- memory was refused before the event was given
 pub refused : {M : Type 0} (disk : M → Disk) (old : DeskValue M) (event : EventValue) → DoesEvent disk old event (λ reply. 30 ≡ number_of reply) old
 refused disk old event = record { reply = Refused OutOfMemory; told = inr (refl, refl); says = refl; config = refl; fault = refl; hand = refl }
 

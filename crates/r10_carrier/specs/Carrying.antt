@@ -27,19 +27,19 @@ lost_of Unknown = 1
 abbrev pub events_of : ℕ → Sample → List EventValue
 events_of channel x = cond (lost_of x.gap == 0) [] (events.Lose channel (lost_of x.gap) ∷ []) ++ events.Offer channel x.count x.message ∷ []
 
--- ---- events told in turn
+-- ---- events given in turn
 
--- each of these events was told, and answered 0
+-- each of these events was given, and answered 0
 abbrev pub DoesEach : {M : Type 0} → (M → Disk) → DeskValue M → List EventValue → DeskValue M → Type 0
 DoesEach disk old [] new = new ≡ old
 DoesEach {M} disk old (event ∷ events) new = (mid : DeskValue M) × DoesEvent disk old event (λ reply. number_of reply ≡ 0) mid × DoesEach disk mid events new
 
--- the first of these events was told, and answered so
+-- the first of these events was given, and answered so
 abbrev pub RefusesFirst : {M : Type 0} → (M → Disk) → DeskValue M → List EventValue → ℕ → DeskValue M → Type 0
 RefusesFirst disk old [] answer new = ⊥
 RefusesFirst disk old (event ∷ rest) answer new = DoesEvent disk old event (λ reply. answer ≡ number_of reply) new
 
--- of these events some were told in turn, and answered 0; the first of those that are left was told then, and refused by this number
+-- of these events some were given in turn, and answered 0; the first of those that are left was given then, and refused by this number
 pub record StopsAt {M : Type 0} (disk : M → Disk) (old : DeskValue M) (owed left : List EventValue) (answer : ℕ) (new : DeskValue M) : Type 0 where
   pub done : List EventValue
   pub reached : DeskValue M
@@ -55,14 +55,14 @@ abbrev pub in_hand : Option Sample → List Sample
 in_hand None = []
 in_hand (Some x) = x ∷ []
 
--- all its events were told, and nothing is in hand; or one of them was refused, and what is in hand then owes those that are left
+-- all its events were given, and nothing is in hand; or one of them was refused, and what is in hand then owes those that are left
 abbrev pub CarriesSample : {M : Type 0} → (M → Disk) → ℕ → DeskValue M → Sample → Carry → DeskValue M → Option Sample → Type 0
 CarriesSample disk channel old x is new hand =
     ((is ≡ record { number = 0; channel = channel; carried = true }) × (hand ≡ None) × DoesEach disk old (events_of channel x) new)
     ⊎ ((is ≡ record { number = is.number; channel = channel; carried = false })
     × (y : Sample) × (hand ≡ Some y) × StopsAt disk old (events_of channel x) (events_of channel y) is.number new)
 
--- of these samples, which are at most one, the first; where there is none, nothing is told
+-- of these samples, which are at most one, the first; where there is none, nothing is reported
 abbrev pub CarriesFirst : {M : Type 0} → (M → Disk) → ℕ → DeskValue M → List Sample → Carry → DeskValue M → Option Sample → Type 0
 CarriesFirst disk channel old [] is new hand = (is ≡ record { number = 0; channel = channel; carried = false }) × (new ≡ old) × (hand ≡ None)
 CarriesFirst disk channel old (x ∷ []) is new hand = CarriesSample disk channel old x is new hand

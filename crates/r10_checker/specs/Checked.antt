@@ -20,7 +20,7 @@ pub record IsFileVerdict (image : Image) (f : ListedFile) (said : FileVerdict) :
   pub name : said.name.items ≡ stripped f.entry.name
   pub verdict : IsVerdict (bytes_on image f.entry) said.verdict
 
--- the medium has a directory, whose files all lie inside it, and this is said of them, file by file
+-- the medium has a directory, whose files all lie inside it, and this is stated of them, file by file
 abbrev pub AreVerdicts : Image → List FileVerdict → Type 0
 AreVerdicts image said =
     (chain : List ChainBlock) × IsDirectory image chain × (first_broken (inside_rules (length image) chain) ≡ None) × AllZip (IsFileVerdict image) (listed chain) said

@@ -21,15 +21,15 @@ use Rattle.r10_judge.proofs.Places.{strict_apart}
 use Rattle.r10_checker.specs.Verdict.{IsVerdict}
 use Rattle.r10_checker.specs.declared.check.Verdict.TheVariants.{Lenient}
 
--- a node of 99 entries where there are 101 packets, whatever stands behind it, and whether the directory entry is closed or not
+-- a node of 99 entries where there are 101 packets, whatever stands after it, and whether the directory entry is closed or not
 pub ninety-nine : (closed : Bool) (more : List ℕ) → IsAtFault (file_bytes (copies 99) ++ (packet_bytes (node_of_99 (copies 99)) ++ more)) closed 4424 (Rule 8)
 ninety-nine closed more = short_node 99 closed more (lit≤ tt) (lit≤ tt)
 
--- the node of the first recording where the directory entry is unclosed, whatever stands behind it
+-- the node of the first recording where the directory entry is unclosed, whatever stands after it
 pub index-in-open-file : (more : List ℕ) → IsAtFault (file_bytes data_packets ++ (packet_bytes a_node_packet ++ more)) false 124 (Rule 8)
 index-in-open-file = open_index
 
--- packets of a closed file that end within their index, at a node or behind a group while packets are left to name: at their end
+-- packets of a closed file that end within their index, at a node or after a group while packets are left to name: at their end
 pub group-missing : (packets : List Packet) → EachFollows [] packets → 2 ≤ length packets → EndsReports packets → has_whole_index packets ≡ false → IsAtFault (file_bytes packets) true (length (file_bytes packets)) (Rule 8)
 group-missing packets each two quiet missing = record {
   packets = packets;
@@ -42,7 +42,7 @@ group-missing packets each two quiet missing = record {
   wrong = no_index refl two refl missing;
 }
 
--- the report of a loss on channel 5 behind which comes anything but a flagged packet of this channel, or nothing: at the report
+-- the report of a loss on channel 5 after which comes anything but a flagged packet of this channel, or nothing: at the report
 pub loss-unanswered : (closed : Bool) (rest : List ℕ) → (IsAnswered one_lost rest → ⊥) → IsAtFault (file_bytes reported ++ rest) closed 124 (Rule 11)
 loss-unanswered = unanswered_report
 
@@ -58,7 +58,7 @@ loss-elsewhere closed more = unanswered_report closed (packet_bytes (record bus_
 
 -- ---- files of any recorder
 
--- cut behind the report, the file has four packets, of which none is opaque
+-- cut after the report, the file has four packets, of which none is opaque
 pub cut-behind-report : IsVerdict (file_bytes reported) (Lenient 0)
 unfolding packet_bytes header_bytes
 cut-behind-report = (
@@ -81,7 +81,7 @@ no_report =
     (0x25 ∷ 0xEB ∷ 0x09 ∷ 0x00 ∷ 0x1C ∷ 0x00 ∷ 0x00 ∷ 0x00 ∷ 0x04 ∷ 0x00 ∷ 0x00 ∷ 0x00 ∷ 0x08 ∷ 0x00 ∷ 0x00 ∷ 0x00 ∷ 0xE8 ∷ 0x03 ∷ 0x00 ∷ 0x00 ∷ 0x00 ∷ 0x00 ∷ 0x3E ∷ 0xEF ∷ [])
     ++ (0x00 ∷ 0x00 ∷ 0x00 ∷ 0x00 ∷ [])
 
--- behind the data of the first recording it is passed over
+-- after the data of the first recording it is passed over
 pub passed-over : IsVerdict (file_bytes data_packets ++ no_report) (Lenient 1)
 unfolding packet_bytes header_bytes
 passed-over = (λ strict. absurd (omega (arith, one_count (file_bytes data_packets ++ no_report) 0 1 (strict_foreign (file_bytes data_packets ++ no_report) strict) foreign)), foreign)

@@ -12,13 +12,13 @@ use r10_judge::{Judge, walk_bytes};
 use r10_packet_rules::{FirstFault, ForeignTrack};
 use std::alloc::{AllocError, Global};
 
-/// What is said of a file.
+/// What is stated of a file.
 #[derive(Clone, Copy, Debug, PartialEq, Eq)]
 pub enum Verdict {
     /// It keeps every rule of this recorder's files, with an index or without.
     Strict,
     /// Any recorder may have written it (IRIG 106-17, chapter 11). So many of its packets are opaque:
-    /// they are told apart, and passed over unread.
+    /// they are separated, and passed over unread.
     Lenient { opaque: u64 },
     /// The packet at this offset, in bytes from the start, is at fault: the first one that is.
     Faulty { offset: u64, fault: FileFault },

@@ -17,10 +17,10 @@ use r10_judge::walk_file;
 use r10_medium::BlockMedium;
 use std::alloc::Global;
 
-/// What is said of a file of a medium.
+/// What is stated of a file of a medium.
 #[derive(Debug, Drop)]
 pub struct FileVerdict {
-    /// The file's name, without the zero bytes and spaces behind it.
+    /// The file's name, without the zero bytes and spaces after it.
     pub name: Vec<u8>,
     pub verdict: Verdict,
 }

@@ -51,7 +51,7 @@ round_more disk start mid new events done n ss a b c law inside many same so_far
       long,
     )
 
--- the medium behind the last event may stand as the run's last image
+-- the medium after the last event may stand as the run's last image
 ends_in : (s : Config) (old new : Machine) (es : List Event) (rs : List Reply) (is : List Image) (image : Image) → Run s old es rs is new → MediumSays s image new.files
     → Run s old es rs (change_last (λ (i : Image). image) is) new
 ends_in s old new [] [] [] image run says = run

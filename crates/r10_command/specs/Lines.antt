@@ -11,7 +11,7 @@ use Rattle.r10_machine.specs.Step.{Run}
 use Rattle.r10_machine.specs.declared.event.Event.{Event}
 use Rattle.r10_machine.specs.declared.reply.Reply.{Reply}
 
--- the lines of the replies to the steps behind the first `done` ones, end to end
+-- the lines of the replies to the steps after the first `done` ones, end to end
 abbrev pub all_lines : ℕ → List Reply → List ℕ
 all_lines done [] = []
 all_lines done (reply ∷ replies) = reply_lines (done + 1) reply ++ all_lines (done + 1) replies

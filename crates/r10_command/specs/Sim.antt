@@ -21,7 +21,7 @@ IsScript text settings events =
     (table : Members) × (parse_document text ≡ Some table) × HasOnly script_keys table × AreScriptSettings table settings × AreSteps settings.channels table events
 
 -- The events are a run from a fresh recorder without files, on a medium in memory, which does not fail. The image is what this medium reads as
--- behind the last event: the run's last one, and it says the machine's files.
+-- after the last event: the run's last one, and it says the machine's files.
 pub record RunsOnFresh (s : Config) (events : List Event) (replies : List Reply) (image : Image) : Type 0 where
   pub images : List Image
   pub end : Machine
@@ -30,7 +30,7 @@ pub record RunsOnFresh (s : Config) (events : List Event) (replies : List Reply)
   pub says : MediumSays s image end.files
   pub last : last_or (Some image) images ≡ Some image
 
--- the events are such a run, and the lines of the replies were written behind what the writer held
+-- the events are such a run, and the lines of the replies were written after what the writer held
 pub record PlaysScript (s : Config) (events : List Event) (image : Image) (old new : Option (List ℕ)) : Type 0 where
   pub replies : List Reply
   pub ran : RunsOnFresh s events replies image

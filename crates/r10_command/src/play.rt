@@ -106,7 +106,7 @@ fn fresh_world<M: BlockMedium + Drop>(
     }
 }
 
-/// Runs the steps and writes the lines of each reply, numbered from 1. A run that ends early goes on behind its last step.
+/// Runs the steps and writes the lines of each reply, numbered from 1. A run that ends early goes on after its last step.
 fn run_steps<M: BlockMedium, W: Write>(
     alloc: Global,
     world: &mut World<M>,
@@ -130,7 +130,7 @@ fn run_steps<M: BlockMedium, W: Write>(
     Ok(())
 }
 
-/// Writes the lines of the replies to the steps behind the first `done` ones.
+/// Writes the lines of the replies to the steps after the first `done` ones.
 fn write_lines<W: Write>(
     alloc: Global,
     done: usize,

@@ -1,4 +1,4 @@
--- From machines that stand for lanes of any kind to the one in whose lanes what was taken waits.
+-- From machines that represent lanes of any kind to the one in whose lanes what was taken waits.
 use Rattle.std.proofs.Common.{◌≡◌, ℕ, ◌+◌, ◌≤◌, Bool, true, false, cond, ◌==◌, List, [], ◌∷◌, ◌++◌, length, map, drop, count_by, Option, None, Some, Result, Ok, Err, ◌⊎◌, inl, inr, refl, sym, ap, subst, ◌∙◌, arith}
 use Rattle.std.specs.Prelude.{IfSome, MatchResult}
 use Rattle.std.specs.List.{AllByRecursion, sum_by}
@@ -287,7 +287,7 @@ module _ {L : Type 0} (took : L → List Sample → L → Type 0) (quiet : L →
       by modes.Idle was = works was
       by modes.Recording was = works was
 
-  -- with what was taken waiting in its lanes it is meant too
+  -- with what was taken waiting in its lanes it is represented too
   pub meant_with : (k : Kept) (image : Image) (failures : ℕ) (m : Machine) (parts : List Part) (lanes lanes' : List L) → KeptStandsFor k image failures m → StandFor quiet reached spec_of lanes m.lanes → TookAll took spec_of parts lanes lanes'
       → AllByRecursion (λ (x : L). length (samples_on (spec_of x).id parts) ≤ (spec_of x).capacity) lanes → KeptStandsFor k image failures (with_lanes (lanes_with quiet spec_of parts lanes m.lanes) m)
   meant_with k image failures m parts lanes lanes' means stands took_all few =

@@ -40,7 +40,7 @@ each_keeps old new (e ∷ entries) (f ∷ files) each keeps = (same e.first_bloc
     same : (n m size length : ℕ) → n ≡ m → size ≡ length → bytes_from new n size ≡ bytes_from old n size → bytes_from new m length ≡ bytes_from old m length
     same n m size length at long is = subst (λ (k : ℕ). bytes_from new m k ≡ bytes_from old m k) long (subst (λ (k : ℕ). bytes_from new k size ≡ bytes_from old k size) at is)
 
--- a file is put behind the others
+-- a file is put after the others
 pub kept_behind : (s : Config) (old new : Image) (chain : List ChainBlock) (files : List File) → IsWhole old → IsUsable s.directory old chain → KeepsFront s.directory (block_behind s.directory (listed_files chain)) old new → HoldsFiles s old chain None files
     → KeepBytes old new files
 kept_behind s old new chain files whole usable same held =

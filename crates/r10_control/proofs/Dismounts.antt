@@ -26,7 +26,7 @@ use Rattle.r10_machine.specs.declared.reply.Reply.TheVariants as replies
 same_check : (k : Kept) (image : Image) (n : ℕ) (m : Machine) → KeptStandsFor k image n m → refusal k.config m Dismount ≡ first_broken (idle_checks (mode_of k.work))
 same_check k image n m means = ap (λ mode. first_broken (idle_checks mode)) means.mode
 
--- whether it may be done is told without memory
+-- whether it may be done is answered without memory
 none_for : (mode : Mode) → first_broken (idle_checks mode) ≡ Some OutOfMemory → ⊥
 none_for modes.Unmounted is = cc
 none_for modes.Idle is = cc

@@ -157,7 +157,7 @@ some_listed : (listed : List DirectoryEntry) (e : DirectoryEntry) → last_or No
 some_listed [] e last = absurd (cc)
 some_listed (x ∷ listed) e last = omega arith
 
--- the file's blocks lie behind its first one, and the directory's within the reserved ones
+-- the file's blocks lie after its first one, and the directory's within the reserved ones
 partly_front : (reserved : ℕ) (old new : Image) (chain : List ChainBlock) (nodes : ℕ) (e : DirectoryEntry) (packets : List Packet) → IsUsable reserved old chain → 0 < length (listed_files chain) → IsPartlySealed nodes e packets chain old new
     → KeepsFront reserved e.first_block old new
 partly_front reserved old new chain nodes e packets usable some (inl puts) =

@@ -45,7 +45,7 @@ memory_leads law k old new before now m event limits means same more fine asks r
   sizes = λ again. none_shrinks m.files;
 }
 
--- the medium fails, and says the files that it said
+-- the medium fails, and says the files that it stated
 pub failed_leads : StepsStaySound → (k : Kept) (old new : Image) (before now : ℕ) (m : Machine) (event : EventValue) → IsConfig k.config → KeptStandsFor k old before m → before ≤ now → Rose before now
     → refusal k.config m event ≡ None → uses_medium event ≡ true → entry_has_room k.config m event ≡ true → MediumSays k.config new m.files → KeptStepsTaking none_taken k m event (replies.Refused Medium) (record k { work = failed }) new now
 failed_leads law k old new before now m event limits means more rose fine uses room says = record {

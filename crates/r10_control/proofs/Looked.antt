@@ -1,4 +1,4 @@
--- A look at each lane, by which nothing is taken, and what is told by it.
+-- A look at each lane, by which nothing is taken, and what is known by it.
 use Rattle.std.proofs.Common.{◌≡◌, ◌≤◌, ◌<◌, ◌+◌, ℕ, zero, suc, List, [], ◌∷◌, ◌++◌, length, map, set, take, get_or, Option, Some, None, refl, sym, ap, ◌∙◌, subst, arith}
 use Rattle.std.specs.Prelude.{IfSome, if◌then◌else◌, slice_index_or}
 use Rattle.std.proofs.lemmas.List.{length-map}
@@ -48,7 +48,7 @@ set_took took spec_of (a ∷ lanes) [] i d x lt all gave = absurd all
 set_took took spec_of (a ∷ lanes) (b ∷ now) zero d x lt all gave = (gave, all.1)
 set_took took spec_of (a ∷ lanes) (b ∷ now) (suc i) d x lt all gave = (all.0, set_took took spec_of lanes now i d x (omega (arith, lt)) all.1 gave)
 
--- what is told of a lane from which nothing was taken is told of it as it was
+-- what is reported of a lane from which nothing was taken is reported of it as it was
 told_before : {L : Type 0} (took : L → List Sample → L → Type 0) (quiet : L → Option (List Sample)) (spec_of : L → ChannelSpec) (mode : Mode) (old now : L) (e : ℕ) (t : LaneStatus)
     → ((a b : L) (xs : List Sample) → took a xs b → spec_of b ≡ spec_of a)
     → ((a b : L) (xs waiting : List Sample) → took a xs b → quiet a ≡ Some waiting → (rest : List Sample) × (quiet b ≡ Some rest) × (waiting ≡ xs ++ rest))

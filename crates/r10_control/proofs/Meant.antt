@@ -198,7 +198,7 @@ own_front s (g ∷ files) f own =
     by true all rest = (all.0, rest all.1)
     by false all rest = rest all
 
--- the entries of a last one that is own come behind those of the others
+-- the entries of a last one that is own come after those of the others
 own_behind : (files : List File) (g : File) → g.own ≡ true → entries_in (files ++ g ∷ []) ≡ entries_in files ++ g.entries
 own_behind [] g own = rw own (append-nil g.entries)
 own_behind (f ∷ files) g own =

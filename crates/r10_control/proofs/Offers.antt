@@ -244,7 +244,7 @@ pub offer_leads : OffersAreSteps → RefusedOffersAreSteps → (k : Kept) (image
 offer_leads law refusing k image n channel count message old new (Ok u) limits offers = λ m means are. accepted_so k image n m channel count message old new limits means are law offers.0 offers.1
 offer_leads law refusing k image n channel count message old new (Err r) limits offers = λ m means are. refused_so k image n m channel count message old new limits means are refusing r offers.0 offers.1
 
--- ---- losses that are told
+-- ---- losses that are reported
 
 same_channel : (o : Option Lane) → first_broken (channel_checks (option_map unerased o)) ≡ first_broken (channel_checks o)
 same_channel None = refl

@@ -66,7 +66,7 @@ drop_more zero listed e within = refl
 drop_more (suc n) [] e within = absurd (omega (arith, within))
 drop_more (suc n) (d ∷ listed) e within = drop_more n listed e (omega (arith, within))
 
--- with one more behind them, which is ended and says these entries
+-- with one more after them, which is ended and says these entries
 ended_with : (image : Image) (listed : List DirectoryEntry) (e : DirectoryEntry) (own : List Entry) (text : List ℕ) (here : List Entry) → IsEnded image e text here → AreEnded image listed own → AreEnded image (listed ++ e ∷ []) (own ++ here)
 ended_with image [] e own text here ended is = (text, here, [], ap (λ (l : List Entry). l ++ here) is ∙ sym (append-nil here), ended, refl)
 ended_with image (d ∷ listed) e own text here ended it = (it.0, it.1, it.2 ++ here, ap (λ (l : List Entry). l ++ here) it.3 ∙ append_assoc it.1 it.2 here, it.4, ended_with image listed e it.2 text here ended it.5)
@@ -106,7 +106,7 @@ room blocks n (e ∷ listed) less stand =
     let at = placed_at blocks n e stand.0 in
     omega (arith, room blocks (n + e.block_count) listed at.within stand.1, sum_by-cons (λ (x : DirectoryEntry). x.block_count) e listed)
 
--- where all blocks behind the reserved ones stay
+-- where all blocks after the reserved ones stay
 keep_from : (reserved : ℕ) (old new : Image) (listed : List DirectoryEntry) → IsWhole old → Stand (length old) (reserved + 1) listed → KeepsFront reserved (length old) old new → KeepListed old new listed
 keep_from reserved old new [] whole stand same = tt
 keep_from reserved old new (e ∷ listed) whole stand same =
@@ -207,7 +207,7 @@ module _ (k : Kept) (image : Image) (chain : List ChainBlock) (o : OpenState) (a
         (subst (λ (l : List DirectoryEntry). EndAfter k.found new l (it.ended ++ (it.now ++ more))) (sym split.1)
         (after_with k.found new (ended_in made) split.0 it.ended it.text (it.now ++ more) split.2.1 (before_stays it.ended it.before)))))
 
--- ---- what lanes give goes behind whatever the file carries
+-- ---- what lanes give goes after whatever the file carries
 
 ends_each : {L : Type 0} (spec_of : L → ChannelSpec) (reached : L → ℕ) (entries others : List Entry) → ((channel : ℕ) → on_channel channel entries ≡ on_channel channel others) → (lanes : List L) → AllEnd spec_of reached lanes entries → AllEnd spec_of reached lanes others
 ends_each spec_of reached entries others same [] all = tt
@@ -262,7 +262,7 @@ erased_own later new made is none empty =
     subst (λ (w : Work). OwnIn later.found w new []) (sym is)
     (record { number = 0; found_is = none; within = omega arith; ended = subst (λ (l : List DirectoryEntry). AreEnded new l []) (sym empty) refl })
 
--- a file is begun behind all others
+-- a file is begun after all others
 pub started_own : (k later : Kept) (old new : Image) (chain made : List ChainBlock) (o : OpenState) (text : List ℕ) (more : List Entry) (n : ℕ) → k.work ≡ idle chain → IsWhole old → IsUsable k.config.directory old chain
     → KeepsFront k.config.directory (block_behind k.config.directory (listed_files chain)) old new → ended_in made ≡ listed_files chain → IsShown new o text more n → later.work ≡ recording made o → later.found ≡ k.found → OwnGrow k old later new more
 started_own k later old new chain made o text more n at whole usable front ended shows is stays = inr (λ own has.

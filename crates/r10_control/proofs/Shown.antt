@@ -1,4 +1,4 @@
--- From machines that stand for lanes of any kind to the one in whose lane a sample waits that is shown.
+-- From machines that represent lanes of any kind to the one in whose lane a sample waits that is shown.
 use Rattle.std.proofs.Common.{◌≡◌, ℕ, ◌≤◌, Bool, true, false, cond, ◌==◌, List, [], ◌∷◌, ◌++◌, length, Option, None, Some, refl, sym, ap, subst, ◌∙◌, arith}
 use Rattle.std.specs.Prelude.{IfSome, slice_get}
 use Rattle.std.specs.List.{AllByRecursion}
@@ -69,7 +69,7 @@ front_all channel first rest (a ∷ machines) waits front = (λ is. ap (λ (xs :
 module _ {L : Type 0} (took : L → List Sample → L → Type 0) (quiet : L → Option (List Sample)) (reached : L → ℕ) (spec_of : L → ChannelSpec) (keeps : (a b : L) (xs : List Sample) → took a xs b → spec_of b ≡ spec_of a)
     (gives : (a b : L) (xs : List Sample) → took a xs b → Gives (spec_of a) (reached a) xs (reached b))
     (stays : (a b : L) (xs waiting : List Sample) → took a xs b → quiet a ≡ Some waiting → (rest : List Sample) × (quiet b ≡ Some rest) × (waiting ≡ xs ++ rest)) where
-  -- lanes of which nothing was taken stand for the same
+  -- lanes of which nothing was taken represent the same
   pub stand_shown : StaysShared took quiet → (parts : List Part) → ((c : ℕ) → samples_on c parts ≡ []) → (lanes lanes' : List L) (machines : List Lane) → StandFor quiet reached spec_of lanes machines → TookAll took spec_of parts lanes lanes'
       → StandFor quiet reached spec_of lanes' machines
   stand_shown shared parts none [] [] [] stands took_all = tt
@@ -135,7 +135,7 @@ module _ {L : Type 0} (took : L → List Sample → L → Type 0) (quiet : L →
       waits_shown rest lanes machines stands tells.1 alone.1,
     )
 
-    -- with the sample waiting in its lane a machine is meant too
+    -- with the sample waiting in its lane a machine is represented too
     pub meant_shown : (k : Kept) (image : Image) (failures : ℕ) (m : Machine) (lanes : List L) → KeptStandsFor k image failures m → StandFor quiet reached spec_of lanes m.lanes → MayGive quiet reached spec_of channel first lanes → AllByRecursion (λ (x : L). IsChannel (spec_of x)) lanes
         → KeptStandsFor k image failures (with_lanes (lanes_showing quiet spec_of channel first lanes m.lanes) m)
     meant_shown k image failures m lanes means stands may channels =

@@ -109,7 +109,7 @@ channels_counted mode files (x ∷ specs) [] erased lanes are = absurd are
 channels_counted mode files (x ∷ specs) (t ∷ taken) [] lanes are = absurd are
 channels_counted mode files (x ∷ specs) (t ∷ taken) (e ∷ erased) [] are = absurd are
 
--- what they took is told of no recorder that failed
+-- what they took is reported of no recorder that failed
 channels_failed : (lanes : List Lane) (erased : List ℕ) → length erased ≡ length lanes → channels_in modes.Failed (map unerased lanes) erased ≡ map (channel_status modes.Failed) lanes
 channels_failed [] erased same = refl
 channels_failed (l ∷ lanes) [] same = absurd (omega (arith, same))
@@ -161,7 +161,7 @@ made mode mode' tick tick' files files' free free' channels channels' a b c d e 
 abbrev pub StatusIsTold : Type 0
 StatusIsTold = (k : Kept) (old new : Image) (n later : ℕ) (m : Machine) → IsConfig k.config → KeptStandsFor k old n m → new ≡ old → n ≤ later → KeptStepsTo k m events.Status (replies.Status (status_of k.config m)) k new later (record m { failures = later })
 
--- the status that is told is the machine's
+-- the status that is reported is the machine's
 status_told : (k : Kept) (image : Image) (n : ℕ) (m : Machine) (lanes : List Lane) → KeptStandsFor k image n m → AreLanes lanes m → length k.erased ≡ length lanes → ((i : Image) (x : Machine) → x.mode ≡ mode_of k.work → HasFiles k.config k.work i x.files → free_in k.config k.work ≡ free_bytes k.config x)
     → status_in k lanes ≡ status_of k.config m
 status_told k image n m lanes means are same free =

@@ -72,7 +72,7 @@ still_judged : (old new : Image) (entries more : List DirectoryEntry) (judged : 
 still_judged old new entries more [] keeps are = tt
 still_judged old new entries more (k ∷ judged) keeps are = (still_at k.file old new entries more k keeps are.0, still_judged old new entries more judged keeps are.1)
 
--- the files in front of the last one, and others behind them
+-- the files in front of the last one, and others after them
 pub ended_stay : (reserved first : ℕ) (old new : Image) (chain : List ChainBlock) (more : List DirectoryEntry) (judged : List JudgedFile) → IsWhole old → IsUsable reserved old chain → ListsLast first chain → KeepsFront reserved first old new
     → AreJudged (ended_in chain) old judged → AreJudged (ended_in chain ++ more) new judged
 ended_stay reserved first old new chain more judged whole usable last same are =
@@ -90,7 +90,7 @@ pub recording_stays : (reserved first : ℕ) (old new : Image) (chain made : Lis
 recording_stays reserved first old new chain made file later books whole usable last same ended are =
     subst (λ (l : List DirectoryEntry). AreJudged l new books.kept.items) (append-nil (ended_in chain) ∙ sym ended) (ended_stay reserved first old new chain [] books.kept.items whole usable last same are)
 
--- a stop, behind which it is one of the others
+-- a stop, after which it is one of the others
 pub stopped_stays : (reserved first : ℕ) (old new : Image) (chain made : List ChainBlock) (file : OpenState) (books : Books) → IsWhole old → IsUsable reserved old chain → ListsLast first chain → KeepsFront reserved first old new
     → ended_in made ≡ ended_in chain → OwnsBooks (recording chain file) old books → OwnsBooks (idle made) new books
 stopped_stays reserved first old new chain made file books whole usable last same ended are =
@@ -109,19 +109,19 @@ behind_sum blocks n k o (e ∷ entries) is stand =
     let place = placed_at blocks n e stand.0 in
     omega (arith, behind_sum blocks (n + e.block_count) k (Some e) entries (omega (arith, place.first)) stand.1, sum_by-cons (λ (x : DirectoryEntry). x.block_count) e entries)
 
--- all files of a directory, where no block changes in front of the one behind them
+-- all files of a directory, where no block changes in front of the one after them
 pub listed_keep : (reserved : ℕ) (old new : Image) (chain : List ChainBlock) → IsWhole old → IsUsable reserved old chain → KeepsFront reserved (block_behind reserved (listed_files chain)) old new → KeepListed old new (listed_files chain)
 listed_keep reserved old new chain whole usable same =
     let stand = (usable_of reserved (length old) chain usable.rules).stand in
     front_keeps reserved (block_behind reserved (listed_files chain)) (reserved + 1) old new (listed_files chain) whole same (omega arith) stand
     (omega (arith, behind_sum (length old) (reserved + 1) (1 + reserved) None (listed_files chain) (omega arith) stand))
 
--- and others behind them
+-- and others after them
 pub listed_stay : (reserved : ℕ) (old new : Image) (chain : List ChainBlock) (more : List DirectoryEntry) (judged : List JudgedFile) → IsWhole old → IsUsable reserved old chain → KeepsFront reserved (block_behind reserved (listed_files chain)) old new
     → AreJudged (listed_files chain) old judged → AreJudged (listed_files chain ++ more) new judged
 listed_stay reserved old new chain more judged whole usable same are = still_judged old new (listed_files chain) more judged (listed_keep reserved old new chain whole usable same) are
 
--- a start, which lists one more behind them
+-- a start, which lists one more after them
 pub started_stays : (reserved : ℕ) (old new : Image) (chain made : List ChainBlock) (file : OpenState) (books : Books) → IsWhole old → IsUsable reserved old chain → KeepsFront reserved (block_behind reserved (listed_files chain)) old new
     → ended_in made ≡ listed_files chain → OwnsBooks (idle chain) old books → OwnsBooks (recording made file) new books
 started_stays reserved old new chain made file books whole usable same ended are =

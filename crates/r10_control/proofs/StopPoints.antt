@@ -43,7 +43,7 @@ pub record IsAsShown (s : Config) (work : Work) (files : List File) (shown image
   pub says : MediumSays s image files
   pub bytes : LastKeeps work files shown image
 
--- of each machine that is meant, and whose files are safe: at every moment a stop leaves these files, or those that the call makes of them
+-- of each machine that is represented, and whose files are safe: at every moment a stop leaves these files, or those that the call makes of them
 abbrev pub LeavesShown : (Machine → Image → Type 0) → Kept → Disk → Disk → Type 0
 LeavesShown makes k old new = (m : Machine) → KeptStandsFor k old.blocks old.failures m → IsSafe k.config k.work m.files old → Leaves (λ image. IsAsShown k.config k.work m.files old.blocks image ⊎ makes m image) old new
 

@@ -26,7 +26,7 @@ use Rattle.r10_openfile.specs.Intake.{AreMovedIn}
 use Rattle.r10_openfile.specs.Stopping.{AllEnd, FailsAll, GoesThrough, IsOpenToAll, Part, TellsWaiting, TookAll, entries_of, most_of, room_of}
 use Rattle.r10_machine.specs.Says.{MediumSays}
 
--- what the close of a file behind a stop's samples asks: groups of index packets of a size that there is, each channel once in the order, a number for each, memory for all that may be put, and a file that is open to the lanes and may go on
+-- what the close of a file after a stop's samples asks: groups of index packets of a size that there is, each channel once in the order, a number for each, memory for all that may be put, and a file that is open to the lanes and may go on
 pub record MayCloseFile {L : Type 0} (spec_of : L → ChannelSpec) (reached : L → ℕ) (nodes : ℕ) (order shares : List ℕ) (area : ℕ) (lanes : List L) (o : OpenState) (image : Image) (chain : List ChainBlock) : Type 0 where
   pub group : IsGroup nodes
   pub open_to : IsOpenToAll spec_of reached o.recording image lanes area

@@ -35,13 +35,13 @@ abbrev pub WhereRecording : Work → (List ChainBlock → OpenState → Type 0) 
 WhereRecording (recording chain o) holds = holds chain o
 WhereRecording work holds = ⊥
 
--- This is kept then, and nothing else was changed; block 0, and the blocks behind the reserved ones and in front of this one, stay, so that all files in front of it keep their bytes; and this is said of the medium's directory.
+-- This is kept then, and nothing else was changed; block 0, and the blocks after the reserved ones and in front of this one, stay, so that all files in front of it keep their bytes; and this is stated of the medium's directory.
 pub record Effect (first : ℕ) (made : Kept) (directory_is : Disk → Type 0) (old : Image) (later : Kept) (new : Disk) : Type 0 where
   pub kept : later ≡ made
   pub front : KeepsFront made.config.directory first old new.blocks
   pub directory : directory_is new
 
--- the directory stays, and may not be sure
+-- the directory stays, and may not be synced
 abbrev pub HasDirectory : List ChainBlock → Disk → Type 0
 HasDirectory chain disk = IsDirectory disk.blocks chain
 
@@ -64,7 +64,7 @@ EraseEffect k old later new =
 
 -- ---- the calls on the file that is recorded
 
--- the directory with one file more, of this name, from the block behind the others on, begun at this time, with as many blocks as its bytes need
+-- the directory with one file more, of this name, from the block after the others on, begun at this time, with as many blocks as its bytes need
 abbrev pub longer_listing : ℕ → List ℕ → Parts → OpenState → List ChainBlock → List ChainBlock
 longer_listing reserved name civil o chain = added (sized (size_of o.recording.out.blocks) (begun_entry name (block_behind reserved (listed_files chain)) civil)) chain
 
@@ -104,7 +104,7 @@ StopEffect k old later new = WhereRecording k.work (λ chain o. IsSomeAnd k.tick
 
 -- ---- what is put into the file that is recorded, and not shown yet
 
--- the file that is recorded goes on with this entry behind all that it carried, and shows what it showed
+-- the file that is recorded goes on with this entry after all that it carried, and shows what it showed
 -- this is left in the open packet of each channel
 pub record EntryEffect (entry : Entry) (left : BuilderState → List Sample)
     (chain : List ChainBlock) (o p : OpenState) (made : Kept) (old : Image) (later : Kept) (new : Disk) : Type 0 where

@@ -26,7 +26,7 @@ use Rattle.r10_volume.specs.Mounting.{IsUnusable, IsUsable}
 use Rattle.r10_control.specs.Checks.{files_of}
 use Rattle.r10_control.specs.Effects.{closed_listing}
 
--- block 0, and blocks behind the reserved ones and in front of this one, are as they were; where there is no such block, all are
+-- block 0, and blocks after the reserved ones and in front of this one, are as they were; where there is no such block, all are
 abbrev pub WritesFrom : ℕ → Option ℕ → Image → Image → Type 0
 WritesFrom reserved None old new = new ≡ old
 WritesFrom reserved (Some first) old new = KeepsFront reserved first old new
@@ -36,7 +36,7 @@ abbrev pub recorded_from : Work → Option ℕ
 recorded_from (recording chain o) = Some (first_of o.recording.out.blocks)
 recorded_from work = None
 
--- where a file is begun, behind all others
+-- where a file is begun, after all others
 abbrev pub begun_from : ℕ → Work → Option ℕ
 begun_from reserved (idle chain) = Some (block_behind reserved (listed_files chain))
 begun_from reserved work = None

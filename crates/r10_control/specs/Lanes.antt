@@ -34,7 +34,7 @@ WaitQuietly quiet [] [] = Unit {0}
 WaitQuietly quiet (a ∷ lanes) (b ∷ machines) = (quiet a ≡ Some b.waiting) × WaitQuietly quiet lanes machines
 WaitQuietly quiet lanes machines = ⊥
 
--- a step leads to a machine that is meant then and has these lanes, and the same files and cursors
+-- a step leads to a machine that is represented then and has these lanes, and the same files and cursors
 pub record LeadsWith (k : Kept) (m : Machine) (event : EventValue) (reply : ReplyValue) (image : Image) (failures : ℕ) (lanes : List Lane) : Type 0 where
   pub machine : Machine
   pub led : KeptStepsTo k m event reply k image failures machine
@@ -42,7 +42,7 @@ pub record LeadsWith (k : Kept) (m : Machine) (event : EventValue) (reply : Repl
   pub files : machine.files ≡ m.files
   pub cursors : machine.cursors ≡ m.cursors
 
--- from each machine that is meant and has these lanes, what a call answers leads to one that has those
+-- from each machine that is represented and has these lanes, what a call answers leads to one that has those
 abbrev pub AnswersWith : {T : Type 0} → List Lane → Kept → Image → ℕ → EventValue → (T → ReplyValue) → Result T Refusal → List Lane → Type 0
 AnswersWith old k image failures event reply result new =
     (m : Machine) → KeptStandsFor k image failures m → AreLanes old m → MatchResult result (λ v. LeadsWith k m event (reply v) image failures new) (λ r. LeadsWith k m event (Refused r) image failures new)
@@ -58,7 +58,7 @@ OffersTo channel old count message result new =
     (λ _. (offer_refusal lane count message ≡ None) × (new ≡ change_first (is_channel channel) (accepted count message) old))
     (λ r. (offer_refusal lane count message ≡ Some r) × (new ≡ (if fine then change_first (is_channel channel) overflowed old else old)))
 
--- what a loss that is told of a channel answers, and the lanes that it leaves: counted where there is such a channel
+-- what a loss that is reported of a channel answers, and the lanes that it leaves: counted where there is such a channel
 abbrev pub LosesOn : ℕ → List Lane → ℕ → Result (Unit {0}) Refusal → List Lane → Type 0
 LosesOn channel old lost result new =
     let lane = find (is_channel channel) old in

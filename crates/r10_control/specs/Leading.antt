@@ -26,7 +26,7 @@ none_taken channel = 0
 
 -- ---- steps
 
--- a step leads to a machine that is meant then, whose lanes gave so many, which has the same cursors, and of whose files none of the same
+-- a step leads to a machine that is represented then, whose lanes gave so many, which has the same cursors, and of whose files none of the same
 -- generation has fewer bytes
 pub record KeptStepsTaking (taken : ℕ → ℕ) (k : Kept) (m : Machine) (event : EventValue) (reply : ReplyValue) (later : Kept) (image : Image) (failures : ℕ) : Type 0 where
   pub machine : Machine
@@ -35,11 +35,11 @@ pub record KeptStepsTaking (taken : ℕ → ℕ) (k : Kept) (m : Machine) (event
   pub cursors : machine.cursors ≡ m.cursors
   pub sizes : machine.generation ≡ m.generation → NoneShrinks m.files machine.files
 
--- from each machine that is meant, what a call answers leads to one that is meant then
+-- from each machine that is represented, what a call answers leads to one that is represented then
 abbrev pub CallStepsTaking : {T : Type 0} → (ℕ → ℕ) → Kept → Image → ℕ → EventValue → (T → ReplyValue) → Result T Refusal → Kept → Image → ℕ → Type 0
 CallStepsTaking taken k old before event reply result later new now =
     (m : Machine) → KeptStandsFor k old before m → MatchResult result (λ v. KeptStepsTaking taken k m event (reply v) later new now) (λ r. KeptStepsTaking taken k m event (Refused r) later new now)
 
--- of each machine that is meant, the files keep the bytes that the medium shows of them
+-- of each machine that is represented, the files keep the bytes that the medium shows of them
 abbrev pub MachinesKeepShown : Kept → Image → ℕ → Image → Type 0
 MachinesKeepShown k old before new = (m : Machine) → KeptStandsFor k old before m → KeepBytes old new m.files

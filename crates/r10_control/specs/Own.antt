@@ -37,7 +37,7 @@ pub record EndOpen (found : Option ℕ) (image : Image) (chain : List ChainBlock
   pub shown : ℕ
   pub shows : IsShown image o text now shown
 
--- by what the recorder does: before its first mount none is its own, and of one that failed nothing is said
+-- by what the recorder does: before its first mount none is its own, and of one that failed nothing is stated
 abbrev pub OwnIn : Option ℕ → Work → Image → List Entry → Type 0
 OwnIn found unmounted image own = ((found ≡ None) × (own ≡ [])) ⊎ ((chain : List ChainBlock) × IsDirectory image chain × EndAfter found image (listed_files chain) own)
 OwnIn found (idle chain) image own = EndAfter found image (listed_files chain) own
@@ -50,7 +50,7 @@ AreOwn k image own = OwnIn k.found k.work image own
 
 -- ---- what a call does to them
 
--- the recorder failed, or whatever entries its own files had, they have them then, and these behind them
+-- the recorder failed, or whatever entries its own files had, they have them then, and these after them
 abbrev pub OwnGrow : Kept → Image → Kept → Image → List Entry → Type 0
 OwnGrow k old later new more = (later.work ≡ failed) ⊎ ((own : List Entry) → AreOwn k old own → AreOwn later new (own ++ more))
 

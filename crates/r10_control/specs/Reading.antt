@@ -47,21 +47,21 @@ pub record ListsRecordedLast (work : Work) : Type 0 where
   pub few : length (files_of work) < 2 ^ 64
   pub last : IfSome (open_of work) (λ o. IsSomeAnd (last_or None (files_of work)) (λ (e : DirectoryEntry). e.first_block ≡ first_of o.recording.out.blocks))
 
--- this is told of a file that is held as the one that is written: its first block, and what the index will say of the packets that the medium shows, and of all
+-- this is reported of a file that is held as the one that is written: its first block, and what the index will say of the packets that the medium shows, and of all
 pub record IsToldOf (o : OpenState) (w : Written) : Type 0 where
   pub first : w.first ≡ first_of o.recording.out.blocks
   pub named : w.named.now ≡ take o.shown o.recording.out.entries
   pub entries : w.book.now.entries ≡ o.recording.out.entries
   pub counted : w.book.now.counted ≡ o.recording.out.counted
 
--- this is told of the file that is recorded, where one is: it is the last of so many
+-- this is reported of the file that is recorded, where one is: it is the last of so many
 abbrev pub TellsWritten : ℕ → Option OpenState → Option Written → Type 0
 TellsWritten files None None = Unit {0}
 TellsWritten files None (Some w) = ⊥
 TellsWritten files (Some o) None = ⊥
 TellsWritten files (Some o) (Some w) = (files ≡ w.file + 1) × IsToldOf o w
 
--- the directory in use, how many files it lists, and what is told of the one that is recorded
+-- the directory in use, how many files it lists, and what is reported of the one that is recorded
 pub record IsInUse (work : Work) (chain : List ChainBlock) (files : ℕ) (written : Option Written) : Type 0 where
   pub chain_is : chain ≡ directory_of work
   pub files_are : files ≡ length (files_of work)
@@ -110,7 +110,7 @@ work_left_by read_refusals.OutOfMemory work = work
 
 -- ---- what a table of cursors asks
 
--- of a machine that is meant, a cursor may be opened on the file: no check refuses it, and the file is there
+-- of a machine that is represented, a cursor may be opened on the file: no check refuses it, and the file is there
 pub record MayOpen (k : Kept) (image : Image) (m : Machine) (file : ℕ) (channels : List ℕ) (from to : ℕ) : Type 0 where
   pub passes : refusal k.config m (Cursor file channels from to) ≡ None
   pub generation : m.generation ≡ k.generation

@@ -1,4 +1,4 @@
--- What a stop of the medium leaves in the midst of a call that closes the file that is recorded, and behind it.
+-- What a stop of the medium leaves in the midst of a call that closes the file that is recorded, and after it.
 use Rattle.std.specs.Prelude.{◌⊎◌, ℕ, List, Option, Result, MatchResult}
 use Rattle.std.specs.List.{AllByRecursion}
 use Rattle.r10_body.specs.declared.entry.Sample.{Sample}
@@ -35,7 +35,7 @@ pub record MakesTaking {L : Type 0} (took : L → List Sample → L → Type 0) 
   pub taken : TookAll took spec_of parts lanes lanes'
   pub makes : Makes s (with_lanes (lanes_with unknown spec_of parts lanes m.lanes) m) Stop image
 
--- Whatever else waits in the lanes: from each machine that is meant, has accepted nothing that the lanes have not reached, and whose files were safe, at every moment of the call a stop of the medium leaves these files, or those that its own stop makes with what the call took.
+-- Whatever else waits in the lanes: from each machine that is represented, has accepted nothing that the lanes have not reached, and whose files were safe, at every moment of the call a stop of the medium leaves these files, or those that its own stop makes with what the call took.
 abbrev pub LeavesTaking : {L : Type 0} → (L → List Sample → L → Type 0) → (L → ℕ) → (L → ChannelSpec) → Kept → Disk → Disk → List L → List L → Type 0
 LeavesTaking took reached spec_of k old new lanes lanes' =
     (m : Machine) → KeptStandsFor k old.blocks old.failures m → StandFor unknown reached spec_of lanes m.lanes → IsSafe k.config k.work m.files old

@@ -1,4 +1,4 @@
--- Machines whose lanes stand for lanes of any kind.
+-- Machines whose lanes represent lanes of any kind.
 use Rattle.std.specs.Prelude.{◌≡◌, ℕ, ◌≤◌, List, [], ◌∷◌, Option, None, Some, Result, IfErr, MatchOption, MatchResult, slice_get}
 use Rattle.std.specs.List.{AllByRecursion}
 use Rattle.r10_blockout.specs.Output.{first_of}
@@ -31,7 +31,7 @@ use Rattle.r10_machine.specs.declared.reply.Reply.TheVariants.{Refused, Stopped}
 abbrev pub IsReachedBy : Option (List Sample) → ℕ → Lane → Type 0
 IsReachedBy quiet reached a = MatchOption quiet (count_or_0 a.last ≤ reached) (λ waiting. a.waiting ≡ waiting)
 
--- lane by lane, the machine's stand for these
+-- lane by lane, the machine's represent these
 abbrev pub StandFor : {L : Type 0} → (L → Option (List Sample)) → (L → ℕ) → (L → ChannelSpec) → List L → List Lane → Type 0
 StandFor quiet reached spec_of [] [] = Unit {0}
 StandFor quiet reached spec_of (x ∷ lanes) (a ∷ machines) = (a.spec ≡ spec_of x) × IsReachedBy (quiet x) (reached x) a × StandFor quiet reached spec_of lanes machines
@@ -63,7 +63,7 @@ with_lanes lanes m = record m { lanes = lanes }
 
 -- ---- steps
 
--- With the samples that a call took waiting in its lanes the machine is meant too, and the call is its step. That leads to one that is meant then, and stands for the lanes as they are then.
+-- With the samples that a call took waiting in its lanes the machine is represented too, and the call is its step. That leads to one that is represented then, and represents the lanes as they are then.
 pub record StepsWith {L : Type 0} (took : L → List Sample → L → Type 0) (quiet : L → Option (List Sample)) (reached : L → ℕ) (spec_of : L → ChannelSpec)
     (k : Kept) (old : Image) (before : ℕ) (event : EventValue) (reply : ReplyValue) (later : Kept) (new : Image) (now : ℕ) (lanes lanes' : List L) (m : Machine) : Type 0 where
   pub parts : List Part
@@ -72,7 +72,7 @@ pub record StepsWith {L : Type 0} (took : L → List Sample → L → Type 0) (q
   pub leads : KeptStepsTaking (taken_of parts) k (with_lanes (lanes_with quiet spec_of parts lanes m.lanes) m) event reply later new now
   pub stands : StandFor quiet reached spec_of lanes' leads.machine.lanes
 
--- such an answer is a step so, from each machine that is meant and stands for the lanes
+-- such an answer is a step so, from each machine that is represented and represents the lanes
 abbrev pub StepsAlike : {L T : Type 0} → (L → List Sample → L → Type 0) → (L → Option (List Sample)) → (L → ℕ) → (L → ChannelSpec) → (Result T Refusal → Type 0) → Kept → Image → ℕ → EventValue → (T → ReplyValue) → Result T Refusal
     → Kept → Image → ℕ → List L → List L → Type 0
 StepsAlike took quiet reached spec_of bare k old before event reply result later new now lanes lanes' =
@@ -89,7 +89,7 @@ unknown lane = None
 abbrev pub none_left : StoppedValue → StoppedValue
 none_left said = record said { left = 0 }
 
--- A stop is a step from each machine that is meant and has accepted nothing that the lanes have not reached, once what was taken, and nothing else, waits in its lanes: as many were taken, and none is left.
+-- A stop is a step from each machine that is represented and has accepted nothing that the lanes have not reached, once what was taken, and nothing else, waits in its lanes: as many were taken, and none is left.
 abbrev pub StopsAlone : {L : Type 0} → (L → List Sample → L → Type 0) → (L → ℕ) → (L → ChannelSpec) → Kept → Image → ℕ → Result StoppedValue Refusal → Kept → Image → ℕ → List L → List L → Type 0
 StopsAlone took reached spec_of k old before result later new now lanes lanes' =
     (m : Machine) → KeptStandsFor k old before m → StandFor unknown reached spec_of lanes m.lanes
@@ -106,7 +106,7 @@ lanes_showing quiet spec_of channel first lanes machines = lanes_with quiet spec
 abbrev pub MayGive : {L : Type 0} → (L → Option (List Sample)) → (L → ℕ) → (L → ChannelSpec) → ℕ → Sample → List L → Type 0
 MayGive quiet reached spec_of channel first lanes = AllByRecursion (λ lane. (spec_of lane).id ≡ channel → quiet lane ≡ None → Gives (spec_of lane) (reached lane) (first ∷ []) first.count) lanes
 
--- With the sample waiting first in the channel's lane the machine is meant too, and a call that is refused so is its step. The machine without the sample is meant behind it, and stands for the lanes then.
+-- With the sample waiting first in the channel's lane the machine is represented too, and a call that is refused so is its step. The machine without the sample is represented after it, and represents the lanes then.
 pub record StepsShowing {L : Type 0} (quiet : L → Option (List Sample)) (reached : L → ℕ) (spec_of : L → ChannelSpec)
     (k : Kept) (old : Image) (before : ℕ) (channel : ℕ) (first : Sample) (event : EventValue) (r : Refusal) (later : Kept) (new : Image) (now : ℕ) (lanes lanes' : List L) (m : Machine) : Type 0 where
   pub means : KeptStandsFor k old before (with_lanes (lanes_showing quiet spec_of channel first lanes m.lanes) m)
@@ -120,7 +120,7 @@ abbrev pub LacksShown : ℕ → Sample → Config → Work → Type 0
 LacksShown channel first s (recording chain o) = SampleLacks o.recording channel (area_from s (first_of o.recording.out.blocks)) lacking.Medium first
 LacksShown channel first s work = ⊥
 
--- The channel's lane shows a sample, which is the one that it gives next, and which has no room; and where the lane may give that, the call is a step so, from each machine that is meant and stands for the lanes.
+-- The channel's lane shows a sample, which is the one that it gives next, and which has no room; and where the lane may give that, the call is a step so, from each machine that is represented and represents the lanes.
 pub record RefusesShown {L : Type 0} (took : L → List Sample → L → Type 0) (shows : L → Sample → Type 0) (quiet : L → Option (List Sample)) (reached : L → ℕ) (spec_of : L → ChannelSpec)
     (k : Kept) (old : Image) (before : ℕ) (channel : ℕ) (event : EventValue) (r : Refusal) (later : Kept) (new : Image) (now : ℕ) (lanes lanes' : List L) : Type 0 where
   pub first : Sample

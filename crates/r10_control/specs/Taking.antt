@@ -54,11 +54,11 @@ taken_of parts channel = length (samples_on channel parts)
 abbrev pub one_part : ℕ → List Sample → List Sample → Part
 one_part channel samples rest = record { channel = channel; samples = samples; rest = rest; full = None }
 
--- of a lane that isn't quiet, none is told to wait behind what was taken
+-- of a lane that isn't quiet, none is asked to wait after what was taken
 abbrev pub NoneBehind : {L : Type 0} → (L → Option (List Sample)) → (L → ChannelSpec) → List L → Part → Type 0
 NoneBehind quiet spec_of lanes p = AllByRecursion (λ lane. (spec_of lane).id ≡ p.channel → quiet lane ≡ None → p.rest ≡ []) lanes
 
--- Behind a file that took all of this in, channel by channel all went in that may, up to the first sample that has no room there; behind that one none did.
+-- After a file that took all of this in, channel by channel all went in that may, up to the first sample that has no room there; after that one none did.
 pub record WentThrough (most : ℕ → ℕ) (s : Config) (o : OpenState) (parts : List Part) : Type 0 where
   pub file : Recording
   pub cost : file.cost ≡ o.recording.cost + sum_by entry_cost (entries_of parts)
@@ -74,10 +74,10 @@ abbrev pub ClosesFor : List Entry → Work → Work → Type 0
 ClosesFor more (recording chain o) (recording made p) = LeavesOpen (with_taken more) o.recording.builders p.recording.builders
 ClosesFor more was now = Unit {0}
 
--- Channel by channel in this order, up to some, a call took these parts from the lanes, no more of a channel than may be; of a lane that is quiet, a part and its rest are all that waited. Where the medium failed while they were taken, nothing is told of the rests.
+-- Channel by channel in this order, up to some, a call took these parts from the lanes, no more of a channel than may be; of a lane that is quiet, a part and its rest are all that waited. Where the medium failed while they were taken, nothing is reported of the rests.
 -- Where the call succeeds, each channel has its part, and all went in that may, up to the first sample that has no room.
--- No part is more than its lane has room for. Where the answer says that nothing was left, none is told to wait behind what was taken of a lane that isn't quiet.
--- They are counted where the call succeeds, and whatever entries the recorder's own files had, these are behind them then. From each machine that is meant, and in whose lanes the parts and their rests wait, what the call answers leads to one that is meant then.
+-- No part is more than its lane has room for. Where the answer says that nothing was left, none is asked to wait after what was taken of a lane that isn't quiet.
+-- They are counted where the call succeeds, and whatever entries the recorder's own files had, these are after them then. From each machine that is represented, and in whose lanes the parts and their rests wait, what the call answers leads to one that is represented then.
 pub record StepsByTaking {L T : Type 0} (took : L → List Sample → L → Type 0) (quiet : L → Option (List Sample)) (spec_of : L → ChannelSpec) (order : List ℕ) (most : ℕ → ℕ) (says : T → List Part → Type 0) (bare : Result T Refusal → Type 0)
     (k : Kept) (old : Image) (before : ℕ) (event : EventValue) (reply : T → ReplyValue) (result : Result T Refusal) (later : Kept) (new : Image) (now : ℕ) (lanes lanes' : List L) : Type 0 where
   pub parts : List Part
@@ -164,7 +164,7 @@ abbrev pub MovesAny : (List Entry → Type 0) → ℕ → ℕ → ℕ → ℕ �
 MovesAny ends channel most area n samples rest full old before new =
     (s : Config) (chain : List ChainBlock) (files : List File) (f : File) → HoldsFiles s before chain (Some old) (files ++ f ∷ []) → ends f.entries → area ≡ area_of s f → IsMovedIn s f channel most n samples rest full new.recording
 
--- so many were moved, and where none was, none was asked for or nothing waits; why no more were is told
+-- so many were moved, and where none was, none was asked for or nothing waits; why no more were is reported
 pub record MovedSamples (ends ends' : List Entry → Type 0) (channel most area : ℕ) (samples rest : List Sample) (old : OpenState) (before : Image) (new : OpenState) (after : Image) (n : ℕ) : Type 0 where
   pub number : n ≡ length samples
   pub on : WentOn area ends ends' (entries_on channel samples) old before new after
@@ -181,7 +181,7 @@ pub record Stayed {M : Type 0} (ends ends' : List Entry → Type 0) (samples : L
   pub file : IsAskedFor old new
   pub lasts : (entries : List Entry) → ends entries → ends' entries
 
--- the first that waits has no room; or memory was refused where it has; or the medium failed, behind a first one that had room
+-- the first that waits has no room; or memory was refused where it has; or the medium failed, after a first one that had room
 abbrev pub MovedNone : {M : Type 0} → (M → Disk) → (List Entry → Type 0) → (List Entry → Type 0) → ℕ → ℕ → ℕ → List Sample → List Sample → OpenState → M → OpenState → M → PumpFault → Type 0
 MovedNone disk ends ends' channel most area samples rest old medium new medium' (pump_faults.Full full) =
     Stayed ends ends' samples old medium new medium' × MovesAny ends channel most area 0 [] rest (Some full) old (disk medium).blocks new × Begins new.recording channel area most rest (Some full)
@@ -198,14 +198,14 @@ UnlessFull result P = IfErr result (λ fault. elim fault [ pump_faults.Full full
 abbrev pub WherePumpFull : Result ℕ PumpFault → Type 0 → Type 0
 WherePumpFull result P = IfErr result (λ fault. elim fault [ pump_faults.Full full ↦ P | _ ↦ Unit {0} ])
 
--- a lane shows this sample, the first of what waits, and of a lane that isn't quiet all that is told
+-- a lane shows this sample, the first of what waits, and of a lane that isn't quiet all that is reported
 pub record ShowsFirst (shows : Sample → Type 0) (single : Sample → List Sample → Type 0) (rest : List Sample) : Type 0 where
   pub first : Sample
   pub shown : shows first
   pub front : slice_get rest 0 ≡ Some first
   pub alone : single first rest
 
--- From the lane of a channel these samples were taken, at most so many and no more than it has room for, and the rest waits behind them, which is bare unless the first has no room: that one is shown then.
+-- From the lane of a channel these samples were taken, at most so many and no more than it has room for, and the rest waits after them, which is bare unless the first has no room: that one is shown then.
 pub record PumpedLane {M : Type 0} (took : List Sample → Type 0) (left : List Sample → List Sample → Type 0) (bare : List Sample → Type 0) (showing : List Sample → Type 0) (ends ends' : List Entry → Type 0) (disk : M → Disk) (channel capacity most area : ℕ)
     (old : OpenState) (medium : M) (new : OpenState) (medium' : M) (result : Result ℕ PumpFault) : Type 0 where
   pub samples : List Sample

@@ -52,11 +52,11 @@ status_in k lanes = record {
 
 -- ---- whatever the lanes
 
--- what is told of so many entries that erases took: none of a recorder that failed
+-- what is reported of so many entries that erases took: none of a recorder that failed
 abbrev pub erased_told : Mode → ℕ → ℕ
 erased_told mode erased = elim mode [ modes.Failed ↦ 0 | _ ↦ erased ]
 
--- this is told of a lane: its channel; how many it holds, all that waits where it is quiet; and what erases took
+-- this is reported of a lane: its channel; how many it holds, all that waits where it is quiet; and what erases took
 abbrev pub TellsLane : {L : Type 0} → (L → Option (List Sample)) → (L → ChannelSpec) → Mode → L → ℕ → LaneStatus → Type 0
 TellsLane quiet spec_of mode lane erased told = (told.channel ≡ (spec_of lane).id) × IfSome (quiet lane) (λ waiting. told.held ≡ length waiting) × (told.erased ≡ erased_told mode erased)
 
@@ -65,7 +65,7 @@ TellsLanes quiet spec_of mode [] [] [] = Unit {0}
 TellsLanes quiet spec_of mode (lane ∷ lanes) (e ∷ erased) (told ∷ rest) = TellsLane quiet spec_of mode lane e told × TellsLanes quiet spec_of mode lanes erased rest
 TellsLanes quiet spec_of mode lanes erased told = ⊥
 
--- this is told of a recorder
+-- this is reported of a recorder
 pub record TellsRecorder {L : Type 0} (quiet : L → Option (List Sample)) (spec_of : L → ChannelSpec) (k : Kept) (lanes : List L) (told : RecorderStatus) : Type 0 where
   pub mode : told.mode ≡ mode_of k.work
   pub tick : told.tick ≡ tick_count k.tick

@@ -1,5 +1,5 @@
 //! A recorder over any medium and any lanes: each call says what it refuses whatever files the medium has, and where
-//! the small machine stands for the recorder, each call is a step of it.
+//! the small machine represents the recorder, each call is a step of it.
 #![tactic(auto)]
 
 mod clock;

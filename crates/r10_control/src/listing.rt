@@ -32,7 +32,7 @@ impl<M: BlockMedium, L: LaneOut> Recorder<M, L> {
         ensures does { OnlyTells M.disk events.Files (λ infos. replies.Files infos.items) self.now result }
         ensures told { IfOk result (λ infos. infos.items ≡ map info_in (files_of self.now.kept.work)) }
     {
-        // For the proof: a step keeps a state sound; what is told is the machine's; the channels are within limits.
+        // For the proof: a step keeps a state sound; what is reported is the machine's; the channels are within limits.
         a_step_stays_sound();
         reports_are_steps();
         let _channels = self.settings.channels();

@@ -1,4 +1,4 @@
-//! Offers to the lanes of one thread, and losses that are told of them.
+//! Offers to the lanes of one thread, and losses that are reported of them.
 
 ghost use Rattle.std.specs.Prelude.{◌≡◌, ◌≤◌, ◌^◌, None, Some, IfErr, IfOk, option_map};
 ghost use Rattle.std.specs.List.{position};

@@ -17,7 +17,7 @@ pub fn own_entries_stay()
     ensures none { (k : Kept) (image : Image) → OwnGrow k image k image [] }
 {}
 
-/// Of each machine that a recorder stands for, and that has not failed, the entries of the files that it began are the
+/// Of each machine that a recorder represents, and that has not failed, the entries of the files that it began are the
 /// recorder's own.
 pub fn own_entries_are_meant()
     ensures { (k : Kept) (image : Image) (failures : ℕ) (m : Machine) → KeptStandsFor k image failures m → (k.work ≡ failed → ⊥)

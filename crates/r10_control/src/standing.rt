@@ -1,4 +1,4 @@
-//! Machines whose lanes stand for a recorder's, as a call that does nothing.
+//! Machines whose lanes represent a recorder's, as a call that does nothing.
 
 ghost use Rattle.std.specs.Prelude.{◌≡◌, [], map, IfSome};
 ghost use Rattle.std.specs.List.{AllByRecursion};
@@ -11,8 +11,8 @@ use r10_lane::LaneOut;
 use r10_medium::BlockMedium;
 
 impl<M: BlockMedium, L: LaneOut> Recorder<M, L> {
-    /// A law: channels of which nothing has come yet stand for lanes in which nothing is known to wait, and a machine that stands
-    /// for the lanes still does behind a step that takes nothing from them.
+    /// A law: channels of which nothing has come yet represent lanes in which nothing is known to wait, and a machine that stands
+    /// for the lanes still does after a step that takes nothing from them.
     pub fn machines_stand(&self)
         ensures first { AllByRecursion (λ lane. IfSome (L.quiet lane) (λ waiting. waiting ≡ [])) self.now.lanes
             → StandFor L.quiet L.reached L.spec_of self.now.lanes (map fresh_lane (map L.spec_of self.now.lanes)) }

@@ -64,7 +64,7 @@ impl<M: BlockMedium, L: LaneOut> Recorder<M, L> {
     pub fn status(&mut self) -> Result<RecorderStatus, Refusal>
         ensures does { TellsStatus L.took L.quiet L.spec_of M.disk self.old self.new result }
     {
-        // For the proof: a step keeps a state sound; what is told is the machine's; the channels and blocks are within limits.
+        // For the proof: a step keeps a state sound; what is reported is the machine's; the channels and blocks are within limits.
         a_step_stays_sound();
         reports_are_steps();
         let _channels = self.settings.channels();
@@ -92,7 +92,7 @@ impl<M: BlockMedium> Recorder<M, RingLane> {
         ensures steps { AnswersWith self.now.lanes self.now.kept (M.disk self.now.medium).blocks
             (M.disk self.now.medium).failures events.Status (λ status. replies.Status status) result self.now.lanes }
     {
-        // For the proof: a step keeps a state sound; what is told is the machine's; the channels and blocks are within limits.
+        // For the proof: a step keeps a state sound; what is reported is the machine's; the channels and blocks are within limits.
         a_step_stays_sound();
         reports_are_steps();
         let _channels = self.settings.channels();

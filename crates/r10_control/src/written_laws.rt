@@ -16,7 +16,7 @@ ghost use Rattle.r10_cursor.specs.Read.{IsReadTo, bytes_shown};
 ghost use Rattle.r10_cursor.specs.declared.written.Written.{Written};
 ghost use Rattle.r10_control.specs.Reading.{IsToldOf};
 
-/// Of the file that is recorded, the packets are shown of which a reader is told, whatever files the medium has; where they are a
+/// Of the file that is recorded, the packets are shown of which a reader learns, whatever files the medium has; where they are a
 /// machine's, they are its; and what a cursor has read of it is covered of the packets by which it is read.
 pub fn what_is_written_is_shown()
     ensures writing { (image : Image) (o : OpenState) (text : List ℕ) (entries : List Entry) (w : Written)

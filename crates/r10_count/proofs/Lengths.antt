@@ -2,7 +2,7 @@
 use Rattle.std.proofs.Common.{◌≡◌, ℕ, zero, suc, get_or, ◌+◌, ◌<◌, List, [], ◌∷◌, length, drop, ap, ◌∙◌, arith, length-append}
 use Rattle.std.specs.List.{flat_map, fold}
 
--- the entries that are left are the next one and those behind it
+-- the entries that are left are the next one and those after it
 pub next_long : {E : Type 0} (code : E → List ℕ) (size : E → ℕ) → ((e : E) → length (code e) ≡ size e) → (es : List E) (i : ℕ) (e : E) → i < length es → e ≡ get_or es i e
     → length (flat_map code (drop i es)) ≡ size e + length (flat_map code (drop (i + 1) es))
 next_long code size each [] i e lt is = absurd (omega arith)

@@ -2,7 +2,7 @@
 use Rattle.std.proofs.Common.{◌≡◌, Bool, true, false, List, [], ◌∷◌, ◌++◌, Some, None, refl}
 use Rattle.r10_count.specs.Checks.{first_broken}
 
--- rules that hold pass on to those behind them
+-- rules that hold pass on to those after them
 pub rules_pass : {F : Type 0} (xs ys : List (Bool × F)) → first_broken xs ≡ None → first_broken (xs ++ ys) ≡ first_broken ys
 rules_pass [] ys all = refl
 rules_pass ((true, f) ∷ xs) ys all = rules_pass xs ys all
@@ -19,7 +19,7 @@ pub none_broken : {F : Type 0} (b : Bool) (f : F) (rest : List (Bool × F)) → 
 none_broken true f rest none = (refl, none)
 none_broken false f rest none = absurd (cc)
 
--- the front of those that hold, and what is behind it
+-- the front of those that hold, and what is after it
 pub rules_parts : {F : Type 0} (xs ys : List (Bool × F)) → first_broken (xs ++ ys) ≡ None → (first_broken xs ≡ None) × (first_broken ys ≡ None)
 rules_parts [] ys all = (refl, all)
 rules_parts ((true, f) ∷ xs) ys all = rules_parts xs ys all

@@ -7,14 +7,14 @@ use Rattle.r10_count.specs.Bytes.{le_bytes}
 abbrev pub IsEntryBytes : ℕ → (List ℕ → Option ℕ) → List ℕ → Type 0
 IsEntryBytes front told bytes = (front ≤ length bytes) × (told (take front bytes) ≡ Some (length bytes))
 
--- Entries of one kind. Each is spelled behind the one before, whose count it may look at; the first looks at the packet's counter.
+-- Entries of one kind. Each is spelled after the one before, whose count it may look at; the first looks at the packet's counter.
 pub record Form (E : Type 0) : Type 1 where
   -- how many bytes tell an entry's length, and the length that they tell
   pub front : ℕ
   pub told : List ℕ → Option ℕ
   -- the count of its first data
   pub count : E → ℕ
-  -- the bytes that the writer makes of it behind an entry at a count, their number, and the ranges that its fields have there
+  -- the bytes that the writer makes of it after an entry at a count, their number, and the ranges that its fields have there
   pub spelled : ℕ → E → List ℕ
   pub size : E → ℕ
   pub Fits : ℕ → E → Type 0
@@ -24,7 +24,7 @@ pub record Form (E : Type 0) : Type 1 where
   -- the channel specific data word of a channel of a setting and so many entries, and whether any writer's word goes with so many
   pub word : ℕ → ℕ → ℕ
   pub agrees : ℕ → ℕ → Bool
-  -- an entry's length is told by some bytes, which are its own
+  -- an entry's length is known by some bytes, which are its own
   pub some : 0 < front
   pub covers : (bytes : List ℕ) (n : ℕ) → told bytes ≡ Some n → front ≤ n
   -- the writer's spelling has its size, tells its length, and is that of no other entry
@@ -40,7 +40,7 @@ pub record Form (E : Type 0) : Type 1 where
 abbrev pub IsSplit : {E : Type 0} → Form E → List (List ℕ) → List ℕ → Type 0
 IsSplit form parts bytes = AllByRecursion (IsEntryBytes form.front form.told) parts × (bytes ≡ concat parts)
 
--- each entry behind the one before, the first behind a count
+-- each entry after the one before, the first after a count
 abbrev pub spelled_all : {E : Type 0} → Form E → ℕ → List E → List ℕ
 spelled_all form before [] = []
 spelled_all form before (e ∷ entries) = form.spelled before e ++ spelled_all form (form.count e) entries

@@ -6,7 +6,7 @@ use Rattle.std.proofs.Math.Seq.{take-append_seam}
 use Rattle.r10_count.specs.Bytes.{u32_at}
 use Rattle.r10_count.specs.Padding.{padding, padded}
 
--- the number of bytes that the header behind a stamp tells
+-- the number of bytes that the header after a stamp tells
 abbrev pub told_bytes : List ℕ → ℕ
 told_bytes front = u32_at front 8 % 2 ^ 16
 

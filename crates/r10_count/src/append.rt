@@ -23,7 +23,7 @@ pub fn append_all(out: &mut Vec<u8>, parts: &[&[u8]]) -> Result<(), AllocError>
     Ok(())
 }
 
-/// A stamp, and a header behind it.
+/// A stamp, and a header after it.
 #[inline(always)]
 fn front_of(stamp: [u8; 8], header: [u8; 4]) -> [u8; 12]
     ensures { result ≡ stamp ++ header }

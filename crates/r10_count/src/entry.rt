@@ -45,12 +45,12 @@ pub trait BodyEntry: Sized {
         requires { form.Fits before self.now }
         ensures { result ≡ form.size self.now };
 
-    /// Adds its bytes behind those of an entry at a count.
+    /// Adds its bytes after those of an entry at a count.
     fn encode_into(&self, before: u64, out: &mut Vec<u8>) -> Result<(), AllocError>
         requires { form.Fits before self.now }
         ensures { Appends (form.spelled before self.now) out.old out.new result };
 
-    /// The entry that the writer spells with these bytes behind an entry at a count, if there is one.
+    /// The entry that the writer spells with these bytes after an entry at a count, if there is one.
     fn read(alloc: Global, before: u64, bytes: &[u8]) -> Result<Option<Self>, AllocError>
         ensures found { IfOk result (λ read. IfSome read (λ e. form.Fits before e × (bytes.now ≡ form.spelled before e))) }
         ensures none { IfOk result

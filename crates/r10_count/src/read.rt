@@ -8,7 +8,7 @@ use crate::entry::BodyEntry;
 use crate::split::first_entry;
 use std::alloc::{AllocError, Global};
 
-/// The entries that the writer spells with these bytes behind an entry at a count, if there are such.
+/// The entries that the writer spells with these bytes after an entry at a count, if there are such.
 pub fn read_entries<E: BodyEntry + Drop>(
     alloc: Global,
     before: u64,

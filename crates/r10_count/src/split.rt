@@ -1,11 +1,11 @@
-//! Entries told apart by their lengths, whoever wrote them.
+//! Entries separated by their lengths, whoever wrote them.
 
 ghost use Rattle.std.specs.Prelude.{◌≡◌, ◌++◌, ℕ, List, length, IfSome, IfNone};
 ghost use Rattle.r10_count.specs.Form.{IsEntryBytes, IsSplit};
 
 use crate::entry::BodyEntry;
 
-/// The bytes of the first entry, and those behind it.
+/// The bytes of the first entry, and those after it.
 #[inline(always)]
 pub fn first_entry<E: BodyEntry>(bytes: &[u8]) -> Option<(&[u8], &[u8])>
     ensures some { IfSome result (λ x. IsEntryBytes E.form.front E.form.told x.0.now × (bytes.now ≡ x.0.now ++ x.1.now)) }

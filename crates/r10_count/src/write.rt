@@ -6,7 +6,7 @@ ghost use Rattle.r10_count.specs.Form.{FitsAll, spelled_all};
 use crate::entry::BodyEntry;
 use std::alloc::AllocError;
 
-/// Adds the entries behind one at a count.
+/// Adds the entries after one at a count.
 pub fn write_entries<E: BodyEntry>(
     before: u64,
     entries: &[E],

@@ -14,7 +14,7 @@ use Rattle.std.proofs.lemmas.Bool.{true≢false}
 
 -- ---- the index stands at the end
 
--- there is no index yet, or it stands behind the other packets
+-- there is no index yet, or it stands after the other packets
 data Fronted (ps : List Packet) : Type 0 where
   plain : count_by is_node ps ≡ 0 → count_by is_root ps ≡ 0 → filter is_data ps ≡ ps → Fronted ps
   indexed : (index : List Packet) → ps ≡ filter is_data ps ++ index → 0 < count_by is_node ps + count_by is_root ps → Fronted ps
@@ -36,7 +36,7 @@ no_index ps p i keeps = by p.content refl
     by (node es) e = let yes : is_index p ≡ true = rw e refl in absurd (true≢false (sym yes ∙ i))
     by (root es) e = let yes : is_index p ≡ true = rw e refl in absurd (true≢false (sym yes ∙ i))
 
--- an index packet behind others
+-- an index packet after others
 behind : (ps : List Packet) (p : Packet) → is_index p ≡ true → Fronted ps → (index : List Packet) × (ps ++ p ∷ [] ≡ filter is_data (ps ++ p ∷ []) ++ index)
 behind ps p i (plain nodes roots all) = (p ∷ [], ap (λ (qs : List Packet). qs ++ p ∷ []) (sym all ∙ sym (datas_no ps p i)))
 behind ps p i (indexed index is some) = (
@@ -66,7 +66,7 @@ index_of : (ps : List Packet) → Fronted ps → (index : List Packet) × (ps �
 index_of ps (plain nodes roots all) = ([], sym all ∙ sym (append-nil (filter is_data ps)))
 index_of ps (indexed index is some) = (index, is)
 
--- what stands behind a file's other packets is its index
+-- what stands after a file's other packets is its index
 pub data_first : (ps : List Packet) → EachFollows [] ps → (index : List Packet) × (ps ≡ filter is_data ps ++ index)
 data_first ps each = index_of ps (fronted_from [] ps each (plain refl refl refl))
 

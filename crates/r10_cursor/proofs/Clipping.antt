@@ -53,7 +53,7 @@ past_first (x ∷ xs) (suc n) (suc k) le = past_first xs n k (omega (arith, le))
 
 -- ---- in a chain of directory blocks
 
--- the file is one of a block, or stands behind its files
+-- the file is one of a block, or stands after its files
 pub entry_here : (items : List ChainBlock) (i left : ℕ) (b : ChainBlock) (d : DirectoryEntry) → i < length items → b ≡ get_or items i b → left < length b.block.entries
     → slice_get (listed_files (drop i items)) left ≡ Some (get_or b.block.entries left d)
 entry_here items i left b d lt is within =

@@ -11,7 +11,7 @@ use Rattle.r10_machine.specs.Machine.{File, shown_entries}
 use Rattle.r10_cursor.specs.Replays.{Reading, AdvancesReading}
 use Rattle.r10_cursor.specs.Held.{IsCovered, ReadingGoesOn}
 
--- what a file's later packets say are the entries behind those that are covered
+-- what a file's later packets say are the entries after those that are covered
 rest_agrees : (packets : List Packet) (f : File) (k n : ℕ) → Agree (file_entries packets) (shown_entries f) → IsCovered packets f k n → Agree (file_entries (drop k packets)) (drop n (shown_entries f))
 rest_agrees packets f k n agree covered =
     let shown = shown_entries f in

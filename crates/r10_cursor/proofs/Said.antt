@@ -107,7 +107,7 @@ pub found_entry : (written : Option Written) (chain : List ChainBlock) (file : �
 found_entry None chain file e before at = at
 found_entry (Some w) chain file e before at = among_first (listed_files chain) w.file file before ∙ at
 
--- a file that is said is held, where its packets have its times
+-- a file that is stated is held, where its packets have its times
 held_by : (image : Image) (chain : List ChainBlock) (written : Option Written) (file : ℕ) (e : DirectoryEntry) (f : File) → finished_file written chain file ≡ Some e → (is : IsSaid image e f) → f.shown ≤ length f.entries
     → ticks_of (file_entries is.says.says.0) ≡ ticks_of (shown_entries f) → IsHeldFile image chain written file f
 held_by image chain written file e f found is inside ticks =

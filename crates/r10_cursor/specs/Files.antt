@@ -17,7 +17,7 @@ use Rattle.r10_cursor.specs.declared.written.Written.{Written}
 abbrev pub bytes_in : Image → DirectoryEntry → List ℕ
 bytes_in image e = bytes_from image e.first_block e.size
 
--- all but the file that is written, and those behind it
+-- all but the file that is written, and those after it
 abbrev pub finished : Option Written → List DirectoryEntry → List DirectoryEntry
 finished None entries = entries
 finished (Some w) entries = take w.file entries

@@ -29,7 +29,7 @@ IsOf image chain written k = IsSomeAnd (finished_file written chain k.file) (λ 
 abbrev pub IsWriting : Image → Option Written → Type 0
 IsWriting image written = IfSome written (λ w. (packets : List Packet) × IsShownWith image w.first w.named.now w.book.now packets × (length (file_bytes packets) < 2 ^ 63))
 
--- where the file is the one that is written, what is told of it is what the medium shows
+-- where the file is the one that is written, what is reported of it is what the medium shows
 abbrev pub IsToldRight : Image → Option Written → ℕ → Type 0
 IsToldRight image written file = IsSomeAnd written (λ w. w.file ≡ file) → IsWriting image written
 
@@ -37,12 +37,12 @@ IsToldRight image written file = IsSomeAnd written (λ w. w.file ≡ file) → I
 abbrev pub HasJudged : Image → List ChainBlock → Option Written → Books → Type 0
 HasJudged image chain written books = AllByRecursion (IsOf image chain written) books.kept.items
 
--- and so is what is told of the file that is written
+-- and so is what is reported of the file that is written
 pub record Knows (image : Image) (chain : List ChainBlock) (written : Option Written) (books : Books) : Type 0 where
   pub judged : HasJudged image chain written books
   pub writing : IsWriting image written
 
--- a file was judged, whose number and directory entry these are, and what is kept of it stands behind the others
+-- a file was judged, whose number and directory entry these are, and what is kept of it stands after the others
 pub record IsAdded (image : Image) (file : ℕ) (e : DirectoryEntry) (old new : List JudgedFile) : Type 0 where
   pub kept : JudgedFile
   pub behind : new ≡ old ++ kept ∷ []

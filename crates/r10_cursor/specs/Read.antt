@@ -52,7 +52,7 @@ pub record KeepsShown (old new : Image) (f g : File) : Type 0 where
   pub size : f.size ≤ g.size
   pub bytes : bytes_shown new f ≡ bytes_shown old f
 
--- so does each file, and others may have come behind
+-- so does each file, and others may have come after
 abbrev pub ShowMore : List File → List File → Type 0
 ShowMore [] later = Unit {0}
 ShowMore (f ∷ files) [] = ⊥

@@ -1,4 +1,4 @@
--- Which numbered cursors of the small machine a table of cursors stands for.
+-- Which numbered cursors of the small machine a table of cursors represents.
 use Rattle.std.specs.Prelude.{◌≡◌, ◌≢◌, ℕ, List, [], ◌∷◌, length, false, Option, None, Some, slice_index_or, ◌==◌}
 use Rattle.r10_body.specs.declared.entry.Entry.{Entry}
 use Rattle.r10_body.specs.declared.refusal.Refusal.TheVariants.{NoCursor, Stale, Unread}
@@ -7,7 +7,7 @@ use Rattle.r10_machine.specs.Machine.{Cursor as MachineCursor, cursor_at}
 use Rattle.r10_cursor.specs.Replays.{begun_reading}
 use Rattle.r10_cursor.specs.declared.cursor.Cursor.{Cursor}
 
--- a cursor stands for one of the machine; how far each has come is told apart, since one counts packets and the other entries
+-- a cursor represents one of the machine; how far each has come is stated by itself, since one counts packets and the other entries
 pub record CursorStandsFor (c : Cursor) (m : MachineCursor) : Type 0 where
   pub file : m.file ≡ c.file
   pub generation : m.generation ≡ c.generation

@@ -10,7 +10,7 @@ use Rattle.r10_cursor.specs.Files.{bytes_in}
 abbrev pub KeepListed : Image → Image → List DirectoryEntry → Type 0
 KeepListed old new entries = AllByRecursion (λ e. bytes_in new e ≡ bytes_in old e) entries
 
--- the files keep their bytes and directory entries, and others may have come behind them
+-- the files keep their bytes and directory entries, and others may have come after them
 pub record Stay (old new : Image) (entries later : List DirectoryEntry) : Type 0 where
   pub more : List DirectoryEntry
   pub entries_stay : later ≡ entries ++ more

@@ -6,7 +6,7 @@ use Rattle.r10_cursor.specs.declared.cursor.Cursor.{Cursor}
 use Rattle.r10_cursor.specs.Read.{HaveRead}
 use Rattle.r10_cursor.specs.Standing.{SlotsStandFor}
 
--- the machine takes such a step, and the table stands for its cursors then; those that were as far over the image as the machine's are so
+-- the machine takes such a step, and the table represents its cursors then; those that were as far over the image as the machine's are so
 -- again
 pub record StepsTo (Step : Machine → Type 0) (old : Machine) (image : Image) (slots later : List (Option Cursor)) : Type 0 where
   pub machine : Machine

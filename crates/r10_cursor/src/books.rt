@@ -48,8 +48,8 @@ impl Books {
         self.kept.clear();
     }
 
-    /// Learns of a file, so that it can be read: the one that is written is told of, and any other is judged whole where it wasn't
-    /// before. Answers the place of what is kept of the latter.
+    /// Learns of a file, so that it can be read: of the one that is written the recorder reports, and any other is judged whole
+    /// where it wasn't before. Answers the place of what is kept of the latter.
     pub(crate) fn learn<M: BlockMedium>(
         &mut self,
         alloc: Global,
@@ -77,8 +77,8 @@ impl Books {
         }
     }
 
-    /// Where the packets stand that the medium shows of a file that was learned of, and what nodes say of them: what is told of the
-    /// file that is written, or else what is kept at a place.
+    /// Where the packets stand that the medium shows of a file that was learned of, and what nodes say of them: what is reported of
+    /// the file that is written, or else what is kept at a place.
     pub(crate) fn shown_packets<'a>(
         &'a self,
         written: Option<Written<'a>>,
@@ -150,7 +150,7 @@ impl Books {
         }
     }
 
-    /// Judges a file and keeps what is known of it, behind the others; answers its place among them.
+    /// Judges a file and keeps what is known of it, after the others; answers its place among them.
     fn judge<M: BlockMedium>(
         &mut self,
         alloc: Global,
@@ -188,7 +188,7 @@ fn is_written(written: Option<Written<'_>>, file: usize) -> bool
     shown_of_written(written, file).is_some()
 }
 
-/// What is told of a file, where it is the one that is written.
+/// What is reported of a file, where it is the one that is written.
 fn shown_of_written<'a>(written: Option<Written<'a>>, file: usize) -> Option<Shown<'a>>
     ensures some { IfSome result (λ shown. IsSomeAnd written.entry
         (λ w. (w.file ≡ file) × (shown.first ≡ w.first) × (shown.named.now ≡ w.named.now) × (shown.book.now ≡ w.book.now))) }

@@ -23,7 +23,7 @@ ghost use Rattle.r10_cursor.specs.declared.books.Books.{Books};
 ghost use Rattle.r10_cursor.specs.declared.written.Written.{Written};
 
 /// A reader that has judged no file knows nothing wrong. What it knows stays, where the files that are not being written keep
-/// their bytes and directory entries, and others come behind them.
+/// their bytes and directory entries, and others come after them.
 pub fn what_is_known_stays()
     ensures none { (image : Image) (chain : List ChainBlock) (written : Option Written) (books : Books) → books.kept.items ≡ []
         → IsWriting image written → Knows image chain written books }

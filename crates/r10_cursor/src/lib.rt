@@ -1,5 +1,5 @@
 //! Find and replay: of a mounted directory's files, by number, each judged once, entries are found, timed and replayed from the
-//! packets that may have them, and the cursors of all readers stand for those of the small machine.
+//! packets that may have them, and the cursors of all readers represent those of the small machine.
 #![tactic(auto)]
 
 mod books;

@@ -16,7 +16,7 @@ ghost use Rattle.r10_cursor.specs.Staying.{NoneShrinks};
 ghost use Rattle.r10_cursor.specs.Standing.{SlotsStandFor, slot_at};
 ghost use Rattle.r10_cursor.specs.Steps.{StepsTo};
 
-/// A step of the machine that leaves its cursors leaves them to the table that stood for them. What they have read stays read,
+/// A step of the machine that leaves its cursors leaves them to the table that represented them. What they have read stays read,
 /// where in the same generation no file has fewer bytes and the image keeps those that it showed, and the medium says the files.
 pub fn cursors_stay_over_steps()
     ensures { (s : Config) (old : Image) (new : Image) (m : Machine) (later : Machine) (event : EventValue)

@@ -17,7 +17,7 @@ use Rattle.r10_dirblock.specs.declared.read.DirFault.TheVariants as directory_fa
 use Rattle.r10_dirblock.specs.Block.{magic, head_bytes, used_bytes, entry_bytes, directory_entry_of, directory_entry_at, entry_count, entry_rules, block_rules, block_of, read_block, unless_broken, has_room_for_size, HasRooms, blank, big_endian_u64_at, part, FitsEntry, FitsHead}
 use Rattle.r10_dirblock.proofs.Rules.{at_rule, entries_left}
 
--- what stands behind p
+-- what stands after p
 past : (p r : List ℕ) (n m : ℕ) → length p ≡ n → drop (n + m) (p ++ r) ≡ drop m r
 past p r n m len = sym (drop-drop m n (p ++ r)) ∙ ap (drop m) (drop_at p r n len)
 

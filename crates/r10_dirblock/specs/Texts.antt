@@ -3,7 +3,7 @@ use Rattle.std.specs.Prelude.{◌≡◌, ℕ, ◌+◌, ◌-◌, ◌/◌, ◌%◌
 use Rattle.std.specs.List.{suffix_len}
 use Rattle.r10_count.specs.declared.civil.Parts.{Parts}
 
--- a text in a field of n bytes, with zero bytes behind it
+-- a text in a field of n bytes, with zero bytes after it
 abbrev pub padded_text : ℕ → List ℕ → List ℕ
 padded_text n text = text ++ replicate (n - length text) 0
 
@@ -11,11 +11,11 @@ padded_text n text = text ++ replicate (n - length text) 0
 abbrev pub is_padding : ℕ → Bool
 is_padding b = b == 0 || b == 0x20
 
--- a text without the zero bytes and spaces behind it
+-- a text without the zero bytes and spaces after it
 abbrev pub stripped : List ℕ → List ℕ
 stripped text = take (length text - suffix_len is_padding text) text
 
--- no zero byte and no space stands behind the text
+-- no zero byte and no space stands after the text
 abbrev pub IsStripped : List ℕ → Type 0
 IsStripped text = stripped text ≡ text
 

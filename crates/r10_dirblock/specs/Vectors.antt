@@ -97,7 +97,7 @@ room_for_a_size = refl
 
 -- ---- names
 
--- zero bytes and spaces in any mix behind a name, and those inside or before it
+-- zero bytes and spaces in any mix after a name, and those inside or before it
 pub mixed_padding : stripped (0x20 ∷ 0x41 ∷ 0x20 ∷ 0x00 ∷ 0x42 ∷ 0x00 ∷ 0x20 ∷ 0x00 ∷ []) ≡ 0x20 ∷ 0x41 ∷ 0x20 ∷ 0x00 ∷ 0x42 ∷ []
 mixed_padding = refl
 

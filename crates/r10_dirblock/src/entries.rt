@@ -43,7 +43,7 @@ impl Entries {
         self.items.len()
     }
 
-    /// Adds an entry behind the others.
+    /// Adds an entry after the others.
     pub fn push(&mut self, entry: Entry)
         requires { length self.old < 4 }
         ensures { self.new ≡ self.old ++ entry ∷ [] }

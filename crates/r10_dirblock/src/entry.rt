@@ -69,7 +69,7 @@ impl Entry {
         }
     }
 
-    /// The name, without the padding behind it.
+    /// The name, without the padding after it.
     pub fn stripped_name(&self) -> &[u8]
         ensures { result.now ≡ stripped self.now.name }
     {

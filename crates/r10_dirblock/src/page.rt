@@ -3,7 +3,7 @@ ghost use Rattle.std.specs.Prelude.{◌≡◌, ◌+◌, ◌-◌, ◌≤◌, [], 
 
 use std::marker::Model;
 
-/// The front of a block, which is zero behind it.
+/// The front of a block, which is zero after it.
 #[derive(Drop)]
 pub struct Page {
     bytes: [u8; 512],

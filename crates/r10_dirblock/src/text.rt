@@ -7,7 +7,7 @@ use r10_count::Civil;
 /// The close time of a file that is not closed.
 pub(crate) const DASHES: [u8; 8] = *b"--------";
 
-/// The text in a field of `N` bytes, with zero bytes behind it.
+/// The text in a field of `N` bytes, with zero bytes after it.
 pub fn pad<const N: usize>(text: &[u8]) -> [u8; N]
     requires { length text.now ≤ N }
     ensures bytes { result ≡ padded_text N text.now }
@@ -19,7 +19,7 @@ pub fn pad<const N: usize>(text: &[u8]) -> [u8; N]
     field
 }
 
-/// The text without the zero bytes and spaces behind it. Those inside it and before it stay.
+/// The text without the zero bytes and spaces after it. Those inside it and before it stay.
 pub fn strip(text: &[u8]) -> &[u8]
     ensures { result.now ≡ stripped text.now }
 {

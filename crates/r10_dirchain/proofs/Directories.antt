@@ -160,7 +160,7 @@ some_block image (x ∷ chain) is = omega arith
 pub rooms_held : (image : Image) (chain : List ChainBlock) (i : ℕ) → IsDirectory image chain → i < length chain → HasRooms (at chain i).block
 rooms_held image chain i is within = (is.holds i blank_block within).is.rooms
 
--- so has each where one with room is put behind them
+-- so has each where one with room is put after them
 pub rooms_more : (image : Image) (chain : List ChainBlock) (i : ℕ) (block : DirBlock) (entries : List Entry) (entry : Entry) → IsDirectory image chain → i < length chain
     → block ≡ (at chain i).block → entries ≡ block.entries ++ entry ∷ [] → has_room_for_size entry ≡ true → All (λ (e : Entry). has_room_for_size e ≡ true) entries
 rooms_more image chain i block entries entry is within same pushed room =

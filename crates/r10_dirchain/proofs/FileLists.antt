@@ -138,6 +138,6 @@ files-updated entry chain some =
 
 -- ---- one block after another
 
--- the entries from a block on are its own and those behind it
+-- the entries from a block on are its own and those after it
 pub files_from : (chain : List ChainBlock) (i : ℕ) (b : ChainBlock) → i < length chain → b ≡ get_or chain i b → listed_files (drop i chain) ≡ b.block.entries ++ listed_files (drop (i + 1) chain)
 files_from chain i b lt is = ap listed_files (drop_more chain i b lt ∙ ap (λ (c : ChainBlock). c ∷ drop (i + 1) chain) (sym is))

@@ -140,7 +140,7 @@ all_passed image passed d n holds apart all within = elim (missing n (numbers pa
     below : (q : ℕ) → list_any (eqb q) (n ∷ numbers passed) ≡ true → q < length image
     below q is = All-contains (λ (m : ℕ). m < length image) (n ∷ numbers passed) q under (Contains-from_any (λ x y e. eqb-true x y e) q (n ∷ numbers passed) is)
 
--- ---- a block was looked at behind these
+-- ---- a block was looked at after these
 module _ (image : Image) (chain : List ChainBlock) (back n : ℕ) (holds : All (HoldsBlock image) chain) (leads : LinksLead 1 1 (map link chain) back n) where
   pub bad_of : BlocksAreApart chain → (e : ChainError) → IsTakeError image back n e → IsChainError image e
   bad_of apart (BadDirectory m) bad = subst (IsBad image) (sym bad.0) (record { passed = chain; last = back; holds = holds; apart = apart; leads = leads; cannot = inl bad.1 })

@@ -47,7 +47,7 @@ one_chain image (x ∷ y ∷ a) (u ∷ v ∷ b) back p other q ha hb la lb e =
 pub one_directory : (image : Image) (a b : List ChainBlock) → IsDirectory image a → IsDirectory image b → a ≡ b
 one_directory image a b x y = one_chain image a b 1 1 1 1 x.holds y.holds x.linked y.linked refl
 
--- a list of blocks goes on behind these with a block of this number, which links back to the last of them
+-- a list of blocks goes on after these with a block of this number, which links back to the last of them
 pub record GoesOn (passed whole : List ChainBlock) (last n : ℕ) : Type 0 where
   pub next : ChainBlock
   pub more : List ChainBlock
@@ -64,7 +64,7 @@ goes_on_behind x u passed whole last n same on = record {
   behind = on.behind;
 }
 
--- a chain goes on behind blocks that lead somewhere
+-- a chain goes on after blocks that lead somewhere
 along_chain : (image : Image) (passed chain : List ChainBlock) (back p other q last n : ℕ) → All (HoldsBlock image) passed → All (HoldsBlock image) chain
     → LinksLead back p (map link passed) last n → Linked other q (map link chain) → p ≡ q → back ≡ other → GoesOn passed chain last n
 along_chain image passed [] back p other q last n hp hc leads l e f = absurd l
@@ -81,7 +81,7 @@ along_chain image (x ∷ passed) (u ∷ v ∷ chain) back p other q last n hp hc
     (along_chain image passed (v ∷ chain) p x.block.forward q u.block.forward last n (All-tail (HoldsBlock image) x passed hp) (All-tail (HoldsBlock image) u (v ∷ chain) hc) leads.3 l.3
     (ap (λ (c : ChainBlock). c.block.forward) same) e)
 
--- two lists of blocks that lead somewhere lead to the same place, or one goes on behind the other
+-- two lists of blocks that lead somewhere lead to the same place, or one goes on after the other
 along_passed : (image : Image) (a b : List ChainBlock) (back p other q last m final n : ℕ) → All (HoldsBlock image) a → All (HoldsBlock image) b
     → LinksLead back p (map link a) last m → LinksLead other q (map link b) final n → p ≡ q → back ≡ other
     → (m ≡ n) ⊎ (GoesOn a b last m ⊎ GoesOn b a final n)

@@ -124,7 +124,7 @@ not_full = refl
 pub a_place_first : first_broken (mount_rules 4 16 (block 1 (file 0 ∷ []) ∷ block 3 [] ∷ [])) ≡ Some 3
 a_place_first = refl
 
--- a file in a reserved block, behind the medium's end, with a block too many, without bytes; an unclosed one before another
+-- a file in a reserved block, after the medium's end, with a block too many, without bytes; an unclosed one before another
 pub too_early : first_broken (mount_rules 3 16 (block 1 (file 0 ∷ []) ∷ [])) ≡ Some 1
 too_early = refl
 

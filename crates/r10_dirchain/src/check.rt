@@ -27,7 +27,7 @@ impl Directory {
     ///
     /// 1. The directory's blocks are those from 1 on, and none is above the reserved ones.
     /// 2. Every block but the last has four entries.
-    /// 3. The files stand back to back from the first block behind the reserved ones, inside the
+    /// 3. The files stand back to back from the first block after the reserved ones, inside the
     ///    medium; none is empty, and each has the number of blocks that its size needs.
     /// 4. Every file but the last is closed.
     pub fn check(&self, alloc: Global, reserved: usize, blocks: usize) -> Result<(), ChainError>
@@ -91,7 +91,7 @@ fn unfilled_block(chain: &[ChainBlock]) -> Option<u64>
     None
 }
 
-// The block of the first file that does not stand right behind those before it.
+// The block of the first file that does not stand right after those before it.
 fn misplaced_file(files: &[ListedFile], first: u128, blocks: usize) -> Option<u64>
     requires { first ≤ 2 ^ 64 }
     ensures { result ≡ first_broken (stand_rules blocks first files.now) }

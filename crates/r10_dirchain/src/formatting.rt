@@ -29,7 +29,7 @@ pub enum FormatError {
 }
 
 /// Writes the directory of a medium without files, for so many reserved directory blocks from block
-/// 1 on: block 1 alone, properly dismounted (IRIG 106-17, chapter 10). It is sure at `Ok`.
+/// 1 on: block 1 alone, properly dismounted (IRIG 106-17, chapter 10). It is synced at `Ok`.
 pub fn format<M: BlockMedium>(
     medium: &mut M,
     directory: usize,

@@ -31,7 +31,7 @@ pub fn kept_entries()
 {}
 
 /// A directory that a recorder can take into use has its blocks from 1 on, and has the next one. It
-/// stays one over each step, where a file is added right behind the others while there is place in
+/// stays one over each step, where a file is added right after the others while there is place in
 /// the reserved blocks, and where the last file stays in its place.
 pub fn usable_directories()
     ensures has_next { (reserved : ℕ) (image : Image) (chain : List ChainBlock)

@@ -9,7 +9,7 @@ use crate::ChainBlock;
 use r10_dirblock::encode;
 use r10_medium::{BlockMedium, MediumFault, publish};
 
-/// Makes what stands sure, and then writes one directory block, which is sure at `Ok`.
+/// Syncs what stands, and then writes one directory block, which is synced at `Ok`.
 pub(crate) fn put_block<M: BlockMedium>(
     medium: &mut M,
     link: &ChainBlock,
@@ -27,7 +27,7 @@ pub(crate) fn put_block<M: BlockMedium>(
     publish(medium, link.number as usize, &encode(&link.block))
 }
 
-/// Writes one directory block that nothing links to. It is not made sure.
+/// Writes one directory block that nothing links to. It is not synced.
 pub(crate) fn put_unlinked<M: BlockMedium>(
     medium: &mut M,
     link: &ChainBlock,
@@ -42,8 +42,8 @@ pub(crate) fn put_unlinked<M: BlockMedium>(
     medium.write(link.number as usize, &encode(&link.block))
 }
 
-/// Writes a block that nothing links to, makes it sure, and then writes the block that links to it,
-/// which is sure at `Ok`.
+/// Writes a block that nothing links to, syncs it, and then writes the block that links to it,
+/// which is synced at `Ok`.
 pub(crate) fn put_linked<M: BlockMedium>(
     medium: &mut M,
     next: &ChainBlock,

@@ -22,7 +22,7 @@ impl Room {
         Ok(Room { blocks })
     }
 
-    // Moves these blocks into this memory, where one more can be put behind them.
+    // Moves these blocks into this memory, where one more can be put after them.
     pub(crate) fn take_in(self, chain: &mut Vec<ChainBlock>)
         requires { length chain.old.items < block_room self }
         ensures same { chain.new.items ≡ chain.old.items }

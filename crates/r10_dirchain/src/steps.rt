@@ -19,7 +19,7 @@ use r10_medium::{BlockMedium, MediumFault};
 use std::alloc::{AllocError, Global};
 
 impl Directory {
-    /// Writes the shutdown byte: 0xFF for properly dismounted, 0x00 for not. This makes sure what is
+    /// Writes the shutdown byte: 0xFF for properly dismounted, 0x00 for not. This syncs what is
     /// read, also where a stop could have left either of two directories.
     pub fn set_shutdown<M: BlockMedium>(
         &mut self,
@@ -107,9 +107,9 @@ impl Directory {
     }
 
     /// Lists one file more: in the last block, or in a new block where that is full. A new block is
-    /// written and made sure before the block that links to it.
+    /// written and synced before the block that links to it.
     ///
-    /// `has_place` tells whether there is a place for it in the reserved blocks: no block behind
+    /// `has_place` tells whether there is a place for it in the reserved blocks: no block after
     /// them is written. The memory was asked for by `ready`: nothing but the medium can fail.
     pub fn add<M: BlockMedium>(
         &mut self,
@@ -200,7 +200,7 @@ impl Directory {
         }
     }
 
-    // A block behind the last one, which lists one file.
+    // A block after the last one, which lists one file.
     fn next_block(&self, entry: Entry) -> ChainBlock
         requires { 0 < length self.now }
         ensures { result ≡ next_directory_block entry self.now }

@@ -1,4 +1,4 @@
--- A call that may write, behind its look for room.
+-- A call that may write, after its look for room.
 use Rattle.std.proofs.Common.{◌≡◌, ℕ, Bool, true, false, refl, sym, inr, ◌∙◌, true≢false}
 use Rattle.r10_body.specs.declared.refusal.Refusal.TheVariants.{OutOfMemory}
 use Rattle.r10_calls.specs.Told.{DoesEvent}

@@ -28,7 +28,7 @@ IsClosed r = r.opened ≡ false
 abbrev pub Goes : Recorder → Recorder → (LentRecorder → LentRecorder → Type 0) → Type 0
 Goes before behind is = IsOpen behind × Between before.handle.held behind.handle.held (λ old new. is old new × (new.accepted ≡ old.accepted))
 
--- between the recorder before and behind it is so, and its disk has still to do what it had, and what the call adds
+-- between the recorder before and after it is so, and its disk has still to do what it had, and what the call adds
 abbrev pub Does : Recorder → Recorder → (DeskValue Region → DeskValue Region → Type 0) → Type 0
 Does before behind is = Goes before behind (λ old new. is old.desk new.desk × (new.orders ≡ old.orders))
 
@@ -37,7 +37,7 @@ abbrev pub Offers : ℕ → ℕ → Recorder → Recorder → (DeskValue Region 
 Offers answer channel before behind is = IsOpen behind × Between before.handle.held behind.handle.held
     (λ old new. is old.desk new.desk × (new.orders ≡ old.orders) × (new.accepted.items ≡ counted answer channel old.accepted.items))
 
--- A channel's account was asked for: so the recorder's status was, and lent memory has what is told, with the numbers of accepted and of erased messages as they are kept.
+-- A channel's account was asked for: so the recorder's status was, and lent memory has what is reported, with the numbers of accepted and of erased messages as they are kept.
 abbrev pub Accounts : ℕ → ℕ → AccountOut → AccountOut → Recorder → Recorder → Type 0
 Accounts answer place before_out out before behind = Goes before behind
     (λ old new. DoesEvent region_disk old.desk Status (λ reply. (answer ≡ lane_place reply place) × (out ≡ account_given reply place old.accepted.items new.desk.world.recorder.kept before_out)) new.desk

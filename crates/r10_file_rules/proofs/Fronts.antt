@@ -45,7 +45,7 @@ pub if_none_map : {T : Type 0} (o : Option T) (P Q : Type 0) → (P → Q) → I
 if_none_map None P Q f p = f p
 if_none_map (Some x) P Q f p = tt
 
--- a test of what stands behind a front
+-- a test of what stands after a front
 pub framed : (body front word rest whole : List ℕ) (b : Bool) → front ≡ word → body ≡ front ++ rest → IsTrue b ↔ (rest ≡ whole) → IsTrue b ↔ (body ≡ word ++ whole)
 framed body front word rest whole b same found test =
     let at : body ≡ word ++ rest = found ∙ ap (λ (t : List ℕ). t ++ rest) same in

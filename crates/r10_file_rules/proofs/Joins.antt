@@ -33,7 +33,7 @@ of_bytes before bytes closed p n reads (broken_later.reports not) = a_report p.c
     a_report (node es) e = absurd (not (rw e tt))
     a_report (root es) e = absurd (not (rw e tt))
 
--- two packets that are read from the same bytes are one, but for the number that is told of what was lost
+-- two packets that are read from the same bytes are one, but for the number that is reported of what was lost
 pub retold : (bytes : List ℕ) (p q : Packet) → ReadsPacket bytes p → ReadsPacket bytes q → IsRetold p q
 retold bytes p q rp rq = one_packet p q [] [] rp.0 rq.0 (ap (λ (b : List ℕ). b ++ []) (sym rp.2 ∙ rq.2))
 

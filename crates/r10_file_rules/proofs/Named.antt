@@ -25,7 +25,7 @@ named_more counter end n offset bytes left rest found at more =
     found_then bytes (flat_map root_entry (names counter end n)) left (flat_map root_entry (names counter end n)) (root_entry (root_at counter (end + 2028 * n))) rest refl found own
     ∙ ap (λ (t : List ℕ). t ++ rest) (sym (ap (λ (es : List RootEntry). flat_map root_entry es) (names_more counter end n) ∙ flat_map_more root_entry (names counter end n) (root_at counter (end + 2028 * n))))
 
--- the names behind the first of them
+-- the names after the first of them
 pub record Split (counter end k n : ℕ) : Type 0 where
   pub more : List RootEntry
   pub whole : names counter end n ≡ names counter end k ++ root_at counter (end + 2028 * k) ∷ more

@@ -65,7 +65,7 @@ spans_some : (s : Spread) (es : List Entry) → Spans s es → 0 < length es
 spans_some s [] spans = let e : [] ≡ s.first ∷ [] = spans.first in absurd (cc)
 spans_some s (e ∷ es) spans = omega arith
 
--- the last count of a channel behind a packet's entries
+-- the last count of a channel after a packet's entries
 pub last_spanned : (before : ℕ) (s : Spread) (es : List Entry) → Spans s es → s.last ≡ last_count before es
 last_spanned before s es spans = spans.last ∙ last_given s.first before es (spans_some s es spans)
 
@@ -73,7 +73,7 @@ pub rise_join : (count : ℕ) (es fs : List Entry) → Rise count es → Rise (l
 rise_join count [] fs rise more = more
 rise_join count (e ∷ es) fs rise more = (rise.0, rise_join e.count es fs rise.1 more)
 
--- what the counts of a packet's entries have to be behind those of its channel
+-- what the counts of a packet's entries have to be after those of its channel
 abbrev pub GoOn : ℕ → List Entry → List Entry → Type 0
 GoOn counter before es = AllByRecursion (λ e. counter ≡ e.count) (take 1 es) × Rise 0 (before ++ es) × AllByRecursion (λ e. e.count ≤ counter + 1000000) es
 

@@ -22,7 +22,7 @@ pub record IsTracked (t : Tracks) (packets : List Packet) : Type 0 where
   pub totals : AreTotals t.totals packets
   pub report : t.report ≡ last_report packets
 
--- this packet comes next behind these, with what the last of them reports of it, keeps the rules that it keeps alone, and says this
+-- this packet comes next after these, with what the last of them reports of it, keeps the rules that it keeps alone, and says this
 pub record ComesNext (t : Tracks) (packets : List Packet) (p : Packet) (facts : Facts) (body : List ℕ) : Type 0 where
   pub tracked : IsTracked t packets
   pub fits : FitsPacket p

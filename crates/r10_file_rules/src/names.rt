@@ -11,7 +11,7 @@ ghost use Rattle.r10_file_rules.specs.Names.{root_at};
 use r10_body::FULL_NODE;
 use r10_indexbody::NodeEntry;
 
-/// The bytes behind others that stand first.
+/// The bytes after others that stand first.
 fn behind<'a>(bytes: &'a [u8], front: &[u8]) -> Option<&'a [u8]>
     ensures found { IfSome result (λ rest. bytes.now ≡ front.now ++ rest.now) }
     ensures none { IfNone result ((rest : List ℕ) → bytes.now ≡ front.now ++ rest → ⊥) }
@@ -26,7 +26,7 @@ fn packet_word(data_type: u8, channel: u16) -> u32
     0x1_0000 * u32::from(data_type) + u32::from(channel)
 }
 
-/// The bytes behind what a node says of a packet.
+/// The bytes after what a node says of a packet.
 fn behind_packet<'a>(bytes: &'a [u8], entry: &NodeEntry) -> Option<&'a [u8]>
     ensures found { IfSome result (λ rest. bytes.now ≡ node_entry entry.now ++ rest.now) }
     ensures none { IfNone result ((rest : List ℕ) → bytes.now ≡ node_entry entry.now ++ rest → ⊥) }
@@ -63,7 +63,7 @@ pub(crate) fn is_node_body(body: &[u8], entries: &[NodeEntry]) -> bool
     }
 }
 
-/// The bytes behind what a root says of a packet.
+/// The bytes after what a root says of a packet.
 fn behind_root(bytes: &[u8], counter: u64, offset: u64) -> Option<&[u8]>
     requires { IsCount counter }
     ensures found { IfSome result (λ rest. bytes.now ≡ root_entry (root_at counter offset) ++ rest.now) }
@@ -76,7 +76,7 @@ fn behind_root(bytes: &[u8], counter: u64, offset: u64) -> Option<&[u8]>
 /// From the offset of a full node to that of the next.
 const STEP: u64 = FULL_NODE as u64;
 
-/// The bytes behind what a root says of so many full nodes, of which the first begins at an offset.
+/// The bytes after what a root says of so many full nodes, of which the first begins at an offset.
 fn behind_nodes(bytes: &[u8], counter: u64, end: u64, nodes: usize) -> Option<&[u8]>
     requires counter { IsCount counter }
     requires few { nodes < 65535 }
@@ -115,7 +115,7 @@ pub(crate) struct NodesAt {
     pub(crate) nodes: usize,
 }
 
-/// Whether a body is that of a root behind these nodes, with a counter and at an offset.
+/// Whether a body is that of a root after these nodes, with a counter and at an offset.
 pub(crate) fn is_root_body(body: &[u8], at: NodesAt, counter: u64, offset: u64) -> bool
     requires nodes { IsCount at.counter }
     requires own { IsCount counter }

@@ -28,7 +28,7 @@ impl Totals {
         }
     }
 
-    /// Adds a packet that may come next behind what the last one reports.
+    /// Adds a packet that may come next after what the last one reports.
     pub(crate) fn add(&mut self, facts: &Facts, report: Option<LossBody>)
         ensures { (packets : List Packet) (p : Packet) → AreTotals self.old packets → AreFactsOf facts.now p → MayFollow packets p
             → report ≡ last_report packets → AreTotals self.new (packets ++ p ∷ []) }
@@ -43,7 +43,7 @@ impl Totals {
     }
 }
 
-/// What a report adds to the cost of the entry behind it.
+/// What a report adds to the cost of the entry after it.
 fn cost_of(report: Option<LossBody>) -> u64
     ensures { result ≡ owed report }
 {

@@ -9,7 +9,7 @@ use std::test::Fail;
 
 const RESERVED: usize = 64;
 
-// the reserved blocks behind block 0, and 256 files of one block each
+// the reserved blocks after block 0, and 256 files of one block each
 const BLOCKS: usize = 321;
 
 fn leap_day(rt: &impl Abort) -> Civil {

@@ -16,7 +16,7 @@ fn byte(bytes: &[u8], place: usize) -> u8 {
     }
 }
 
-// the first and the last byte of each of three blocks, and what is behind them
+// the first and the last byte of each of three blocks, and what is after them
 fn ends(image: &[u8]) -> [u8; 7] {
     [0, 511, 512, 1023, 1024, 1535, 1536].map(|place| byte(image, place))
 }

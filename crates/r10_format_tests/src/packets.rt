@@ -90,7 +90,7 @@ fn put(
 }
 
 // The first recording from block 1 on, its third packet with these flags: bytes and packets before it
-// is closed, and the block behind it then.
+// is closed, and the block after it then.
 fn record(
     alloc: Global,
     medium: &mut Memory,

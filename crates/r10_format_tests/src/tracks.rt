@@ -78,7 +78,7 @@ fn one_setup_is_added(rt: HostRuntime) -> Result<(), Fail> {
     Ok(())
 }
 
-/// A report tells of a loss, and what is kept of it goes with the packet behind it.
+/// A report tells of a loss, and what is kept of it goes with the packet after it.
 #[test]
 fn a_report_is_kept(rt: HostRuntime) -> Result<(), Fail> {
     let counter = Count::of(1000).ok_or("no count")?;

@@ -132,7 +132,7 @@ fn a_setup_alone_lacks_a_time(rt: HostRuntime) -> Result<(), Fail> {
     Ok(())
 }
 
-// the same, cut behind the report
+// the same, cut after the report
 fn with_report() -> [u8; 168] {
     let mut bytes = [0; 168];
     bytes[..124].copy_from_slice(&FIRST[..124]);

@@ -25,7 +25,7 @@ last_triple [] = triple 0 0 0
 last_triple (x ∷ []) = x
 last_triple (x ∷ y ∷ xs) = last_triple (y ∷ xs)
 
--- how often something was published behind the three zeros, up to the greatest number of 64 bits
+-- how often something was published after the three zeros, up to the greatest number of 64 bits
 abbrev pub commits_of : List Glance → ℕ
 commits_of published = min (length published - 1) (2 ^ 64 - 1)
 

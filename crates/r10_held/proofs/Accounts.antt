@@ -133,7 +133,7 @@ module _ {L : Type 0} (spec_of : L → ChannelSpec) (received_of : L → List Sa
   none_grown own (spec ∷ specs) (t ∷ taken) [] lanes was = absurd was
   none_grown own (spec ∷ specs) (t ∷ taken) (e ∷ erased) [] was = absurd was
 
-  -- entries of none of these channels behind
+  -- entries of none of these channels after
   one_stays : (own more : List Entry) (spec : ChannelSpec) (t e : ℕ) (o : L) → on_channel spec.id more ≡ [] → ChannelAccount spec_of received_of own spec t e o → ChannelAccount spec_of received_of (own ++ more) spec t e o
   one_stays own more spec t e o none was = record {
     spec_is = was.spec_is;

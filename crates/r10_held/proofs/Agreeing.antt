@@ -46,7 +46,7 @@ pub read_shows : (work : Work) (image : Image) (file : ℕ) → IsReadAt work im
 read_shows work image file (is_ended e at says) = let has = has_packets (bytes_in image e) _ says in (has.0, of_ended e at has.1)
 read_shows work image file (is_recorded o packets is last shows) = (packets, of_recorded o is last shows)
 
--- ---- instalments one behind the other
+-- ---- instalments one after the other
 
 pub parts_of : (packets : List Packet) (channels : List ℕ) (first last at : ℕ) (is : List Instalment) → GoOn packets channels first last at is → Follow at is × AllByRecursion (IsPart packets channels first last) is
 parts_of packets channels first last at [] on = (tt, tt)

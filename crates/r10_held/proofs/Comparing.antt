@@ -1,4 +1,4 @@
--- One instalment that is read again, and several one behind the other.
+-- One instalment that is read again, and several one after the other.
 use Rattle.std.proofs.Common.{◌≡◌, ◌≤◌, ◌<◌, ◌+◌, ℕ, Bool, List, [], ◌∷◌, length, take, drop, get_or, min, sym, ap, ◌∙◌, subst, arith}
 use Rattle.std.specs.Prelude.{max, IsTrue}
 use Rattle.std.proofs.lemmas.List.{drop_more, length-take}
@@ -17,7 +17,7 @@ use Rattle.r10_held.specs.declared.transcript.Instalment.{Instalment}
 abbrev pub OneOrder : Type 0
 OneOrder = (entries xs ys : List Entry) → Ordered entries xs → Ordered entries ys → xs ≡ ys
 
--- the place of an advance that isn't behind the cursor
+-- the place of an advance that isn't after the cursor
 to_end : (covered to : ℕ) → covered ≤ to → max to covered ≡ to
 to_end covered to le = omega (arith, le)
 

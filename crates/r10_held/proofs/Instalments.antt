@@ -65,7 +65,7 @@ under_lock {M} disk rings p q r old held new c d result same met end fact cell p
       advances = subst (λ (z : LookingEnd). AdvancesHeld disk z.seen old new c d result) met (subst (λ (s : HeldState M). AdvancesHeld disk q.seen s new c d result) same advances);
     })
 
--- who has published all that was seen is not behind
+-- who has published all that was seen is not after
 pub not_behind : {M : Type 0} (p q : LookingEnd) (old held : HeldState M) (seen : Glance) (result : Result ℕ Refusal) → held ≡ old → q ≡ p → IsPrefix p.seen old.published
     → IfErr result (SaysBehind (commits_of held.published < commits_of q.seen)) → result ≡ Err (Behind seen) → ⊥
 not_behind {M} p q old held seen result same met (rest, is) only answer =

@@ -21,9 +21,9 @@ use Rattle.r10_machine.specs.declared.event.Event.TheVariants as events
 use Rattle.r10_refinement.specs.Kept.{Kept, Work, mode_of, unmounted, idle, recording, failed, OpenState}
 use Rattle.r10_medium.specs.Disk.{Disk, Image}
 
--- ---- what is told of the last file
+-- ---- what is reported of the last file
 
--- where a file is recorded then, it was recorded before, and the same is told of it
+-- where a file is recorded then, it was recorded before, and the same is reported of it
 abbrev pub TellsStill : Work → Work → Type 0
 TellsStill (recording made p) (recording chain o) = last_shown (recording made p) ≡ last_shown (recording chain o)
 TellsStill (recording made p) work = ⊥
@@ -51,7 +51,7 @@ pub record KeepsNumbers (k later : Kept) : Type 0 where
   pub numbers : (later.taken ≡ k.taken) × (later.erased ≡ k.erased)
   pub fails : k.work ≡ failed → later.work ≡ failed
 
--- and the same is told of the file that is recorded
+-- and the same is reported of the file that is recorded
 pub record Settles (k later : Kept) : Type 0 where
   pub numbers : KeepsNumbers k later
   pub tells : TellsStill later.work k.work
@@ -322,7 +322,7 @@ module _ {M : Type 0} (disk : M → Disk) (lacks : Refusal → Type 0) (k later 
   seal_left result passed effect refused = answered result (both _ _ result passed effect) refused
       (λ done. seal_settles k later (disk old).blocks (disk new).blocks (works k.work _ done.0) done.1.sealed done.1.rest) (left_by (recorder_refusal k events.Seal))
 
-  -- of a start and of a commit the numbers stay, and where they are refused the same is told
+  -- of a start and of a commit the numbers stay, and where they are refused the same is reported
   pub start_left : (name setup : List ℕ) (result : Result (Unit {0}) Refusal) → OnOk result (recorder_refusal k (events.Start name setup) ≡ None) → OnOk result (StartEffect name setup k (disk old) later (disk new))
       → IfErr result (RefusesCall disk (recorder_refusal k (events.Start name setup)) lacks k later old new) → KeepsNumbers k later
   start_left name setup result passed effect refused = answered result (both _ _ result passed effect) refused

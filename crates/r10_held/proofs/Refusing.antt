@@ -1,4 +1,4 @@
--- What a refused call leaves, behind another that only read.
+-- What a refused call leaves, after another that only read.
 use Rattle.std.proofs.Common.{◌≡◌, ◌≤◌, Option, None, sym, ◌∙◌, subst}
 use Rattle.r10_body.specs.declared.refusal.Refusal.{Refusal}
 use Rattle.r10_body.specs.declared.refusal.Refusal.TheVariants as refusals

@@ -15,12 +15,12 @@ use Rattle.r10_held.specs.Publishing.{StaysPublished}
 use Rattle.r10_held.specs.State.{HeldState}
 use Rattle.r10_medium.specs.Disk.{Disk}
 
--- a refusal is Behind only where this is so
+-- a refusal is After only where this is so
 abbrev pub SaysBehind : Type 0 → Refusal → Type 0
 SaysBehind so (Behind seen) = so
 SaysBehind so r = Unit {0}
 
--- of a lock's value: refused Behind, with the last that was seen, exactly where less was published than was seen, and then nothing
+-- of a lock's value: refused After, with the last that was seen, exactly where less was published than was seen, and then nothing
 -- changes; else the recorder's advance
 pub record AdvancesHeld {M : Type 0} (disk : M → Disk) (seen : List Glance) (old new : HeldState M) (cursor later : Cursor) (result : Result ℕ Refusal) : Type 0 where
   pub at_least : OnOk result (commits_of seen ≤ commits_of old.published)

@@ -44,7 +44,7 @@ is_absence r = elim r [ NotMounted ↦ Bool.true | NoSuchFile ↦ Bool.true | _ 
 abbrev pub IsAbsentOrRead : Work → Image → ℕ → Type 0
 IsAbsentOrRead work image file = (length (files_of work) ≤ file) ⊎ IsReadAt work image file
 
--- so it is of each transcript's file, one behind the other, up to the first that doesn't agree
+-- so it is of each transcript's file, one after the other, up to the first that doesn't agree
 abbrev pub AreAbsentOrRead : Work → Image → List Transcript → Type 0
 AreAbsentOrRead work image [] = Unit {0}
 AreAbsentOrRead work image (t ∷ transcripts) = IsAbsentOrRead work image t.file × (Agrees work image t → AreAbsentOrRead work image transcripts)
@@ -67,7 +67,7 @@ pub record IsNext (packets : List Packet) (channels : List ℕ) (first last at :
   pub forward : i.from ≤ i.to
   pub part : IsPart packets channels first last i
 
--- and so do all, one behind the other
+-- and so do all, one after the other
 abbrev pub GoOn : List Packet → List ℕ → ℕ → ℕ → ℕ → List Instalment → Type 0
 GoOn packets channels first last at [] = Unit {0}
 GoOn packets channels first last at (i ∷ instalments) = IsNext packets channels first last at i × GoOn packets channels first last i.to instalments

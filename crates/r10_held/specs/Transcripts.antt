@@ -24,7 +24,7 @@ pub record IsPart (packets : List Packet) (channels : List ℕ) (first last : �
   pub within : i.to ≤ length packets
   pub entries : Ordered (wanted channels first last (file_entries (drop i.from (take i.to packets)))) i.entries
 
--- the file of its number is there and shows packets, of which the transcript's instalments, one behind the other, are parts
+-- the file of its number is there and shows packets, of which the transcript's instalments, one after the other, are parts
 pub record Agrees (work : Work) (image : Image) (t : Transcript) : Type 0 where
   pub packets : List Packet
   pub shows : ShowsAt work image t.file packets

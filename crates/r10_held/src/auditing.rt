@@ -214,7 +214,7 @@ fn pass_over<M: BlockMedium, L: LaneOut>(
     }
 }
 
-/// Reads instalments again, one behind the other, up to one that is another.
+/// Reads instalments again, one after the other, up to one that is another.
 fn read_instalments<M: BlockMedium, L: LaneOut>(
     alloc: Global,
     recorder: &mut Recorder<M, L>,

@@ -34,7 +34,7 @@ impl<M: BlockMedium, N: Rings> Held<M, N> {
         self.recorder.dismount()
     }
 
-    /// Closes the last file, which was left open: it is read and judged whole, its index is put behind its packets, and the
+    /// Closes the last file, which was left open: it is read and judged whole, its index is put after its packets, and the
     /// directory lists it closed at its last time. Refused: Failed, NotMounted, Busy, NoSuchFile where there is no such file,
     /// BadFile with the first fault of its bytes, MediumFull, OutOfMemory, Medium.
     pub fn seal(&mut self) -> Result<(), Refusal>

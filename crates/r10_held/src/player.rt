@@ -61,7 +61,7 @@ impl Player {
     /// as `advance_in`. It may wait for the lock. What was seen before is a beginning of what is seen then, and this of what the
     /// lock's value had published.
     ///
-    /// Refused as `advance_in`, but never Behind. Where this is refused, the cursor is as it was.
+    /// Refused as `advance_in`, but never After. Where this is refused, the cursor is as it was.
     pub fn advance<M: BlockMedium, N: Rings, R: Wait>(
         &mut self,
         rt: &R,
@@ -88,7 +88,7 @@ impl Player {
     }
 
     /// Takes the next instalment of its cursor from the recorder that is held, which must have published at least what was seen:
-    /// else this is refused Behind, with the last that was seen, and nothing changes. Else it is the recorder's `advance` of the
+    /// else this is refused After, with the last that was seen, and nothing changes. Else it is the recorder's `advance` of the
     /// cursor, and refused as that: Failed, NotMounted, Stale where the cursor is of another generation, Unread where its queue is
     /// not empty, NoSuchFile, BadFile with the file's first fault, OutOfMemory, Medium. Where this is refused, the cursor is as it
     /// was.

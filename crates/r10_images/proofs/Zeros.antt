@@ -15,7 +15,7 @@ pub zeros_more : (n : ℕ) → concat (replicate (n + 1) zeros) ≡ concat (repl
 zeros_more n =
     ap concat (sym (replicate_more n zeros)) ∙ concat-append (replicate n zeros) (zeros ∷ []) ∙ ap (λ t. concat (replicate n zeros) ++ t) (append-nil zeros)
 
--- block 0, block 1 and the blocks behind them are the image
+-- block 0, block 1 and the blocks after them are the image
 pub image_bytes : (blocks : ℕ) (volume : List ℕ) → (concat (replicate 1 zeros) ++ formatted_block volume) ++ concat (replicate (blocks - 2) zeros) ≡ concat (formatted_image blocks volume)
 image_bytes blocks volume =
     append_assoc (concat (replicate 1 zeros)) (formatted_block volume) (concat (replicate (blocks - 2) zeros))

@@ -13,7 +13,7 @@ use Rattle.r10_dirchain.specs.declared.chain.ChainBlock.{ChainBlock}
 use Rattle.r10_images.specs.declared.listing.Outcome.{Outcome}
 use Rattle.r10_images.specs.declared.listing.Outcome.TheVariants.{Done, Refused}
 
--- a name as it is printed, without the zero bytes and spaces behind it
+-- a name as it is printed, without the zero bytes and spaces after it
 abbrev pub shown_name : Entry → List ℕ
 shown_name e = map shown_byte (stripped e.name)
 

@@ -16,7 +16,7 @@ pub flight-line : listed_file_line 0 flight ≡ codes "file 0 FLT1 272 1 1\n"
 unfolding digits
 flight-line = refl
 
--- a name of `A b/c`, with a space behind it; a file that is not closed
+-- a name of `A b/c`, with a space after it; a file that is not closed
 pub odd-lines : listed_file_lines 9 (record flight { name = codes "A b/c " ++ replicate 50 0; size = 68; close_time = dashes } ∷ blank ∷ []) ≡ codes "file 9 A?b?c 68 1 0\nfile 10  0 0 1\n"
 unfolding digits
 odd-lines = refl

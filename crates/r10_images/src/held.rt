@@ -5,7 +5,7 @@ ghost use Rattle.std.specs.Prelude.{◌≡◌};
 use r10_medium::{BlockMedium, MediumFault};
 
 /// An image that was read, as a medium that can't be written: each write fails, and changes nothing of it. A read never fails.
-/// Bytes behind the last whole block are no part of it.
+/// Bytes after the last whole block are no part of it.
 #[derive(Debug, Drop)]
 pub struct Image {
     bytes: Vec<u8>,

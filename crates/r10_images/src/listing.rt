@@ -84,7 +84,7 @@ fn list_medium<M: BlockMedium, W: Write>(
     }
 }
 
-/// What is said of a medium that failed.
+/// What is stated of a medium that failed.
 fn failed_read() -> StreamFault
     ensures { IsFailedRead result }
 {

@@ -1,4 +1,4 @@
--- A file of packets with the written index behind it keeps all rules, and is closed.
+-- A file of packets with the written index after it keeps all rules, and is closed.
 use Rattle.std.proofs.Common.{◌≡◌, ℕ, zero, suc, ◌+◌, ◌-◌, ◌*◌, ◌/◌, ◌%◌, ◌^◌, ◌<◌, ◌≤◌, ◌⊎◌, inl, inr, Bool, true, false, cond, ◌&&◌, List, [], ◌∷◌, ◌++◌, length, take, drop, refl, sym, ap, subst, ◌∙◌, arith, append_assoc, Option, None, Some}
 use Rattle.std.specs.Prelude.{count_by, filter, min, nat_lt}
 use Rattle.std.specs.List.{AllByRecursion}
@@ -119,14 +119,14 @@ pub last_more : (start : ℕ) (qs : List Packet) (p : Packet) → is_time p ≡ 
 last_more start [] p is = rw is refl
 last_more start (q ∷ qs) p is = last_more (cond (is_time q) q.counter start) qs p is
 
--- ---- what is known behind groups and so many nodes
+-- ---- what is known after groups and so many nodes
 
 -- of how many nodes the first group is: where there is no root yet, of those that are there
 abbrev pub Grouped : Option ℕ → ℕ → ℕ → ℕ → List Packet → Type 0
 Grouped None per n m before = (count_by is_root before ≡ 0) × (n ≡ 0) × (group_size before ≡ m)
 Grouped (Some at) per n m before = (0 < count_by is_root before) × (group_size before ≡ per)
 
--- behind the file's packets stand groups of n nodes together, and then these nodes, of which the first stands at an offset
+-- after the file's packets stand groups of n nodes together, and then these nodes, of which the first stands at an offset
 pub record Stands (ps : List Packet) (per n number start : ℕ) (link : Option ℕ) (group before : List Packet) : Type 0 where
   pub each : EachFollows [] before
   pub datas : filter is_data before ≡ ps
@@ -236,7 +236,7 @@ node_stands ps per n number start link nodes before fits short s left may =
       quiet = last_with None before p;
     }
 
--- behind groups stand the nodes of one more
+-- after groups stand the nodes of one more
 pub nodes_stand : (ps : List Packet) (per n number start : ℕ) (link : Option ℕ) (before : List Packet) (m : ℕ) → AllByRecursion FitsPacket ps → length (file_bytes ps) < 2 ^ 63
     → Stands ps per n number start link [] before → m ≤ per → 100 * (n + m) < length ps + 100
     → Stands ps per n number start link (group_nodes (last_time 0 ps) number (node_entries 0 ps) n m) (before ++ group_nodes (last_time 0 ps) number (node_entries 0 ps) n m)
@@ -307,7 +307,7 @@ root_follows ps per n number start link nodes before fits short s filled few lef
       reports = (rw s.quiet refl, tt);
     }
 
--- a root more, behind a group of the size that all groups have
+-- a root more, after a group of the size that all groups have
 grouped_next : (link : Option ℕ) (per n m at : ℕ) (before : List Packet) (p : Packet) → is_root p ≡ true → Grouped link per n m before → m ≡ per → Grouped (Some at) per (n + m) 0 (before ++ p ∷ [])
 grouped_next None per n m at before p is g whole =
     (omega (arith, counted is_root before p, counted_yes is_root p is), omega (arith, size_grows before p g.0, size_of_root p is, g.2, whole))
@@ -355,7 +355,7 @@ closed_last : (b : Bool) (ps : List Packet) (p : Packet) → closed_from b (ps +
 closed_last b [] p = refl
 closed_last b (q ∷ ps) p = closed_last (is_root q) ps p
 
--- the packets keep all rules, and the last of them is a root behind which nothing is left to name
+-- the packets keep all rules, and the last of them is a root after which nothing is left to name
 pub record IsWhole (packets : List Packet) : Type 0 where
   pub each : EachFollows [] packets
   pub closed : is_closed_file packets ≡ true
@@ -371,7 +371,7 @@ pub nlt_is : (a b : ℕ) (c : Bool) → nat_lt a b ≡ c → b ≤ a → nat_lt 
 nlt_is a b true e le = absurd (omega (arith, le, ltb-true a b e))
 nlt_is a b false e le = e
 
--- behind all nodes no group is left
+-- after all nodes no group is left
 pub none_left : (fuel per counter number start : ℕ) (link : Option ℕ) (entries : List NodeEntry) (n : ℕ) → node_count entries ≤ n → groups fuel per counter number start link entries n ≡ []
 none_left zero per counter number start link entries n done = refl
 none_left (suc fuel) per counter number start link entries n done = rw (nlt_is n (node_count entries) (nat_lt n (node_count entries)) refl done) refl
@@ -396,7 +396,7 @@ split_lt a b false e less more = more (ltb-false a b e)
 pub count_is : (ps : List Packet) → node_count (node_entries 0 ps) ≡ (length ps + 99) / 100
 count_is ps = ap (λ k. (k + 99) / 100) (entries_length 0 ps)
 
--- a whole group, behind which others come
+-- a whole group, after which others come
 group_full : (per : ℕ) (ps : List Packet) (n number start : ℕ) (link : Option ℕ) (before : List Packet) (m : ℕ) → AllByRecursion FitsPacket ps → length (file_bytes ps) < 2 ^ 63 → IsGroup per
     → Stands ps per n number start link [] before → m ≡ per → n + m < node_count (node_entries 0 ps)
     → Stands ps per (n + m) (number + m + 1)
@@ -442,7 +442,7 @@ group_last per ps n number start link before m fits short is s some most within 
       quiet = last_with None (before ++ nodes) (root_packet (last_time 0 ps) (number + length nodes) start link nodes);
     })
 
--- the group that comes next, and behind it the others
+-- the group that comes next, and after it the others
 pub groups_follow : (fuel per : ℕ) (ps : List Packet) (n number start : ℕ) (link : Option ℕ) (before : List Packet) → AllByRecursion FitsPacket ps → length (file_bytes ps) < 2 ^ 63 → IsGroup per
     → Stands ps per n number start link [] before → n < node_count (node_entries 0 ps) → node_count (node_entries 0 ps) ≤ n + fuel
     → IsWhole (before ++ groups fuel per (last_time 0 ps) number start link (node_entries 0 ps) n)
@@ -467,7 +467,7 @@ groups_follow (suc more) per ps n number start link before fits short is s left 
     (λ done. subst (λ (qs : List Packet). IsWhole (ended ++ qs)) (sym (none_left more per counter (number + m + 1) next (Some own) entries (n + m) done))
     (subst (λ (qs : List Packet). IsWhole qs) (sym (append-nil ended)) (group_last per ps n number start link before m fits short is s size.0 size.1 size.2 done))))
 
--- a file without an index, and its index behind it, are a file that is closed
+-- a file without an index, and its index after it, are a file that is closed
 pub index_closes : (per : ℕ) (ps : List Packet) → IsGroup per → IsFile ps → is_closed_file ps ≡ false → length (file_bytes ps) < 2 ^ 63 → IsFile (ps ++ index_of per ps) × (is_closed_file (ps ++ index_of per ps) ≡ true)
 index_closes per ps is file unclosed short =
     let none : count_by is_index ps ≡ 0 = file.index (not_whole ps unclosed) in

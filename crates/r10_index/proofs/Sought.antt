@@ -1,4 +1,4 @@
--- A packet's entries have counts from its counter on, and at most 1,000,000 behind it, so that a search reads each packet that has what is sought.
+-- A packet's entries have counts from its counter on, and at most 1,000,000 after it, so that a search reads each packet that has what is sought.
 use Rattle.std.proofs.Common.{◌≡◌, ℕ, zero, suc, ◌+◌, ◌-◌, ◌<◌, ◌≤◌, Bool, true, leb, List, [], ◌∷◌, ◌++◌, length, take, get_or, refl, sym, ap, subst, ◌∙◌, arith, append_assoc}
 use Rattle.std.specs.Prelude.{filter, Option}
 use Rattle.std.specs.List.{AllByRecursion, Contains}

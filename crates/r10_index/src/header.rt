@@ -7,7 +7,7 @@ ghost use Rattle.r10_index.specs.Headers.{node_header as told_node_header, root_
 use r10_count::Count;
 use r10_packet::{Header, TYPE_INDEX};
 
-/// The header of a node of so many entries behind so many packets on channel 0.
+/// The header of a node of so many entries after so many packets on channel 0.
 pub(crate) fn node_header(counter: Count, number: usize, entries: usize) -> Header
     requires { entries ≤ entries_per_node }
     ensures { result ≡ told_node_header counter number entries }
@@ -25,7 +25,7 @@ pub(crate) fn node_header(counter: Count, number: usize, entries: usize) -> Head
     }
 }
 
-/// The header of a root of so many nodes behind so many packets on channel 0.
+/// The header of a root of so many nodes after so many packets on channel 0.
 pub(crate) fn root_header(counter: Count, number: usize, nodes: usize) -> Header
     requires { nodes ≤ nodes_per_root }
     ensures { result ≡ told_root_header counter number nodes }

@@ -12,7 +12,7 @@ pub fn without_index()
     ensures { (packets : List Packet) → count_by is_index packets ≡ 0 → is_closed_file packets ≡ false }
 {}
 
-/// A file that isn't closed, with its index of groups of so many nodes behind it, keeps all rules and is closed.
+/// A file that isn't closed, with its index of groups of so many nodes after it, keeps all rules and is closed.
 pub fn written_index()
     ensures { (each : ℕ) (packets : List Packet) → IsGroup each → IsFile packets
         → is_closed_file packets ≡ false → length (file_bytes packets) < 2 ^ 63

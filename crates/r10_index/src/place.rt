@@ -19,7 +19,7 @@ pub struct IndexPlace {
 }
 
 impl IndexPlace {
-    /// Of the first packet, behind so many packets on channel 0, at an offset in the file.
+    /// Of the first packet, after so many packets on channel 0, at an offset in the file.
     pub fn first(number: usize, end: u64) -> IndexPlace
         ensures { result ≡ first_place number end }
     {
@@ -32,7 +32,7 @@ impl IndexPlace {
         }
     }
 
-    /// Of the packet behind a node of its group.
+    /// Of the packet after a node of its group.
     pub(crate) fn behind_node(self) -> IndexPlace
         requires { self.done < 2 ^ 32 }
         ensures { result ≡ record self { done = self.done + 1 } }

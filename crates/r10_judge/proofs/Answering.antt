@@ -43,20 +43,20 @@ seen bytes p reads =
     let is = framed bytes p reads in
     record { sound = is.sound; channel = ap (λ (h : Header). h.channel) is.header; flag = ap (λ (h : Header). bit_of 4 h.flags) is.header ∙ own_flag (flagged p) p.check reads.0.check }
 
--- what stands behind the packet that stands first
+-- what stands after the packet that stands first
 pub reads_behind : (packet more : List ℕ) → IsForeignPacket packet → drop (header_at (packet ++ more)).packet_len (packet ++ more) ≡ more
 reads_behind packet more foreign =
     let bytes : List ℕ = packet ++ more in
     append_cancel_left packet (drop (header_at bytes).packet_len bytes) more
     (ap (λ (l : List ℕ). l ++ drop (header_at bytes).packet_len bytes) (sym (first_again packet more foreign)) ∙ first_joined bytes)
 
--- a packet's bytes, whatever stands behind them, are read as that packet
+-- a packet's bytes, whatever stands after them, are read as that packet
 pub reads_first : (p : Packet) (rest : List ℕ) → FitsPacket p × KeepsChecksums p → ReadsPacket (packet_bytes p ++ rest) p
 reads_first p rest (fits, sums) = (fits, sums, first_again (packet_bytes p) rest (packet_foreign p fits))
 
 -- ---- answers
 
--- what is framed answers a report whatever stands behind it, or not
+-- what is framed answers a report whatever stands after it, or not
 answered_framed : (loss : LossBody) (bytes more : List ℕ) → framing_fault bytes ≡ None → IsAnswered loss bytes ↔ IsAnswered loss (bytes ++ more)
 answered_framed loss bytes more sound =
     let s = stays bytes more sound in (
@@ -74,7 +74,7 @@ no_answer loss bytes fault is answered = (let no : Some fault ≡ None = sym is 
 neither : (loss : LossBody) (bytes more : List ℕ) (f g : PacketFault) → framing_fault bytes ≡ Some f → framing_fault (bytes ++ more) ≡ Some g → IsAnswered loss bytes ↔ IsAnswered loss (bytes ++ more)
 neither loss bytes more f g here there = (λ is. absurd (no_answer loss bytes f here is), λ is. absurd (no_answer loss (bytes ++ more) g there is))
 
--- what has a fault, and has it whatever stands behind it
+-- what has a fault, and has it whatever stands after it
 faulty_answer : (loss : LossBody) (bytes more : List ℕ) (fault : FileFault) → HasFault bytes fault → HasFault (bytes ++ more) fault → IsAnswered loss bytes ↔ IsAnswered loss (bytes ++ more)
 faulty_answer loss bytes more Truncated here there = neither loss bytes more packet_faults.Truncated packet_faults.Truncated here there
 faulty_answer loss bytes more Sync here there = neither loss bytes more packet_faults.Sync packet_faults.Sync here there
@@ -134,7 +134,7 @@ pub no_report : (o : Option LossBody) (P : LossBody → Type 0) → o ≡ None �
 no_report None P none = tt
 no_report (Some loss) P none = absurd (let no : Some loss ≡ None = none in cc)
 
--- ---- the packet as it is told
+-- ---- the packet as it is reported
 
 -- a packet that is read is one with the gap that the report before it tells
 pub record IsToldAs (before : List Packet) (p q : Packet) : Type 0 where

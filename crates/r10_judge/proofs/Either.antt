@@ -24,7 +24,7 @@ use Rattle.r10_judge.specs.Judged.{KeepRules, SaysClosed}
 use Rattle.r10_judge.proofs.Answering.{quiet_at_end, reads_retold, told_packet}
 use Rattle.r10_judge.proofs.Judging.{begins, behind}
 
--- ---- what stands behind packets that keep the rules
+-- ---- what stands after packets that keep the rules
 
 -- nothing is wrong there
 abbrev NothingWrong : Bool → List Packet → List ℕ → Type 0

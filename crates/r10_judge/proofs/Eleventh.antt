@@ -22,7 +22,7 @@ reported-long : length (file_bytes reported) ≡ 168
 unfolding packet_bytes header_bytes
 reported-long = refl
 
--- it is at fault where what comes behind it is no flagged packet of its channel
+-- it is at fault where what comes after it is no flagged packet of its channel
 pub unanswered_report : (closed : Bool) (rest : List ℕ) → (IsAnswered one_lost rest → ⊥) → IsAtFault (file_bytes reported ++ rest) closed 124 (Rule 11)
 unanswered_report closed rest none =
     subst (λ (offset : ℕ). IsAtFault (file_bytes reported ++ rest) closed offset (Rule 11)) (ap (λ n. n - 44) reported-long)

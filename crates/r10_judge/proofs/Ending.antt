@@ -23,7 +23,7 @@ use Rattle.r10_judge.specs.Judged.{KeepRules, KeepsRulesSoFar, BreaksAt, SaysClo
 use Rattle.r10_judge.proofs.Answering.{no_report, quiet_at_end, report_answered_on}
 use Rattle.r10_judge.proofs.Judging.{begins, broken_here, least_here, pending, pending_breaks, pending_bytes, pending_keep, pending_least, pending_place, pending_quiet, whole_first}
 
--- ---- what stands behind a packet changes no rule of it
+-- ---- what stands after a packet changes no rule of it
 
 abbrev IsFilled : Header → List ℕ → List ℕ → Type 0
 IsFilled h body bytes = slice_range bytes 24 h.packet_len ≡ filled (checksum_bits h.flags) body (least_filler (checksum_bits h.flags) body)
@@ -93,7 +93,7 @@ broken_at_fault closed at bytes b = subst (λ (f : FirstFault). IsAtFault bytes 
   wrong = broken_rules.rule (subst IsForeignPacket (sym (first_again b.packet b.more b.foreign)) b.foreign) (broken_here closed at bytes b) (least_here closed at bytes b);
 })
 
--- what stands behind packets that keep the rules has another fault
+-- what stands after packets that keep the rules has another fault
 pub fault_at_fault : (closed : Bool) (tracks : Tracks) (before rest : List ℕ) (fault : FileFault) (goes : KeepsRulesSoFar closed tracks before) → (0 < length rest) ⊎ (length before ≡ 0) → HasFault rest fault
     → IsReportAnswered goes.packets rest → IsAtFault (before ++ rest) closed (length before) fault
 fault_at_fault closed tracks before rest fault goes some has answered = record {

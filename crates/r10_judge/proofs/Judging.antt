@@ -1,4 +1,4 @@
--- What a judge knows behind one packet more, and at the end of a file.
+-- What a judge knows after one packet more, and at the end of a file.
 use Rattle.std.proofs.Common.{◌≡◌, ◌↔◌, ℕ, ◌+◌, ◌-◌, ◌<◌, ◌≤◌, Bool, true, false, IsTrue, ◌==◌, List, [], ◌∷◌, ◌++◌, length, take, drop, map, Option, IfSome, Some, None, ◌⊎◌, inl, inr, min, not, is_some, true≢false, refl, sym, ap, ◌∙◌, subst, arith, append_assoc, lit≤}
 use Rattle.std.proofs.Math.Seq.{take-length}
 use Rattle.std.proofs.lemmas.Bool.{cases_lt}
@@ -34,7 +34,7 @@ use Rattle.r10_judge.proofs.Next.{next_packet}
 
 -- ---- one packet
 
--- a broken rule of a packet is one of its bytes, and the other way round but for what stands behind a report
+-- a broken rule of a packet is one of its bytes, and the other way round but for what stands after a report
 pub to_bytes : (closed : Bool) (before : List Packet) (bytes : List ℕ) (p : Packet) (n : ℕ) → ReadsPacket bytes p → BreaksIn closed before p n → BreaksRule before bytes closed n
 to_bytes closed before bytes p n reads (broken_rule b) = of_bytes before bytes closed p n reads b
 to_bytes closed before bytes p n reads (in_open_file index open_file) = broken_rules.unclosed p reads index open_file
@@ -81,14 +81,14 @@ pub breaks_none : (closed : Bool) (before : List Packet) (p : Packet) (n : ℕ) 
 breaks_none closed before p n may unclosed (broken_rule b) = may_break_none before p n may b
 breaks_none closed before p n may unclosed (in_open_file index open_file) = true≢false (sym index ∙ unclosed open_file)
 
--- of its bytes, whatever stands behind them, no rule below that of reports
+-- of its bytes, whatever stands after them, no rule below that of reports
 pub least_eleven : (closed : Bool) (before : List Packet) (bytes : List ℕ) (p : Packet) (n : ℕ) → ReadsPacket bytes p → MayFollow before p → (closed ≡ false → is_index p ≡ false) → BreaksRule before bytes closed n → 11 ≤ n
 least_eleven closed before bytes p n reads may unclosed breaks = elim (from_bytes closed before bytes p n reads breaks) [
   | inl is ↦ omega (arith, is)
   | inr b ↦ absurd (breaks_none closed before p n may unclosed b)
 ]
 
--- what stands behind it
+-- what stands after it
 abbrev pub behind : List ℕ → List ℕ
 behind bytes = drop (header_at bytes).packet_len bytes
 
@@ -150,7 +150,7 @@ first_of_index closed before p (Some n) index open_file first = by (cases_lt n 8
 
 -- ---- a packet more
 
--- behind the one that breaks a rule
+-- after the one that breaks a rule
 pub breaks_on : (closed : Bool) (at : FirstFault) (bytes more : List ℕ) → BreaksAt closed at bytes → BreaksAt closed at (bytes ++ more)
 breaks_on closed at bytes more b =
     let further : (later : List ℕ) → b.packet ++ ((b.more ++ more) ++ later) ≡ b.packet ++ (b.more ++ (more ++ later)) = λ later. ap (λ (l : List ℕ). b.packet ++ l) (append_assoc b.more more later) in

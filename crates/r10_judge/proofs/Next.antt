@@ -1,4 +1,4 @@
--- The packet behind others.
+-- The packet after others.
 use Rattle.std.proofs.Common.{◌≡◌, ℕ, ◌<◌, List, [], ◌∷◌, ◌++◌, length, sym, ap, ◌∙◌, subst, arith, append_assoc}
 use Rattle.std.proofs.lemmas.List.{append-nil, append_cancel_left}
 use Rattle.std.proofs.lemmas.List.Concat.{flat_map-append}
@@ -6,7 +6,7 @@ use Rattle.r10_body.specs.Packets.{Packet, packet_bytes, file_bytes}
 use Rattle.r10_body.specs.Rules.{EachFollows, MayFollow}
 use Rattle.r10_body.proofs.Injective.{one_beginning}
 
--- a packet stands behind others, first in these bytes, and others behind it
+-- a packet stands after others, first in these bytes, and others after it
 pub record IsNext (before all : List Packet) (rest : List ℕ) : Type 0 where
   pub packet : Packet
   pub more : List Packet

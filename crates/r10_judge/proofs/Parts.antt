@@ -62,7 +62,7 @@ window_is image e at count whole within inside = shown_as image e.first (file_at
     shows : Shows image e.first (file_at image e)
     shows = ap (λ (n : ℕ). take n (concat (drop e.first image))) size
 
--- what stands behind packets of a window, and behind the window
+-- what stands after packets of a window, and after the window
 window_joined : (file window : List ℕ) (at count n : ℕ) → window ≡ take count (drop at file) → n ≤ length window → drop n window ++ drop count (drop at file) ≡ drop (at + n) file
 window_joined file window at count n is le =
     let more : List ℕ = drop count (drop at file) in
@@ -71,7 +71,7 @@ window_joined file window at count n is le =
     ∙ ap (λ (l : List ℕ). drop n l) (take-append-drop count (drop at file))
     ∙ drop-drop n at file
 
--- what stands behind packets of a window has its fault in the file, but where it may only be cut off
+-- what stands after packets of a window has its fault in the file, but where it may only be cut off
 pub fault_on : (file window : List ℕ) (at count n : ℕ) (f : FileFault) → window ≡ take count (drop at file) → n ≤ length window → at + count ≤ length file
     → EndsWithFault (Some f) (drop n window) → (at + count < length file → f ≡ Truncated → ⊥) → EndsAt file (at + n) f
 fault_on file window at count n f is le inside ends cut = subst (λ (l : List ℕ). EndsWithFault (Some f) l) joined (longer, has)

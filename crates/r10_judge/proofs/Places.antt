@@ -22,7 +22,7 @@ use Rattle.r10_judge.specs.Judged.{SaysClosed}
 use Rattle.r10_judge.proofs.Answering.{answered_behind, no_report, reads_behind}
 use Rattle.r10_judge.proofs.Judging.{behind, keeps_all}
 
--- ---- what stands behind packets that keep the rules
+-- ---- what stands after packets that keep the rules
 
 -- another packet that keeps them stands first there
 pub record GoesOnWith (closed : Bool) (before : List Packet) (rest : List ℕ) : Type 0 where

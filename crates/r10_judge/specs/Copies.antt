@@ -5,7 +5,7 @@ use Rattle.r10_body.specs.Packets.{Packet}
 use Rattle.r10_body.specs.Rules.{node_entries}
 use Rattle.r10_body.specs.Vectors.{a_setup_packet, a_time_packet, uart_packet, a_node_packet, two_messages}
 
--- the packet of one message behind so many others
+-- the packet of one message after so many others
 abbrev pub copy : ℕ → Packet
 copy n = record uart_packet { sequence = n; content = uart (take 1 two_messages) }
 

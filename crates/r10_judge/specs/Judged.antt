@@ -26,7 +26,7 @@ pub record KeepsRulesSoFar (closed : Bool) (tracks : Tracks) (bytes : List ℕ) 
   pub keep : KeepRules closed packets
   pub tracked : IsTracked tracks packets
 
--- behind packets that keep the rules a packet of any recorder breaks one, whatever stands behind these bytes, and of those that it breaks this is the least
+-- after packets that keep the rules a packet of any recorder breaks one, whatever stands after these bytes, and of those that it breaks this is the least
 pub record BreaksAt (closed : Bool) (at : FirstFault) (bytes : List ℕ) : Type 0 where
   pub packets : List Packet
   pub packet : List ℕ
@@ -40,7 +40,7 @@ pub record BreaksAt (closed : Bool) (at : FirstFault) (bytes : List ℕ) : Type 
   pub broken : (later : List ℕ) → BreaksRule packets (packet ++ (more ++ later)) closed number
   pub least : (later : List ℕ) (m : ℕ) → BreaksRule packets (packet ++ (more ++ later)) closed m → number ≤ m
 
--- where a judge stands behind these bytes of packets
+-- where a judge stands after these bytes of packets
 abbrev pub StandsAt : Option FirstFault → Bool → Tracks → List ℕ → Type 0
 StandsAt None closed tracks bytes = KeepsRulesSoFar closed tracks bytes
 StandsAt (Some at) closed tracks bytes = BreaksAt closed at bytes
@@ -54,7 +54,7 @@ TellsAnswer told tracks rest = (packets : List Packet) → IsTracked tracks pack
 
 -- ---- one packet more
 
--- a packet breaks this rule behind these, in a file whose directory entry is closed or not
+-- a packet breaks this rule after these, in a file whose directory entry is closed or not
 pub data BreaksIn (closed : Bool) (before : List Packet) (p : Packet) : ℕ → Type 0 where
   broken_rule : {n : ℕ} → Breaks before p n → BreaksIn closed before p n
   in_open_file : IsTrue (is_index p) → closed ≡ false → BreaksIn closed before p 8
@@ -91,7 +91,7 @@ pub record TracksStrictFile (closed : Bool) (tracks : Tracks) (bytes : List ℕ)
   pub say : PacketsSay packets text entries closed
   pub tracked : IsTracked tracks packets
 
--- nothing is missing behind packets that keep the rules and of which no report stands last, or what is missing makes the file end with this fault
+-- nothing is missing after packets that keep the rules and of which no report stands last, or what is missing makes the file end with this fault
 abbrev pub MayMiss : Bool → List Packet → Option FileFault → Type 0
 MayMiss closed packets None = (2 ≤ length packets) × (is_closed_file packets ≡ closed) × EndsIndex packets
 MayMiss closed packets (Some fault) = IsWrongHere packets [] closed fault

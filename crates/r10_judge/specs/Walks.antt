@@ -22,7 +22,7 @@ EndsWithFault (Some fault) rest = (0 < length rest) × HasFault rest fault
 abbrev pub EndsAt : List ℕ → ℕ → FileFault → Type 0
 EndsAt bytes offset fault = EndsWithFault (Some fault) (drop offset bytes)
 
--- what stands at an offset has this fault, and it is told whether it answers the report that stands last
+-- what stands at an offset has this fault, and it is reported whether it answers the report that stands last
 pub record IsFaultTold (bytes : List ℕ) (offset : ℕ) (told : Bool) (tracks : Tracks) (fault : FileFault) : Type 0 where
   pub ends : EndsAt bytes offset fault
   pub answered : TellsAnswer told tracks (drop offset bytes)

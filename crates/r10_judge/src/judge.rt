@@ -130,7 +130,7 @@ impl Judge {
         Ok(Ok(any.packet))
     }
 
-    /// Whether a packet breaks a rule. What comes behind it isn't read as this recorder's.
+    /// Whether a packet breaks a rule. What comes after it isn't read as this recorder's.
     fn is_broken(&self) -> bool
         ensures { result ≡ is_some self.now.broken }
     {
@@ -172,7 +172,7 @@ impl Judge {
         }
     }
 
-    /// What is kept of packets that keep the rules, or the fault of the file that ends behind them.
+    /// What is kept of packets that keep the rules, or the fault of the file that ends after them.
     fn finish_packets(self) -> Result<Tracks, FirstFault>
         ensures { (bytes : List ℕ) → KeepsRulesSoFar self.closed self.tracks bytes → MatchResult result
             (λ tracks. TracksStrictFile self.closed tracks bytes) (λ at. IsAtFault bytes self.closed at.offset at.fault) }
@@ -195,7 +195,7 @@ impl Judge {
     }
 
     /// Where and how the file is at fault whose next packet has this fault of framing, checksum or body: there, or
-    /// where a packet before it breaks a rule. It is told whether that packet answers the report that stands last.
+    /// where a packet before it breaks a rule. It is reported whether that packet answers the report that stands last.
     pub fn fault_behind(&self, fault: FileFault, answered: bool) -> FirstFault
         ensures { (before rest : List ℕ) → TracksJudged self.now before → (0 < length rest) ⊎ (length before ≡ 0)
             → HasFault rest fault → TellsAnswer answered self.now.tracks rest
@@ -250,7 +250,7 @@ impl Judge {
         }
     }
 
-    /// What is missing behind packets that keep the rules: a first packet, a time, or the index.
+    /// What is missing after packets that keep the rules: a first packet, a time, or the index.
     fn missing(&self) -> Option<FileFault>
         ensures { (bytes : List ℕ) (goes : KeepsRulesSoFar self.now.closed self.now.tracks bytes)
             → MayMiss self.now.closed goes.packets result }

@@ -7,7 +7,7 @@ ghost use Rattle.r10_body.specs.Rules.{EachFollows, MayFollow};
 ghost use Rattle.r10_body.specs.declared.fault.FileFault.{FileFault};
 ghost use Rattle.r10_judge.specs.Judged.{SaysClosed};
 
-/// Where a file's packets go on behind packets that keep the rules, the next one may follow them.
+/// Where a file's packets go on after packets that keep the rules, the next one may follow them.
 pub fn next_packet()
     ensures { (packets : List Packet) (all : List Packet) (rest : List ℕ) → EachFollows [] packets
         → EachFollows [] all → file_bytes all ≡ file_bytes packets ++ rest → 0 < length rest

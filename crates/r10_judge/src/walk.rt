@@ -23,7 +23,7 @@ pub struct Walk {
 pub(crate) struct Taken {
     /// How many bytes the packets have.
     pub length: usize,
-    /// The fault of what stands behind them, where something does.
+    /// The fault of what stands after them, where something does.
     pub fault: Option<FileFault>,
     /// Whether that answers the report that stands last, where one does.
     pub answered: bool,

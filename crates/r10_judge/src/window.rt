@@ -24,7 +24,7 @@ const WINDOW: usize = LONGEST_PACKET as usize;
 pub struct Walked {
     /// The packets that were taken.
     pub walk: Walk,
-    /// The fault of what stands behind them; `None` at the file's end.
+    /// The fault of what stands after them; `None` at the file's end.
     pub fault: Option<FileFault>,
     /// Whether that answers the report that stands last, where one does.
     pub answered: bool,
@@ -87,7 +87,7 @@ pub fn walk_file<M: BlockMedium>(
     })
 }
 
-/// The next window behind one of which packets of so many bytes were taken: twice as large where there was none.
+/// The next window after one of which packets of so many bytes were taken: twice as large where there was none.
 fn next_window(window: usize, taken: usize) -> usize
     requires { taken ≡ 0 → window < 2 ^ 62 }
     ensures least { window ≤ result }
@@ -137,7 +137,7 @@ fn take_window<M: BlockMedium>(
     })
 }
 
-/// A fault behind packets; none where bytes may only be missing because they were cut off.
+/// A fault after packets; none where bytes may only be missing because they were cut off.
 fn fault_of(fault: Option<FileFault>, cut: bool) -> Option<FileFault>
     ensures some { IfSome result (λ f. (fault ≡ Some f) × (cut ≡ true → f ≡ file_faults.Truncated → ⊥)) }
     ensures none { IfNone result ((fault ≡ None) ⊎ (cut ≡ true)) }

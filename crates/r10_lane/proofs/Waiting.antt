@@ -44,7 +44,7 @@ passed spec last count message fine =
     let order = none_broken (is_not_before last count) CountBack [] range.1 in
     (parts.0, not_before last count order.0, small count range.0)
 
--- and may go behind what waits
+-- and may go after what waits
 pub waits_more : (spec : ChannelSpec) (last : Option ℕ) (waiting : List Sample) (x : Sample) → Waits spec (count_or_0 last) waiting → first_broken (taking_checks spec last x.count x.message) ≡ None → IsSoundGap x.gap → Waits spec x.count (waiting ++ x ∷ [])
 waits_more spec last waiting x waits fine sound =
     let fine = passed spec last x.count x.message fine in

@@ -55,7 +55,7 @@ one_is_taken = record { front = refl; others = refl; gives = record { passes = (
 a_gap_is_marked : Offers (lane (second ∷ []) (Some 1002) 1 1) 1004 (text 0x44) (Ok tt) (lane (second ∷ sample 1004 0x44 (Lost 1) ∷ []) (Some 1004) 0 1)
 a_gap_is_marked = (refl, refl)
 
--- behind three losses the next tells three
+-- after three losses the next tells three
 three_are_told : Offers (lane (second ∷ []) (Some 1002) 3 3) 1004 (text 0x44) (Ok tt) (lane (second ∷ sample 1004 0x44 (Lost 3) ∷ []) (Some 1004) 0 3)
 three_are_told = (refl, refl)
 

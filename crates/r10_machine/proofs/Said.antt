@@ -1,4 +1,4 @@
--- What a medium says outlasts writes behind it.
+-- What a medium says outlasts writes after it.
 use Rattle.std.proofs.Common.{◌≡◌, ℕ, suc, ◌+◌, ◌-◌, ◌/◌, ◌<◌, ◌≤◌, Bool, true, false, ◌&&◌, List, [], ◌∷◌, ◌++◌, length, take, drop, get_or-drop, get_or-take, ext_get_or, Option, Some, None, refl, sym, ap, subst, ◌∙◌, arith}
 use Rattle.std.specs.Prelude.{nat_lt, nat_le, ◌==◌, ◌≢◌}
 use Rattle.std.specs.List.{All, concat, last_or}
@@ -30,7 +30,7 @@ use Rattle.r10_count.proofs.Rules.{none_broken}
 
 -- ---- bytes
 
--- bytes lie in their blocks, whatever stands behind them
+-- bytes lie in their blocks, whatever stands after them
 in_blocks : (image part : Image) (first size : ℕ) → take (blocks_of size) (drop first image) ≡ part → size ≤ length (concat part) → bytes_from image first size ≡ take size (concat part)
 in_blocks image part first size is room =
     ap (λ (l : Image). take size (concat l)) (sym (take-append-drop (blocks_of size) (drop first image)) ∙ ap (λ (l : Image). l ++ drop (blocks_of size) (drop first image)) is)
@@ -89,7 +89,7 @@ after blocks n e f is lists =
     let first : e.first_block ≡ n = stands_at blocks n e is in
     (sym lists.first_block ∙ first, omega (arith, first, lists.first_block, lists.block_count))
 
--- the last of files behind a block is behind it
+-- the last of files after a block is after it
 last_behind : (old : Image) (blocks n : ℕ) (entries : List DirectoryEntry) (files : List File) (f : File) → Stand blocks n entries → SaysEach old entries (files ++ f ∷ []) → n ≤ f.first_block
 last_behind old blocks n [] [] f stand each = absurd each
 last_behind old blocks n [] (g ∷ files) f stand each = absurd each
@@ -125,7 +125,7 @@ grown_keep old new blocks n (e ∷ entries) (g ∷ files) f whole kept same byte
       grown_keep old new blocks (n + e.block_count) entries files f whole kept same bytes stand.1 each.2,
     )
 
--- the block behind the last file, where the one before these ends there
+-- the block after the last file, where the one before these ends there
 abbrev behind : Config → Option File → ℕ
 behind s d = elim d [ None ↦ 1 + s.directory | Some f ↦ f.first_block + blocks_of f.size ]
 

@@ -120,7 +120,7 @@ erased_climb files [] all = tt
 erased_climb files (lane ∷ lanes) (here, all) =
     (climbs_last 0 (counts_on lane.spec.id files) (map (λ x. x.count) lane.waiting) (count_or_0 lane.last) here, erased_climb files lanes all)
 
--- there is a number behind it
+-- there is a number after it
 next_below : (n most : ℕ) → n < most - 1 → n + 1 < most
 next_below n most below = omega (arith, below)
 

@@ -311,7 +311,7 @@ uncounted (more, (uses, room, rose, fails)) = omega (arith, rose (lit< tt))
 pub pump-fails : Step settings lost (events.Pump 5 1) (replies.Refused refusals.Medium) (record (with_lane 5 (without 1) lost) { mode = Failed; failures = 1 })
 pump-fails = (lit≤ tt, (refl, refl, λ less. lit< tt, record { end = record lost { failures = 1 }; either = inl refl; files = refl; lanes = ((1, lit≤ tt, refl), ((0, lit≤ tt, refl), tt)); rest = refl }))
 
--- an offer doesn't fail, and nor does a loss that is told
+-- an offer doesn't fail, and nor does a loss that is reported
 pub offer-fails : (next : Machine) → Step settings started (events.Offer 5 1001 (text [])) (replies.Refused refusals.Medium) next → ⊥
 offer-fails next (more, (uses, room, rose, fails)) = cc
 

@@ -3,7 +3,7 @@ use Rattle.std.specs.Prelude.{ℕ, List}
 use Rattle.r10_body.specs.declared.spec.ChannelSpec.{ChannelSpec}
 
 pub record Config : Type 0 where
-  -- the medium's blocks, and how many of them behind block 0 are reserved for the directory
+  -- the medium's blocks, and how many of them after block 0 are reserved for the directory
   pub blocks : ℕ
   pub directory : ℕ
   -- the volume's name

@@ -349,6 +349,6 @@ losses-outside = (
   ),
 )
 
--- of all that was lost, told or refused, the lane keeps the number
+-- of all that was lost, reported or refused, the lane keeps the number
 pub all-told : map (λ (l : Lane). l.lost) told_stopped.lanes ≡ 51 ∷ 0 ∷ []
 all-told = refl

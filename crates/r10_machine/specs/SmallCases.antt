@@ -62,7 +62,7 @@ full-cost = refl
 pub just-fits : room_for narrow small_file (entry 5 1 (text (replicate 32 0)) Whole ∷ []) ≡ 1
 just-fits = refl
 
--- an entry behind one that doesn't fit isn't taken, though it is shorter
+-- an entry after one that doesn't fit isn't taken, though it is shorter
 pub none-passes : room_for narrow small_file (entry 5 1 (text (replicate 33 0)) Whole ∷ entry 5 2 (text []) Whole ∷ []) ≡ 0
 none-passes = refl
 
@@ -73,7 +73,7 @@ three = entry 5 1001 (four_bytes 1) Whole ∷ entry 5 1002 (four_bytes 2) Whole 
 pub fitting-areas : map (λ area. fitting area 364 three) (363 ∷ 483 ∷ 484 ∷ 512 ∷ 1024 ∷ []) ≡ 0 ∷ 0 ∷ 1 ∷ 1 ∷ 3 ∷ []
 fitting-areas = refl
 
--- a message of one byte needs 117 bytes, and one behind a loss whose number is told 185
+-- a message of one byte needs 117 bytes, and one after a loss whose number is reported 185
 pub fitting-losses : map (λ area. fitting area 364 (entry 5 1 (text (0x44 ∷ [])) Whole ∷ [])) (480 ∷ 481 ∷ []) ++ map (λ area. fitting area 364 (entry 5 1 (text (0x44 ∷ [])) (Lost 3) ∷ [])) (548 ∷ 549 ∷ []) ≡ 0 ∷ 1 ∷ 0 ∷ 1 ∷ []
 fitting-losses = refl
 

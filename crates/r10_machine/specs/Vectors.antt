@@ -180,7 +180,7 @@ second_name = 0x46 ∷ 0x4C ∷ 0x54 ∷ 0x32 ∷ []
 abbrev pub second_time : Entry
 second_time = entry 1 2000 (Time leap_day) Whole
 
--- the block behind the first file is its first
+-- the block after the first file is its first
 abbrev pub second_begun : File
 second_begun = record begun { name = second_name; entries = second_time ∷ []; first_block = 4 }
 

@@ -9,7 +9,7 @@ ghost use Rattle.r10_machine.specs.EventChecks.{count_at_checks, erase_checks, f
 use r10_body::Refusal;
 use r10_count::{Civil, Count, Parts};
 
-/// A file whose name isn't taken, behind a last one that is closed, where there are fewer than so many.
+/// A file whose name isn't taken, after a last one that is closed, where there are fewer than so many.
 pub fn check_beside(taken: bool, sealed: bool, files: usize, most: usize) -> Result<(), Refusal>
     ensures { Tests (first_broken
         ((not taken, refusals.NameTaken) ∷ (sealed, refusals.Unsealed) ∷ (nat_lt files most, refusals.DirectoryFull) ∷ [])) result }

@@ -16,7 +16,7 @@ ghost use Rattle.r10_medium.specs.Stop.{SameBelow};
 ghost use Rattle.r10_machine.specs.Says.{Lists, MediumSays, SaysEach, SaysFile};
 ghost use Rattle.r10_blockout.specs.Blocks.{bytes_from};
 
-/// What a medium says of its files, it goes on saying where no block below the one behind them
+/// What a medium says of its files, it goes on saying where no block below the one after them
 /// changes; and where the last of them is being written, where no block below it changes, and its
 /// shown bytes stay.
 pub fn files_stand()
@@ -36,7 +36,7 @@ pub fn directories_turn()
         → SaysEach old (listed_files chain) files → MediumSays s new files }
 {}
 
-/// A file is listed behind others, or in place of the last.
+/// A file is listed after others, or in place of the last.
 pub fn files_are_listed()
     ensures more { (image : Image) (entries : List DirectoryEntry) (files : List File) (e : DirectoryEntry) (f : File)
         → SaysEach image entries files → Lists f e → SaysFile image f → SaysEach image (entries ++ e ∷ []) (files ++ f ∷ []) }

@@ -1,4 +1,4 @@
--- A medium of which the blocks behind the highest written one are zeros.
+-- A medium of which the blocks after the highest written one are zeros.
 use Rattle.std.proofs.Common.{◌≡◌, ℕ, ◌+◌, ◌-◌, ◌<◌, ◌≤◌, ◌++◌, length, take, replicate, get_or, set, sym, ◌∙◌, ap, arith}
 use Rattle.std.proofs.lemmas.List.{append-nil, append_assoc, length-append, length-replicate, replicate-append-replicate, set-append_left, take_all}
 use Rattle.r10_medium.specs.Disk.{Image, Block}
@@ -9,7 +9,7 @@ pub put_made : (size n : ℕ) (front : Image) (block : Block) → n < length fro
 put_made size n front block lt same =
     ap (λ (k : ℕ). set front n block ++ replicate (size - k) zeros) same ∙ sym (set-append_left front (replicate (size - length front) zeros) n block lt)
 
--- zeros that are made behind the front
+-- zeros that are made after the front
 pub more_made : (size to : ℕ) (front made : Image) → length front ≤ to → to ≤ size → made ≡ take to front ++ replicate (to - length front) zeros
     → with_zeros size made ≡ with_zeros size front
 more_made size to front made le room is =
@@ -24,7 +24,7 @@ more_made size to front made le room is =
     long : length made ≡ to
     long = omega (arith, le, ap length plain, length-append front (replicate (to - length front) zeros), length-replicate (to - length front) zeros)
 
--- where all are made, there is nothing behind them
+-- where all are made, there is nothing after them
 pub all_made : (size : ℕ) (front : Image) → size ≤ length front → front ≡ with_zeros size front
 all_made size front le = sym (append-nil front) ∙ ap (λ (k : ℕ). front ++ replicate k zeros) none
   where

@@ -5,7 +5,7 @@ ghost use Rattle.r10_medium.specs.Stop.{Leaves};
 
 use crate::{BlockMedium, MediumFault};
 
-/// Makes sure what was written, and then writes block `n`, which is sure at `Ok`. A stop leaves
+/// Syncs what was written, and then writes block `n`, which is synced at `Ok`. A stop leaves
 /// what it could leave before, or what is read with this block in its place.
 pub fn publish<M: BlockMedium>(
     medium: &mut M,

@@ -16,7 +16,7 @@ message_word count = le_bytes 4 count
 abbrev pub message_header : MessageEntry → ℕ
 message_header e = flag_at 31 e.data_error + flag_at 30 e.format + 2 ^ 16 * e.sub + length e.bytes
 
--- a zero byte stands behind an odd number of bytes
+-- a zero byte stands after an odd number of bytes
 abbrev pub message_entry : MessageEntry → List ℕ
 message_entry e = stamp e.count ++ le_bytes 4 (message_header e) ++ padded e.bytes
 

@@ -37,7 +37,7 @@ last_segments = refl
 pub no-word : is_opaque_message (2 ∷ 0 ∷ 1 ∷ []) ≡ false
 no-word = refl
 
--- the last subchannel, and one behind it
+-- the last subchannel, and one after it
 pub greatest-fits : FitsMessage (message_of 281474976710655 true false 16383 (0x5A ∷ 0xA5 ∷ []))
 greatest-fits = record { count = lit< tt; sub = lit< tt; bytes = lit< tt }
 
@@ -48,6 +48,6 @@ subchannel-16384 fits = omega (arith, fits.sub)
 abbrev pub message_front : ℕ → List ℕ
 message_front bytes = 0xFF ∷ 0xFF ∷ 0xFF ∷ 0xFF ∷ 0xFF ∷ 0xFF ∷ 0xFF ∷ 0xFF ∷ bytes ∷ 0 ∷ 0xFF ∷ 0xFF ∷ []
 
--- any upper half of the word, any stamp and header, and any byte behind an odd number of bytes, may be another recorder's
+-- any upper half of the word, any stamp and header, and any byte after an odd number of bytes, may be another recorder's
 pub another-recorders : IsForeignMessage ((2 ∷ 0 ∷ 0xFC ∷ 0xFF ∷ []) ++ message_front 1 ++ (0x41 ∷ 0x20 ∷ []) ++ message_front 0)
 another-recorders = (0xFFFC0002, (message_front 1 ++ (0x41 ∷ 0x20 ∷ [])) ∷ message_front 0 ∷ [], lit< tt, refl, ((lit≤ tt, refl), ((lit≤ tt, refl), tt)), refl)

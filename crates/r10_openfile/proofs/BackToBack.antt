@@ -63,7 +63,7 @@ all_closed image d (e ∷ c ∷ entries) (f ∷ files) each others last =
     All-cons Closed e (c ∷ entries) (All-head Closed e (take (length (c ∷ entries) - 1) (c ∷ entries)) front)
     (all_closed image (Some f) (c ∷ entries) files each.2 (All-tail Closed e (take (length (c ∷ entries) - 1) (c ∷ entries)) front) last)
 
--- ---- bytes behind the blocks that change
+-- ---- bytes after the blocks that change
 
 pub same_from : (old new : Image) (first size : ℕ) (numbers : List ℕ) → SameButIn numbers old new → All (λ (n : ℕ). n < first) numbers → bytes_from new first size ≡ bytes_from old first size
 same_from old new first size numbers same all =

@@ -1,4 +1,4 @@
--- A file that is written behind all others, before it is listed.
+-- A file that is written after all others, before it is listed.
 use Rattle.std.proofs.Common.{◌≡◌, ℕ, List, [], ◌++◌, None, subst, arith}
 use Rattle.std.proofs.lemmas.List.Elements.{All-from_get_or}
 use Rattle.r10_count.specs.Checks.{first_broken}
@@ -45,7 +45,7 @@ directory_below s old new chain files says there below =
           still_holds old new (at chain i) (there.holds i blank_block lt) below.size (below.blocks (at chain i).number (omega (arith, place.0, place.1, next))));
     }
 
--- ---- blocks behind all files
+-- ---- blocks after all files
 
 module _ (s : Config) (files : List File) (bytes : List ℕ) (old new : Image) (whole : IsWhole old) (put : IsPut (next_block s files) bytes old new) where
   below : SameBelow (next_block s files) 0 old new

@@ -32,7 +32,7 @@ use Rattle.r10_openfile.proofs.BehindAll.{behind_holds, behind_moments}
 use Rattle.r10_openfile.proofs.BackToBack.{same_from}
 use Rattle.r10_openfile.proofs.ListedTurning.{begun_held, begun_moments, begun_reads, begun_settled, sure_says}
 
--- ---- whatever the medium has: its directory stays while blocks behind it are put
+-- ---- whatever the medium has: its directory stays while blocks after it are put
 
 pub directory_stays : (old new sure : Disk) (chain : List ChainBlock) (first : ℕ) (blocks : Image) → IsDirectory old.blocks chain → All (λ (b : ChainBlock). b.number < first) chain → Puts first blocks old new → Unchanged new sure → IsDirectory sure.blocks chain
 directory_stays old new sure chain first blocks there below put same =

@@ -58,7 +58,7 @@ drop_front (x ∷ xs) ys = drop_front xs ys
 
 -- ---- what goes in
 
--- The first go in, where they have room, and where nothing is behind them or what comes next costs too much.
+-- The first go in, where they have room, and where nothing is after them or what comes next costs too much.
 pub takes_in : (s : Config) (f : File) (front back : List Entry) (cost : ℕ) → cost ≡ cost_of f + sum_by entry_cost front → (0 < length front → cost ≤ area s f)
     → (back ≡ []) ⊎ IsSomeAnd (slice_get back 0) (λ e. area s f < cost + entry_cost e) → TakesIn s f (front ++ back) (length front)
 takes_in s f front back cost is room why = omega (arith, within front is room, most back why)

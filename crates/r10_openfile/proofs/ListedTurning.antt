@@ -1,4 +1,4 @@
--- A file that was written behind all others, while it is listed: what the medium says at every moment, and then.
+-- A file that was written after all others, while it is listed: what the medium says at every moment, and then.
 use Rattle.std.proofs.Common.{◌≡◌, ℕ, ◌<◌, ◌≤◌, ◌⊎◌, inl, inr, ⊎_elim, Bool, true, false, List, [], ◌∷◌, ◌++◌, length, None, Some, Result, sym, subst, ◌∙◌, arith}
 use Rattle.std.specs.Prelude.{◌≢◌, OnOk, if◌then◌else◌}
 use Rattle.std.specs.List.{All}
@@ -43,7 +43,7 @@ spare_apart reserved blocks chain mounts i lt = by (last_is_full chain)
         let place = placed reserved 1 chain (usable_of reserved blocks chain mounts).placed i lt in
         All-cons (λ (n : ℕ). (at chain i).number ≢ n) (next_number chain) [] (λ is. omega (arith, is, place.0, lt)) (All-nil (λ (n : ℕ). (at chain i).number ≢ n))
 
--- the medium says what it said, by the same directory
+-- the medium says what it stated, by the same directory
 unlinked_says : (s : Config) (old new : Image) (chain : List ChainBlock) (files : List File) → IsWhole old → MediumSays s old files → IsDirectory old chain → All (λ (n : ℕ). n ≤ s.directory) (spare chain) → SameButIn (spare chain) old new
     → MediumSays s new files
 unlinked_says s old new chain files whole says there reserved same =
@@ -106,6 +106,6 @@ module _ {T E : Type 0} (s : Config) (chain : List ChainBlock) (files : List Fil
       on_ok result (Settled turned new) (Settled (λ image. MediumSays s image (files ++ f ∷ []) × (bytes_from image f.first_block f.size ≡ bytes_from new.blocks f.first_block f.size) × IsDirectory image (added e chain)) new)
       (λ settled image now. (made image (settled image now), bytes image (settled image now) ∙ sym (bytes new.blocks (settled_reads turned new settled)), (settled image now).directory)) turns.settled
 
--- of a medium that was made sure, a stop leaves what is read
+-- of a medium that was synced, a stop leaves what is read
 pub sure_says : (s : Config) (disk : Disk) (chain : List ChainBlock) (files : List File) → IsSynced disk → HoldsFiles s disk.blocks chain None files → Settled (λ image. MediumSays s image files × IsDirectory image chain) disk
 sure_says s disk chain files synced held image now = subst (λ (l : Image). MediumSays s l files × IsDirectory l chain) (sym (one_image disk synced image now)) (held.says, held.directory)

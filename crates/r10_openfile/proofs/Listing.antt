@@ -1,4 +1,4 @@
--- A file that was written behind all others is listed.
+-- A file that was written after all others is listed.
 use Rattle.std.proofs.Common.{◌≡◌, ℕ, ◌+◌, ◌*◌, ◌/◌, ◌<◌, ◌≤◌, Bool, true, false, ◌&&◌, List, [], ◌∷◌, ◌++◌, length, take, Option, None, Some, refl, sym, ap, subst, ◌∙◌, arith, length-append}
 use Rattle.std.specs.Prelude.{slice_set, nat_lt, nat_le, ◌==◌, IsSomeAnd, if◌then◌else◌}
 use Rattle.std.specs.List.{All}

@@ -11,7 +11,7 @@ use Rattle.r10_medium.proofs.Stops.{below_puts, reads_now, settled_now, weakened
 use Rattle.r10_machine.proofs.Said.{growing_stands}
 use Rattle.r10_openfile.specs.Keeping.{StopKeepsFiles, Keeps, StaysKept}
 
--- blocks of the file's bytes are put, whatever of them: what was shown is shown, and the medium says what it said
+-- blocks of the file's bytes are put, whatever of them: what was shown is shown, and the medium says what it stated
 pub keeps_put : (s : Config) (files : List File) (f : File) (bytes : List ℕ) (n : ℕ) (shown a b : Image) → IsWhole a → f.size ≤ length bytes
     → bytes_from shown f.first_block f.size ≡ take f.size bytes → PutsSome f.first_block (first_blocks bytes n) a b → Keeps s files f shown a → Keeps s files f shown b
 keeps_put s files f bytes n shown a b whole within shows put keeps =

@@ -21,7 +21,7 @@ use Rattle.r10_machine.proofs.Said.{directory_keeps}
 use Rattle.r10_machine.specs.Says.{MediumSays}
 use Rattle.r10_openfile.specs.Keeping.{Becomes, StopKeepsFiles, Keeps}
 
--- ---- blocks behind the reserved ones
+-- ---- blocks after the reserved ones
 
 pub none_zeroth : (numbers : List ℕ) → All (λ (n : ℕ). 1 ≤ n) numbers → All (λ (n : ℕ). 0 ≢ n) numbers
 none_zeroth numbers some i d lt is = omega (arith, is, some i d lt)

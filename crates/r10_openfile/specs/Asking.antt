@@ -33,7 +33,7 @@ pub record AreNew (s : Config) (builders : List BuilderState) : Type 0 where
   pub settings : AreChannelSettings 0 (specs_of builders)
   pub none : all_held builders ≡ []
 
--- behind the files that a directory lists, which are closed, there is a place for one more, of this name and with this setup text
+-- after the files that a directory lists, which are closed, there is a place for one more, of this name and with this setup text
 pub record MayBegin (s : Config) (image : Image) (chain : List ChainBlock) (builders : List BuilderState) (called text : List ℕ) : Type 0 where
   pub size : length image ≡ s.blocks
   pub usable : IsUsable s.directory image chain
@@ -49,7 +49,7 @@ pub record MayPutFirst (s : Config) (image : Image) (builders : List BuilderStat
   pub short : length text ≤ longest_text
   pub room : 512 * first + file_cost text (time_entry_at s.time count civil ∷ []) ≤ 512 * length image
 
--- the file carries something behind the blocks of a directory, which has a place and memory for an entry more
+-- the file carries something after the blocks of a directory, which has a place and memory for an entry more
 pub record MayBeListed (r : Recording) (image : Image) (chain : List ChainBlock) (e : DirectoryEntry) (room reserved : ℕ) : Type 0 where
   pub inside : HasRoomOnMedium r.out.blocks 0 (length image)
   pub carries : (text : List ℕ) × (entries : List Entry) × Records r image text entries

@@ -35,7 +35,7 @@ pub record SparesFront (first : ℕ) (old new : Disk) : Type 0 where
   pub moments : Leaves (ComesBy (SameFront first []) old) old new
   pub reads : SameFront first [] old.blocks new.blocks
 
--- a file that begins at this block is listed at once behind the others, by some size
+-- a file that begins at this block is listed at once after the others, by some size
 abbrev pub BeginsAtOnce : List ℕ → Parts → ℕ → List ChainBlock → Disk → Disk → Type 0
 BeginsAtOnce name civil first chain old new =
     (size : ℕ) × TurnsAtOnce first (added (sized size (begun_entry name first civil)) chain) (spare chain)

@@ -1,4 +1,4 @@
--- What a call does that begins a file behind those that a directory lists.
+-- What a call does that begins a file after those that a directory lists.
 use Rattle.std.specs.Prelude.{◌≡◌, ◌≤◌, ◌+◌, ◌*◌, ◌⊎◌, ℕ, List, [], ◌∷◌, ◌++◌, length, None, Some, Result, IfErr, IfOk, MatchResult}
 use Rattle.std.specs.List.{AllByRecursion}
 use Rattle.r10_blockout.specs.Output.{first_of, size_of}
@@ -28,7 +28,7 @@ use Rattle.r10_volume.specs.Holding.{HoldsFiles, OpenState}
 use Rattle.r10_volume.specs.Listing.{block_behind}
 use Rattle.r10_volume.specs.Mounting.{IsUsable}
 
--- After an Ok the files that there were are held with this one behind them, and a stop leaves them so. Where the medium fails, and at every moment, it says the files that there were, or those with this one.
+-- After an Ok the files that there were are held with this one after them, and a stop leaves them so. Where the medium fails, and at every moment, it says the files that there were, or those with this one.
 -- The machine's own test of room is the call's, where these are its files.
 pub record BeginsFile {E : Type 0} (s : Config) (name text : List ℕ) (count : ℕ) (civil : Parts) (chain : List ChainBlock) (old : Disk) (chain' : List ChainBlock) (new : Disk) (result : Result OpenState E) : Type 0 where
   pub holds : (files : List File) → HoldsFiles s old.blocks chain None files → IfOk result (λ (file : OpenState). HoldsFiles s new.blocks chain' (Some file) (files ++ begun_file s files name text count civil ∷ []))

@@ -1,4 +1,4 @@
--- A file that was written behind all others, before it is listed.
+-- A file that was written after all others, before it is listed.
 use Rattle.std.specs.Prelude.{◌≡◌, ◌<◌, ℕ, false, true, List, [], ◌++◌, None, length}
 use Rattle.r10_medium.specs.Disk.{Image}
 use Rattle.r10_medium.specs.Stop.{PutsSome}
@@ -18,13 +18,13 @@ use Rattle.r10_machine.specs.Room.{next_block}
 use Rattle.r10_machine.specs.EventChecks.{most_files}
 use Rattle.r10_machine.specs.Says.{Lists}
 
--- some blocks of a file are put over an image, from its first on, each as these bytes and what came behind them
+-- some blocks of a file are put over an image, from its first on, each as these bytes and what came after them
 pub record IsPut (first : ℕ) (bytes : List ℕ) (old new : Image) : Type 0 where
   pub more : List ℕ
   pub count : ℕ
   pub puts : PutsSome first (first_blocks (bytes ++ more) count) old new
 
--- behind these files the image shows a file with all its packets, and nothing of it is open
+-- after these files the image shows a file with all its packets, and nothing of it is open
 pub record IsBegun (s : Config) (image : Image) (files : List File) (r : Recording) (f : File) : Type 0 where
   pub time : r.time ≡ s.time
   pub event : r.event ≡ s.event
@@ -39,7 +39,7 @@ pub record IsBegun (s : Config) (image : Image) (files : List File) (r : Recordi
   pub shows : Shows image f.first_block (file_bytes carries.packets)
   pub says : FileSays (file_bytes carries.packets) f.setup f.entries false
 
--- behind these files, which are closed, a file was written whose packets are all carried and nothing of which is open; this entry lists it, and there is a place for it
+-- after these files, which are closed, a file was written whose packets are all carried and nothing of which is open; this entry lists it, and there is a place for it
 pub record MayList (s : Config) (image : Image) (chain : List ChainBlock) (files : List File) (r : Recording) (f : File) (e : DirectoryEntry) : Type 0 where
   pub held : HoldsFiles s image chain None files
   pub sealed : is_sealed files ≡ true

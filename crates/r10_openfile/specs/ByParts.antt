@@ -23,7 +23,7 @@ pub record ListsPut (first : ℕ) (bytes text : List ℕ) (entries : List Entry)
 abbrev pub IsRelisting : ℕ → List ℕ → List ℕ → List Entry → Bool → DirectoryEntry → List ChainBlock → Disk → Image → Type 0
 IsRelisting first bytes text entries closed e chain old image = ComesBy (PutsSome first (file_blocks bytes)) old image ⊎ ListsPut first bytes text entries closed e chain old.blocks image
 
--- More came behind the bytes that the file carried. At every moment, and where the medium fails, blocks of the file are put, or it is listed anew behind them; after an Ok a stop leaves it listed so.
+-- More came after the bytes that the file carried. At every moment, and where the medium fails, blocks of the file are put, or it is listed anew after them; after an Ok a stop leaves it listed so.
 pub record RelistsByParts {T E : Type 0} (first : ℕ) (bytes text : List ℕ) (entries : List Entry) (closed : Bool) (e : DirectoryEntry) (chain : List ChainBlock) (old new : Disk) (result : Result T E) : Type 0 where
   pub more : List ℕ
   pub moments : Leaves (IsRelisting first (bytes ++ more) text entries closed e chain old) old new

@@ -1,4 +1,4 @@
--- A file that begins behind those that a directory lists.
+-- A file that begins after those that a directory lists.
 use Rattle.std.specs.Prelude.{◌≡◌, ℕ, ◌+◌, Bool, true, false, List, [], ◌∷◌, ◌++◌, length, nat_le}
 use Rattle.r10_body.specs.Cost.{entry_cost, file_cost}
 use Rattle.r10_body.specs.Packets.{file_bytes}
@@ -18,11 +18,11 @@ use Rattle.r10_volume.specs.Listing.{block_behind}
 use Rattle.r10_openfile.specs.declared.fault.BeginFault.{BeginFault}
 use Rattle.r10_openfile.specs.declared.fault.BeginFault.TheVariants.{Full, Memory, Medium}
 
--- a setup text and a time have room behind the files that are listed
+-- a setup text and a time have room after the files that are listed
 abbrev pub begins_within : Config → List DirectoryEntry → List ℕ → ℕ → Parts → Bool
 begins_within s entries text count civil = nat_le (file_cost text [] + entry_cost (time_entry_at s.time count civil)) (area_from s (block_behind s.directory entries))
 
--- the file that begins behind these: it shows a setup text and a time, a packet each
+-- the file that begins after these: it shows a setup text and a time, a packet each
 abbrev pub begun_file : Config → List File → List ℕ → List ℕ → ℕ → Parts → File
 begun_file s files name text count civil =
     shown_whole (length (file_bytes (first_packets s.time text count civil))) (with_entries (time_entry_at s.time count civil ∷ []) (empty_file s files name text))
@@ -38,7 +38,7 @@ OpenFileNotBegun room medium medium' builders failures failures' (Full back) = (
 OpenFileNotBegun room medium medium' builders failures failures' (Memory back) = (room ≡ true) × AreGivenBack builders back × (medium' ≡ medium)
 OpenFileNotBegun room medium medium' builders failures failures' (Medium fault) = (room ≡ true) × Rose failures failures'
 
--- behind these files one more is listed, from this block on
+-- after these files one more is listed, from this block on
 pub record IsListedBehind (old new : List DirectoryEntry) (first : ℕ) : Type 0 where
   pub entry : DirectoryEntry
   pub behind : new ≡ old ++ entry ∷ []

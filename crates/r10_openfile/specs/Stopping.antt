@@ -32,7 +32,7 @@ ChannelsAreApart (spec ∷ specs) = AllByRecursion (λ (other : ChannelSpec). ot
 abbrev pub AllEnd : {Lane : Type 0} → (Lane → ChannelSpec) → (Lane → ℕ) → List Lane → List Entry → Type 0
 AllEnd spec_of reached lanes entries = AllByRecursion (λ lane. EndsBy (spec_of lane).id (reached lane) entries) lanes
 
--- the file goes on with samples of all lanes, each of a channel of its own, in an area that lies on the medium behind the file's first block
+-- the file goes on with samples of all lanes, each of a channel of its own, in an area that lies on the medium after the file's first block
 pub record IsOpenToAll {Lane : Type 0} (spec_of : Lane → ChannelSpec) (reached : Lane → ℕ) (r : Recording) (image : Image) (lanes : List Lane) (area : ℕ) : Type 0 where
   pub text : List ℕ
   pub entries : List Entry
@@ -45,7 +45,7 @@ pub record IsOpenToAll {Lane : Type 0} (spec_of : Lane → ChannelSpec) (reached
 
 -- ---- what was moved
 
--- of a channel: these samples were moved, the rest waits behind them, and what the next one has no room in, where that ended all
+-- of a channel: these samples were moved, the rest waits after them, and what the next one has no room in, where that ended all
 pub record Part : Type 0 where
   pub channel : ℕ
   pub samples : List Sample
@@ -73,7 +73,7 @@ abbrev pub OthersGoOn : Option Full → Type 0 → List Part → Type 0
 OthersGoOn None others parts = others
 OthersGoOn (Some full) others parts = AllByRecursion (λ q. q.samples ≡ []) parts
 
--- channel by channel all went in that may, up to the first sample that has no room; behind it none did
+-- channel by channel all went in that may, up to the first sample that has no room; after it none did
 abbrev pub GoesThrough : (ℕ → ℕ) → Recording → ℕ → List Part → Type 0
 GoesThrough most r area [] = Unit {0}
 GoesThrough most r area (p ∷ parts) = PumpEnds r p.channel area (most p.channel) (length p.samples) p.rest p.full × OthersGoOn p.full (GoesThrough most r area parts) parts

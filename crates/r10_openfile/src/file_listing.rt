@@ -26,7 +26,7 @@ use r10_dirchain::{Directory, Room};
 use r10_medium::{BlockMedium, MediumFault};
 use r10_mux::Mux;
 
-/// Lists a file that was written behind all others: writes its last block, makes sure of its packets, and
+/// Lists a file that was written after all others: writes its last block, syncs its packets, and
 /// adds its entry to the directory. Then it is the one that is written, and the medium shows all its packets.
 ///
 /// At `Ok` a stop leaves the files with this one. Where the medium fails, it says the files that there were, or those
@@ -56,7 +56,7 @@ pub fn list_file<M: BlockMedium>(
         → OnOk result (Settled (λ image. MediumSays s image (files ++ f ∷ [])
         × (bytes_from image f.first_block f.size ≡ bytes_from (M.disk medium.new).blocks f.first_block f.size)
         × IsDirectory image (added entry directory.old)) (M.disk medium.new)) }
-    // Whatever files there are: the directory is the medium's, which is synced, and behind its blocks the file carries what it
+    // Whatever files there are: the directory is the medium's, which is synced, and after its blocks the file carries what it
     // carried, and shows all its packets.
     ensures sure { OnOk result (IsPublished directory.new (M.disk medium.new)) }
     ensures carries { (text : List ℕ) (entries : List EntryValue) → Records mux.now (M.disk medium.old).blocks text entries
@@ -77,7 +77,7 @@ pub fn list_file<M: BlockMedium>(
     if let Err(fault) = mux.commit_blocks(medium) {
         return Err(fault);
     }
-    // A sync of its own: `add` makes sure of all once more, but an image that a stop could leave here might have another chain of
+    // A sync of its own: `add` syncs all once more, but an image that a stop could leave here might have another chain of
     // blocks for the same files.
     if let Err(fault) = medium.sync() {
         return Err(fault);

@@ -1,4 +1,4 @@
-//! What comes behind a file's entries on other channels, as a call that does nothing.
+//! What comes after a file's entries on other channels, as a call that does nothing.
 
 ghost use Rattle.std.specs.Prelude.{◌≡◌, ◌++◌, ℕ, List};
 ghost use Rattle.std.specs.List.{AllByRecursion};

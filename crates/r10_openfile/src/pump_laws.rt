@@ -48,7 +48,7 @@ pub fn failed_pumps_take_few()
         → LanesAfter (Pump channel most) lanes lanes (change_first (is_channel channel) (without n) lanes) }
 {}
 
-/// Where each lane is of a channel of its own, and as many are said to be left as parts leave, the step is
+/// Where each lane is of a channel of its own, and as many are stated to be left as parts leave, the step is
 /// that of the machine's stop.
 pub fn stops_are_whole_steps()
     ensures { (s : Config) (m : Machine) (f : File) (said : StoppedValue) (parts : List Part) (r : Recording) (new : Machine)

@@ -1,4 +1,4 @@
-//! How a file begins behind others, as calls that do nothing.
+//! How a file begins after others, as calls that do nothing.
 
 ghost use Rattle.std.specs.Prelude.{◌≡◌, ◌+◌, ◌<◌, ◌≤◌, ◌++◌, ℕ, true, List, [], ◌∷◌, None, Some, length};
 ghost use Rattle.r10_medium.specs.Disk.{Image, IsWhole};
@@ -17,7 +17,7 @@ ghost use Rattle.r10_machine.specs.EventChecks.{most_files};
 ghost use Rattle.r10_machine.specs.Says.{Lists, MediumSays};
 ghost use Rattle.r10_openfile.specs.Begun.{IsBegun, IsPut};
 
-/// While a file is written behind all others, what the medium says of them stays, and so does their directory.
+/// While a file is written after all others, what the medium says of them stays, and so does their directory.
 pub fn files_in_front_stay()
     ensures says { (s : Config) (files : List File) (bytes : List ℕ) (old new : Image) → IsWhole old
         → IsPut (next_block s files) bytes old new → MediumSays s old files → MediumSays s new files }
@@ -26,7 +26,7 @@ pub fn files_in_front_stay()
         → HoldsFiles s old chain None files → HoldsFiles s new chain None files }
 {}
 
-/// Once it is listed behind closed files, where the directory has a place for it, it is the one that is written, and
+/// Once it is listed after closed files, where the directory has a place for it, it is the one that is written, and
 /// the medium shows all its packets.
 pub fn begun_files_are_held()
     ensures { (s : Config) (old new : Image) (chain : List ChainBlock) (files : List File) (r : Recording) (f : File)

@@ -113,7 +113,7 @@ fields_back bytes long fits sync =
     ∙ ap (λ t. le_bytes 1 h.sequence ++ t) (flags
     ∙ ap (λ t. le_bytes 1 h.flags ++ t) (kind ∙ ap (λ t. le_bytes 1 h.data_type ++ t) time)))))))
 
--- a header that stands first, with what is behind it
+-- a header that stands first, with what is after it
 pub header_back : (bytes : List ℕ) → 24 ≤ length bytes → AreBytes bytes → u16_at bytes 0 ≡ 0xEB25 → u16_at bytes 22 ≡ sum_of_words16 (take 22 bytes)
     → bytes ≡ header_bytes (header_at bytes) ++ drop 24 bytes
 unfolding header_bytes
@@ -155,13 +155,13 @@ same_header h g a b c d e f i j =
 small : (n : ℕ) → n < 2 ^ 8 → n % 256 ≡ n
 small n h = omega arith
 
--- the counter, whatever two bytes stand behind it
+-- the counter, whatever two bytes stand after it
 counter_again : (n s t : ℕ) → IsCount n → from_le_bytes w64 (le_bytes 6 n ++ s ∷ t ∷ []) % 281474976710656 ≡ n
 counter_again n s t f =
     let whole : from_le_bytes w64 (stamp n) ≡ n = (let all = from_le_bytes-to_le_bytes_8 n (omega arith) in omega (arith, all)) in
     omega (arith, whole)
 
--- the header that stands first is read back, whatever stands behind it
+-- the header that stands first is read back, whatever stands after it
 pub header_again : (h : Header) (rest : List ℕ) → FitsHeader h → header_at (header_bytes h ++ rest) ≡ h
 unfolding header_bytes
 header_again h rest fits =

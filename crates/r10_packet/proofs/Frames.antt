@@ -7,11 +7,11 @@ use Rattle.r10_packet.specs.Packet.{filled, least_filler, framed, framed_bytes, 
 use Rattle.r10_packet.specs.declared.header.Header.{Header}
 use Rattle.r10_packet.proofs.Lengths.{least_length, framed_length}
 
--- the rest of a slice behind its first 24 bytes
+-- the rest of a slice after its first 24 bytes
 pub tail_of : (d old : List ℕ) → d ≡ old → take (length d - 24) (drop 24 d) ≡ drop 24 old
 tail_of d old e = take_all (length d - 24) (drop 24 d) (omega (arith, length-drop 24 d)) ∙ ap (drop 24) e
 
--- the least length of a packet, told in two ways
+-- the least length of a packet, known in two ways
 pub packet_len_is : (h : Header) (body : List ℕ) → (framed h body).packet_len ≡ (length body + checksum_bits h.flags / 8 + 27) / 4 * 4
 packet_len_is h body = omega (arith, least_length h.flags body)
 

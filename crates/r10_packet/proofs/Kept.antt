@@ -46,7 +46,7 @@ sound_of bytes e =
     let c = none_broken _ _ _ b.1 in
     record { sync = eqb-true _ _ a.0; total = eqb-true _ _ b.0; lengths = c.0 }
 
--- a check that holds, and checks with more behind them
+-- a check that holds, and checks with more after them
 pub held : (answer : Bool) (fault : PacketFault) (rest : List (Bool × PacketFault)) → answer ≡ true → first_broken ((answer, fault) ∷ rest) ≡ first_broken rest
 held true fault rest e = refl
 held false fault rest e = absurd (cc)

@@ -25,7 +25,7 @@ range_split xs a b c h g =
     ap (λ n. take n (drop a xs)) sum ∙ take-add (b - a) (c - b) (drop a xs)
     ∙ ap (λ t. take (b - a) (drop a xs) ++ take (c - b) t) (drop-drop (b - a) a xs ∙ ap (λ n. drop n xs) place)
 
--- what stands behind the first 24
+-- what stands after the first 24
 behind : (head xs : List ℕ) (start end : ℕ) → length head ≡ 24 → 24 ≤ start → slice_range (head ++ xs) start end ≡ slice_range xs (start - 24) (end - 24)
 behind head xs start end len h =
     let place : start ≡ 24 + (start - 24) = omega arith in

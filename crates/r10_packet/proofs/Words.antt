@@ -47,7 +47,7 @@ sum_words32 (suc k) (a ∷ b ∷ c ∷ d ∷ rest) h =
     let z : sum (words32 (drop (suc k * 4) (a ∷ b ∷ c ∷ d ∷ rest))) ≡ sum (words32 (drop (k * 4) rest)) = ap (λ m. sum (words32 (drop m (a ∷ b ∷ c ∷ d ∷ rest)))) two in
     x ∙ ap (λ m. word + m) (sum_words32 k rest le) ∙ joined word (sum_by (from_le_bytes w32) (first_chunks 4 k rest)) (sum (words32 (drop (k * 4) rest))) ∙ sym (ap2 y z)
 
--- what the loop over the whole words leaves, and the words of what is behind them
+-- what the loop over the whole words leaves, and the words of what is after them
 pub sum16_is : (xs : List ℕ) (words : List (List ℕ)) (rest : List ℕ) (total i : ℕ) → words ≡ first_chunks 2 (length xs / 2) xs → rest ≡ drop (length xs / 2 * 2) xs
     → total ≡ sum_by (from_le_bytes w16) (take i words) % 2 ^ 16 → length words ≤ i → sum_of_words16 xs ≡ (total + sum (words16 rest)) % 2 ^ 16
 sum16_is xs words rest total i e r t le =

@@ -59,11 +59,11 @@ framing_fault bytes = first_broken (framing_rules bytes)
 abbrev pub body_at : List ℕ → List ℕ
 body_at bytes = slice_range bytes 24 (24 + (header_at bytes).data_len)
 
--- where the data checksum stands, behind body and filler, which it covers
+-- where the data checksum stands, after body and filler, which it covers
 abbrev pub checksum_start : Header → ℕ
 checksum_start h = h.packet_len - checksum_bits h.flags / 8
 
--- the data checksum has room behind the body
+-- the data checksum has room after the body
 abbrev pub has_room_for_checksum : Header → Bool
 has_room_for_checksum h = nat_le (24 + h.data_len + checksum_bits h.flags / 8) h.packet_len
 

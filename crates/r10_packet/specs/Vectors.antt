@@ -137,7 +137,7 @@ pub no-room : data_sum_of (uart_packet_header 56 1) (header_bytes (uart_packet_h
 unfolding header_bytes
 no-room = refl
 
--- a packet of another recorder with a secondary header: the bytes behind the primary header are not its body
+-- a packet of another recorder with a secondary header: the bytes after the primary header are not its body
 abbrev secondary : List ℕ
 secondary =
     0x25 ∷ 0xEB ∷ 9 ∷ 0 ∷ 0x2C ∷ 0 ∷ 0 ∷ 0 ∷ 8 ∷ 0 ∷ 0 ∷ 0 ∷ 8 ∷ 0 ∷ 0x80 ∷ 0x68 ∷ 0xE8 ∷ 3 ∷ 0 ∷ 0 ∷ 0 ∷ 0 ∷ 0xD2 ∷ 0x57 ∷ replicate 20 0

@@ -3,7 +3,7 @@
 ghost use Rattle.std.specs.Prelude.{◌≡◌, ◌/◌, ◌<◌, ◌≤◌};
 ghost use Rattle.r10_packet.specs.Header.{check_bits_of, flags_of, checksum_bits, check_of_bits, is_check_width};
 
-/// The data checksum behind a packet's body and filler.
+/// The data checksum after a packet's body and filler.
 #[derive(Clone, Copy, Debug, PartialEq, Eq)]
 pub enum Check {
     Nothing,

@@ -21,7 +21,7 @@ pub struct Packet;
 impl Packet {
     /// The packet of a body. Its lengths are those of the body, and not the header's; its data
     /// checksum is the one that the header's flags tell. No secondary header is added: where bit 7 of
-    /// the flags tells one, it is the first bytes of `body`, which stand right behind the header.
+    /// the flags tells one, it is the first bytes of `body`, which stand right after the header.
     pub fn frame(alloc: Global, header: &Header, body: &[u8]) -> Result<Vec<u8>, AllocError>
         requires short { length body.now + checksum_bits header.now.flags / 8 ≤ longest_body }
         ensures bytes { IfOk result (λ v. v.items ≡ framed_bytes header.now body.now) }
@@ -70,7 +70,7 @@ impl Packet {
     }
 }
 
-/// Adds the data checksum of all bytes behind the header.
+/// Adds the data checksum of all bytes after the header.
 fn push_checksum(out: &mut Vec<u8>, check: Check) -> Result<(), AllocError>
     requires { 24 ≤ length out.old.items }
     ensures { OnOk result (out.new.items ≡ out.old.items ++ data_checksum (check_bits_of check) (drop 24 out.old.items)) }

@@ -83,7 +83,7 @@ part_fits bytes head text left fits is = front_fits text left (rest_fits head (t
 
 -- ---- the parts of a message
 
--- a message by its parts, one behind the other
+-- a message by its parts, one after the other
 bus_is : (bytes behind_stamp behind_status behind_gap behind text left : List ℕ) (count status gap size : ℕ) → bytes ≡ stamp count ++ behind_stamp → behind_stamp ≡ le_bytes 2 status ++ behind_status
     → behind_status ≡ le_bytes 2 gap ++ behind_gap → behind_gap ≡ le_bytes 2 size ++ behind → behind ≡ text ++ left
     → bytes ≡ stamp count ++ le_bytes 2 status ++ le_bytes 2 gap ++ le_bytes 2 size ++ text ++ left
@@ -93,7 +93,7 @@ bus_is bytes behind_stamp behind_status behind_gap behind text left count status
     let statuses : behind_stamp ≡ le_bytes 2 status ++ le_bytes 2 gap ++ le_bytes 2 size ++ text ++ left = e2 ∙ ap (λ t. le_bytes 2 status ++ t) gaps in
     e1 ∙ ap (λ t. stamp count ++ t) statuses
 
--- the front of a message, behind it the bytes of its words, and what is left
+-- the front of a message, after it the bytes of its words, and what is left
 pub bus_found : (bytes behind_stamp behind_status behind_gap behind text left : List ℕ) (count status gap size : ℕ) → ((i : ℕ) → get_or bytes i 0 < 256)
     → bytes ≡ stamp count ++ behind_stamp → behind_stamp ≡ le_bytes 2 status ++ behind_status → behind_status ≡ le_bytes 2 gap ++ behind_gap → behind_gap ≡ le_bytes 2 size ++ behind
     → behind ≡ text ++ left → length text ≡ size

@@ -1,4 +1,4 @@
--- The first recording, and what another recorder's packet behind it makes of it.
+-- The first recording, and what another recorder's packet after it makes of it.
 use Rattle.std.specs.Prelude.{ℕ, ◌≤◌, true, [], ◌∷◌, ◌++◌, take, refl}
 use Rattle.std.proofs.Common.{lit<, lit≤, arith, inl}
 use Rattle.r10_body.proofs.Recording.{closed-says}
@@ -27,7 +27,7 @@ at-end = record { packets = alone.0; bytes_are = alone.1; foreign = alone.3; off
 first : IsFirst other (record { opaque = true; length = 44 })
 first = record { least = lit≤ tt; inside = lit≤ tt; told = refl; foreign = other-is; opaque = refl }
 
--- with a packet of a secondary header behind it, one is
+-- with a packet of a secondary header after it, one is
 pub with-other : IsForeignFile (file_bytes a_recording ++ other) 1
 with-other =
     stands_file (track 316 1 (lit≤ tt)) (file_bytes a_recording ++ other) (λ e. absurd (omega (arith, e)))

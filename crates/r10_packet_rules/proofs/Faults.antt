@@ -1,4 +1,4 @@
--- A packet has one fault at most, and what stands behind doesn't change it.
+-- A packet has one fault at most, and what stands after doesn't change it.
 use Rattle.std.proofs.Common.{◌≡◌, ℕ, ◌≤◌, Bool, true, false, List, [], ◌∷◌, ◌++◌, length, refl, sym, ap, ◌∙◌, subst, Some, None, arith}
 use Rattle.std.proofs.lemmas.Bool.{leb-true}
 use Rattle.std.proofs.lemmas.List.{length-append}
@@ -84,7 +84,7 @@ apart packet rest DataSum is h =
 apart packet rest Body is h = h.3 (judged packet rest is h.1).1
 apart packet rest (Rule n) is h = h
 
--- ---- with more behind
+-- ---- with more after
 
 first_holds : (answer : Bool) (fault : PacketFault) (rest : List (Bool × PacketFault)) (f : PacketFault) → (f ≡ fault → ⊥) → first_broken ((answer, fault) ∷ rest) ≡ Some f
     → (answer ≡ true) × (first_broken rest ≡ Some f)

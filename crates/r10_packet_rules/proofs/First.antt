@@ -23,7 +23,7 @@ first_bytes bytes n fits i = elim (cases_lt i n) [
   | inr over ↦ subst (λ (b : ℕ). b < 256) (sym (get_or_past (take n bytes) i 0 (omega (arith, over, length-take n bytes)))) (omega arith)
 ]
 
--- a packet that is framed in itself is framed where bytes stand behind it
+-- a packet that is framed in itself is framed where bytes stand after it
 pub record IsFirst (bytes t : List ℕ) : Type 0 where
   pub sound : framing_fault bytes ≡ None
   pub header : header_at bytes ≡ header_at t

@@ -77,7 +77,7 @@ header_fits false true false bus gap lt soon = omega (arith, lt, soon)
 header_fits false false true bus gap lt soon = omega (arith, lt, soon)
 header_fits false false false bus gap lt soon = omega (arith, lt, soon)
 
--- a word that stands there comes by the header's gap behind the one before
+-- a word that stands there comes by the header's gap after the one before
 pub arinc_told : (before : ℕ) (bytes rest left : List ℕ) (header word : ℕ) (e : ArincEntry) → header < 2 ^ 32 → bytes ≡ le_bytes 4 header ++ le_bytes 4 word ++ rest
     → FitsBehind before e → bytes ≡ arinc_entry (e.count - before) e ++ left → (header % 2097152 ≤ 1000000) × (e.count ≡ before + header % 2097152)
 arinc_told before bytes rest left header word e lt is fits other =

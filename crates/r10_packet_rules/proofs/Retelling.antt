@@ -1,4 +1,4 @@
--- What a packet says to the rules, whatever number is told of what was lost before it.
+-- What a packet says to the rules, whatever number is reported of what was lost before it.
 use Rattle.std.proofs.Common.{◌≡◌, ℕ, List, [], ◌∷◌, length, Option, Some, None, refl, subst, ◌∙◌, arith}
 use Rattle.std.specs.List.{sum_by}
 use Rattle.std.proofs.lemmas.List.Sums.{sum_by-cons}

@@ -26,7 +26,7 @@ pub with_first : {E : Type 0} (form : Form E) (count : ℕ) (rest after : List �
     → IsSpelled form count (e ∷ tail) rest
 with_first form count rest after e fits q tail s = ((fits, s.0), q ∙ ap (λ t. form.spelled count e ++ t) s.1)
 
--- what stands behind it, by the count that was glanced at
+-- what stands after it, by the count that was glanced at
 from_glimpse : {E : Type 0} (form : Form E) (said : E → Timed) (setting count : ℕ) (bytes after : List ℕ) (g : Glimpse) (e : E) → IsGlimpse form said setting count bytes g e
     → (tail : List E) → IsSpelled form g.count tail after → IsSpelled form (form.count e) tail after
 from_glimpse form said setting count bytes after g e is tail s = subst (λ n. IsSpelled form n tail after) (is.count ∙ sym is.same) s
@@ -169,7 +169,7 @@ pub body_is : {E : Type 0} (form : Form E) (setting counter word number : ℕ) (
     → word ≡ form.word setting number → form.agrees word number ≡ true → IsBody form setting counter es body
 body_is form setting counter word number rest body es e are n told agrees = body_of form setting counter word number rest body es e n told agrees are.spelled are.opens are.suits
 
--- a body's entries stand behind its word
+-- a body's entries stand after its word
 pub body_entries : {E : Type 0} (form : Form E) (setting counter word : ℕ) (rest body : List ℕ) → word < 2 ^ 32 → body ≡ le_bytes 4 word ++ rest → (es : List E) → IsBody form setting counter es body
     → AreEntries form setting counter es rest
 body_entries form setting counter word rest body lt e es is =

@@ -27,7 +27,7 @@ use Rattle.r10_packet_rules.specs.Header.{packet_of}
 
 -- ---- lists
 
--- what stands behind the first 24 of so many
+-- what stands after the first 24 of so many
 rest_of : (bytes head tail : List ℕ) (n : ℕ) → length head ≡ 24 → 24 ≤ n → take n bytes ≡ head ++ tail → slice_range bytes 24 n ≡ tail
 rest_of bytes head tail n len le e =
     let split : 24 + (n - 24) ≡ n = omega arith in
@@ -130,7 +130,7 @@ framed bytes p (fits, sums, first) =
 
 -- ---- what is framed so is a packet of the recorder's
 
--- the filler is the least where what is behind the header is spelled so
+-- the filler is the least where what is after the header is spelled so
 filler_kept : (bytes : List ℕ) → AreBytes bytes → framing_fault bytes ≡ None → has_data_checksum bytes ≡ true
     → (filler_at bytes ≡ least_filler (checksum_bits (header_at bytes).flags) (body_at bytes)) ↔ KeepsFiller bytes
 filler_kept bytes fits sound checked =
@@ -196,7 +196,7 @@ reads_made bytes content fits sound checked keeps filler is sums =
 
 -- ---- the filler that stands there
 
--- it has room behind the body
+-- it has room after the body
 pub record HasRoom (bytes : List ℕ) : Type 0 where
   pub room : 24 + (header_at bytes).data_len + checksum_bits (header_at bytes).flags / 8 ≤ (header_at bytes).packet_len
   pub whole : (header_at bytes).packet_len ≤ length bytes

@@ -30,7 +30,7 @@ first_is bytes packet framed told opaque judged =
       opaque = opaque;
     }
 
--- opaque or not, the packet is told by itself as where it stands
+-- opaque or not, the packet is known by itself as where it stands
 opaque_alone : (bytes : List ℕ) (packet : ForeignPacket) → IsFirst bytes packet → packet.opaque ≡ opaque_at (take packet.length bytes)
 opaque_alone bytes packet is =
     let still = stays (take packet.length bytes) (drop packet.length bytes) is.foreign.framed in

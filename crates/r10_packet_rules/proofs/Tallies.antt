@@ -52,7 +52,7 @@ cost_is ms channel gap = omega (arith, cost_from empty_tally ms channel gap)
 
 -- ---- counts
 
--- counts so far, and entries behind them, come to these
+-- counts so far, and entries after them, come to these
 pub record GoesOn (s t : Spread) (ms : List Timed) (channel : ℕ) (gap : Gap) : Type 0 where
   pub first : t.first ≡ s.first
   pub last : t.last ≡ last_count s.last (with_gaps channel gap ms)

@@ -8,7 +8,7 @@ use Rattle.r10_count.proofs.Fronts.{same_stamp, same_u32}
 
 -- ---- bytes and their padding
 
--- behind an even number of bytes nothing is added
+-- after an even number of bytes nothing is added
 pub even_behind : (bytes text behind : List ℕ) (size : ℕ) → bytes ≡ text ++ behind → length text ≡ size → size % 2 ≡ 0 → bytes ≡ padded text ++ behind
 even_behind bytes text behind size e n even =
     let none : length text % 2 ≡ 0 = ap (λ k. k % 2) n ∙ even in

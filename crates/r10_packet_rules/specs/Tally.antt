@@ -10,7 +10,7 @@ use Rattle.r10_packet_rules.specs.declared.tally.EntryTally.{EntryTally}
 abbrev pub timed_cost : Timed → ℕ
 timed_cost t = each_entry + message_cost t.message
 
--- the counts with one behind them
+-- the counts with one after them
 abbrev pub spread_behind : Option Spread → ℕ → Spread
 spread_behind None count = record { first = count; last = count; greatest = count; rise = true }
 spread_behind (Some s) count = record { first = s.first; last = count; greatest = max s.greatest count; rise = s.rise && nat_le s.last count }

@@ -7,7 +7,7 @@ ghost use Rattle.r10_count.specs.Count.{IsCount, stamp};
 
 use r10_count::{Count, split_u16};
 
-/// What stands in front of the words of a bus message, and behind them.
+/// What stands in front of the words of a bus message, and after them.
 #[derive(Clone, Copy, Debug)]
 pub(crate) struct BusFront<'a> {
     pub(crate) count: Count,
@@ -15,11 +15,11 @@ pub(crate) struct BusFront<'a> {
     pub(crate) gap: u16,
     /// How many bytes the words have.
     pub(crate) size: u16,
-    /// What stands behind the words.
+    /// What stands after the words.
     pub(crate) rest: &'a [u8],
 }
 
-/// What stands in front of the words of the message that stands first, and behind them.
+/// What stands in front of the words of the message that stands first, and after them.
 #[inline(always)]
 pub(crate) fn split_bus(bytes: &[u8]) -> Option<BusFront<'_>>
     ensures found { IfSome result (λ f. (words : List ℕ) × (length words ≡ f.size) × ((i : ℕ) → slice_index words i < 2 ^ 8)

@@ -22,7 +22,7 @@ pub enum PacketKind {
     Node,
     /// An index packet that names nodes.
     Root,
-    /// How many messages were lost before the packet behind it.
+    /// How many messages were lost before the packet after it.
     Report {
         loss: LossBody,
     },

@@ -6,7 +6,7 @@ ghost use Rattle.r10_count.specs.Count.{IsCount, stamp};
 
 use r10_count::{Count, split_u32};
 
-/// The header and the word of the ARINC 429 word that stands first, and what stands behind it.
+/// The header and the word of the ARINC 429 word that stands first, and what stands after it.
 #[inline(always)]
 pub(crate) fn split_word(bytes: &[u8]) -> Option<(u32, u32, &[u8])>
     ensures found { IfSome result (λ x. bytes.now ≡ le_bytes 4 x.0 ++ le_bytes 4 x.1 ++ x.2.now) }
@@ -24,16 +24,16 @@ pub(crate) fn split_word(bytes: &[u8]) -> Option<(u32, u32, &[u8])>
     Some((header, word, rest))
 }
 
-/// A change of discretes, and what stands behind it.
+/// A change of discretes, and what stands after it.
 #[derive(Clone, Copy, Debug)]
 pub(crate) struct Change<'a> {
     pub(crate) count: Count,
     pub(crate) states: u32,
-    /// What stands behind the change.
+    /// What stands after the change.
     pub(crate) rest: &'a [u8],
 }
 
-/// The stamp and the states of the change of discretes that stands first, and what stands behind it.
+/// The stamp and the states of the change of discretes that stands first, and what stands after it.
 #[inline(always)]
 pub(crate) fn split_states(bytes: &[u8]) -> Option<Change<'_>>
     ensures found { IfSome result (λ c. bytes.now ≡ stamp c.count ++ le_bytes 4 c.states ++ c.rest.now) }

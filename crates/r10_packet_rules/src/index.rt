@@ -1,4 +1,4 @@
-//! The entries of index packets, which are only told apart where they stand.
+//! The entries of index packets, which are only separated where they stand.
 
 ghost use Rattle.std.specs.Prelude.{◌≡◌, ◌↔◌, ◌++◌, ℕ, List, length, IfSome, IfNone, IsTrue};
 ghost use Rattle.r10_count.specs.Form.{IsBody};
@@ -12,7 +12,7 @@ const WORD_END: u32 = 0x100_0000;
 
 /// An entry of a body that is spelled alike in any body, whatever stands before it.
 pub(crate) trait PlainEntry: BodyEntry {
-    /// The bytes behind the entry that stands first, if the writer spells one so.
+    /// The bytes after the entry that stands first, if the writer spells one so.
     fn behind(bytes: &[u8]) -> Option<&[u8]>
         ensures found { IfSome result (λ rest. (e : Self) × StandsFirst Self.form e bytes.now rest.now) }
         ensures none { IfNone result ((before : ℕ) (e : Self) (rest : List ℕ) → Self.form.Fits before e
@@ -57,7 +57,7 @@ impl PlainEntry for RootEntry {
     }
 }
 
-/// How many entries the writer makes these bytes of, behind the word of a body, if there are such. It is a function of its own in
+/// How many entries the writer makes these bytes of, after the word of a body, if there are such. It is a function of its own in
 /// the program too.
 #[inline(never)]
 fn count_standing<E: PlainEntry>(bytes: &[u8]) -> Option<usize>

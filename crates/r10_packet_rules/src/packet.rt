@@ -12,7 +12,7 @@ use r10_packet::{DataSum, Packet, PacketFault};
 /// A packet that any recorder may have written.
 #[derive(Clone, Copy, Debug, PartialEq, Eq)]
 pub struct ForeignPacket {
-    /// It is told apart from the next one, and passed over unread.
+    /// It is separated from the next one, and passed over unread.
     pub opaque: bool,
     /// How many bytes it has.
     pub length: usize,

@@ -28,7 +28,7 @@ pub(crate) trait ScannedEntry: BodyEntry {
     fn may_open(counter: u64, count: Count) -> bool
         ensures { (e : Self) → Self.form.count e ≡ count → result ≡ Self.form.opens counter e };
 
-    /// What the entry comes to that stands first, and the bytes behind it, if the writer spells one so behind
+    /// What the entry comes to that stands first, and the bytes after it, if the writer spells one so after
     /// an entry at a count, on a channel of this setting.
     fn glance(setting: u32, before: u64, bytes: &[u8]) -> Option<(Glimpse, &[u8])>
         ensures found { IfSome result (λ x. (e : Self) × IsGlimpse Self.form said setting before (Self.form.spelled before e) x.0 e
@@ -45,7 +45,7 @@ fn higher(greatest: Count, count: Count) -> Count
     if greatest <= count { count } else { greatest }
 }
 
-/// Whether counts rise with one behind them: while they do, the last one is the greatest.
+/// Whether counts rise with one after them: while they do, the last one is the greatest.
 #[inline(always)]
 fn goes_on(rise: bool, greatest: Count, count: Count) -> bool
     ensures { result ≡ (rise && nat_le greatest count) }

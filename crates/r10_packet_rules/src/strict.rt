@@ -51,7 +51,7 @@ fn keeps_checksum(header: &Header) -> bool
     header.flags % 4 == 0 || !goes_unchecked(header.data_type)
 }
 
-/// Whether the data checksum is right, and stands behind the least filler.
+/// Whether the data checksum is right, and stands after the least filler.
 fn is_filled(view: &PacketView<'_>, bytes: &[u8]) -> bool
     requires header { view.now.header ≡ header_at bytes.now }
     requires framed { framing_fault bytes.now ≡ None }
@@ -83,8 +83,8 @@ fn parts(bytes: &[u8]) -> Option<(Header, &[u8])>
     Some((header, &rest[..length]))
 }
 
-/// What the strict reading finds of the packet that stands first and has this header and this body. It is told whether the
-/// data checksum is right, and stands behind the least filler.
+/// What the strict reading finds of the packet that stands first and has this header and this body. It is reported whether the
+/// data checksum is right, and stands after the least filler.
 pub(crate) fn find(header: &Header, body: &[u8], filled: bool, bytes: &[u8]) -> StrictReading
     requires short { length body.now ≤ header.now.packet_len }
     ensures { header.now ≡ header_at bytes.now → body.now ≡ body_at bytes.now → framing_fault bytes.now ≡ None

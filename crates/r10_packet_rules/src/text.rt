@@ -8,7 +8,7 @@ ghost use Rattle.r10_count.specs.Padding.{padded};
 
 use r10_count::{Count, split_u32};
 
-/// So many bytes, and what stands behind them and their padding.
+/// So many bytes, and what stands after them and their padding.
 #[inline(always)]
 fn split_bytes(bytes: &[u8], size: usize) -> Option<(&[u8], &[u8])>
     ensures found { IfSome result (λ x. (length x.0.now ≡ size) × (bytes.now ≡ padded x.0.now ++ x.1.now)) }
@@ -38,11 +38,11 @@ pub struct TextEntry<'a> {
     pub header: u32,
     /// Its bytes, without their padding.
     pub text: &'a [u8],
-    /// What stands behind the entry.
+    /// What stands after the entry.
     pub rest: &'a [u8],
 }
 
-/// The stamp, the header and the bytes of the entry that stands first, and what stands behind it; `None` where no such entry does.
+/// The stamp, the header and the bytes of the entry that stands first, and what stands after it; `None` where no such entry does.
 #[inline(always)]
 pub fn split_text(bytes: &[u8]) -> Option<TextEntry<'_>>
     ensures found { IfSome result (λ f. (length f.text.now ≡ f.header % 65536)

@@ -1,4 +1,4 @@
--- That what is put ends within what the file costs, with its index behind it.
+-- That what is put ends within what the file costs, with its index after it.
 use Rattle.std.proofs.Common.{◌≡◌, ℕ, ◌+◌, ◌^◌, ◌<◌, ◌≤◌, List, [], ◌∷◌, ◌++◌, length, refl, sym, ap, subst, ◌∙◌, arith, length-append}
 use Rattle.std.specs.List.{sum_by}
 use Rattle.std.proofs.lemmas.Bool.{eq-eqb}
@@ -38,7 +38,7 @@ use Rattle.r10_packetout.proofs.Own.{event_said, time_said}
 size_is : (header : Header) (body : List ℕ) (p : Packet) (s : ℕ) → Describes header body p → length (packet_bytes (record p { sequence = s })) ≡ packet_size header body
 size_is header body p s is = ap (λ (b : List ℕ). length b) (sym (described header body p s is)) ∙ framed_length (record header { sequence = s }) body
 
--- behind others, with the index of all
+-- after others, with the index of all
 behind : (header : Header) (body : List ℕ) (before : List Packet) (p : Packet) (n cost : ℕ) → Describes header body p
     → length (file_bytes (before ++ numbered before p ∷ [])) + index_size n ≤ cost → length (file_bytes before) + packet_size header body + index_size n ≤ cost
 behind header body before p n cost is le =

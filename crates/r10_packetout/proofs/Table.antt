@@ -49,7 +49,7 @@ set_at channel (u ∷ ss) (suc i) s d lt before here =
     ap (cond (u.channel == channel) u.next) more
     ∙ swapped (u.channel == channel) (s.channel == channel) u.next s.next (next_of channel ss) (λ f g. eqb-false u.channel s.channel first (eqb-true u.channel channel f ∙ sym (eqb-true s.channel channel g)))
 
--- a number of a new channel behind the others
+-- a number of a new channel after the others
 pub set_behind : (channel : ℕ) (ss : List Number) (s d : Number) → ((k : ℕ) → k < length ss → (get_or ss k d).channel == s.channel ≡ false)
     → next_of channel (ss ++ s ∷ []) ≡ cond (s.channel == channel) s.next (next_of channel ss)
 set_behind channel [] s d before = refl
@@ -68,7 +68,7 @@ counted_at channel ss i next d at lt more other =
     set_at other ss i (record { channel = channel; next = next }) d lt (λ k h. at.before k d h) (at.here d lt)
     ∙ ap (λ n. cond (channel == other) n (next_of other ss)) (more ∙ ap (λ n. (n + 1) % 256) (found_at channel ss i d lt (λ k h. at.before k d h) (at.here d lt)))
 
--- another is put behind them, with 1
+-- another is put after them, with 1
 pub counted_behind : (channel : ℕ) (ss : List Number) (i : ℕ) → IsPlace channel ss i → length ss ≤ i → (other : ℕ)
     → next_of other (ss ++ record { channel = channel; next = 1 } ∷ []) ≡ cond (channel == other) ((next_of channel ss + 1) % 256) (next_of other ss)
 counted_behind channel ss i at ge other =
@@ -77,7 +77,7 @@ counted_behind channel ss i at ge other =
     set_behind other ss d d before
     ∙ ap (λ n. cond (channel == other) ((n + 1) % 256) (next_of other ss)) (sym (found_none channel ss d before))
 
--- ---- the numbers behind a packet more
+-- ---- the numbers after a packet more
 
 numbered_at : (packets : List Packet) (p : Packet) (channel number next : ℕ) (b : Bool) → p.channel == channel ≡ b
     → number ≡ next_sequence p.channel packets → next ≡ next_sequence channel packets → cond b ((number + 1) % 256) next ≡ next_sequence channel (packets ++ p ∷ [])

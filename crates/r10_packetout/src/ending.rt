@@ -1,4 +1,4 @@
-//! What stands behind a packet's body.
+//! What stands after a packet's body.
 
 ghost use Rattle.std.specs.Prelude.{◌≡◌, ◌+◌, ◌/◌, ◌≤◌, ◌∷◌, ◌++◌, length, take};
 ghost use Rattle.r10_packet.specs.Header.{check_bits_of};
@@ -21,7 +21,7 @@ pub(crate) struct Ending {
 impl Ending {
     ghost use Rattle.r10_packetout.specs.Ending.{said};
 
-    /// What stands behind a body.
+    /// What stands after a body.
     pub(crate) fn of(check: Check, body: &[u8]) -> Ending
         requires { length body.now ≤ longest_body }
         ensures { let filler = least_filler (check_bits_of check) body.now in said result

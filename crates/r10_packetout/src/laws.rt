@@ -42,7 +42,7 @@ pub fn samples_are_no_events()
         → HasNoEvents (entry_on channel s ∷ []) }
 {}
 
-/// What is handed out and put behind the packets, and before it a report where a number is told of what was lost, is
+/// What is handed out and put after the packets, and before it a report where a number is reported of what was lost, is
 /// carried, with the entries that were taken in by it.
 pub fn packets_are_carried()
     ensures { (r : Recording) (image : MediumImage) (text : List ℕ) (entries : List Entry) (more : List Entry)
@@ -52,7 +52,7 @@ pub fn packets_are_carried()
         (record r { builders = builders; out = out; cost = r.cost + sum_by entry_cost more }) later text (entries ++ more) }
 {}
 
-/// A time that is no earlier than the last, put behind the packets, is carried.
+/// A time that is no earlier than the last, put after the packets, is carried.
 pub fn times_are_carried()
     ensures { (r : Recording) (image : MediumImage) (text : List ℕ) (entries : List Entry) (carried : Records r image text entries)
         → StandApart r → (count : ℕ) (civil : Parts) → last_count 0 (on_channel r.time entries) ≤ count
@@ -62,7 +62,7 @@ pub fn times_are_carried()
         (entries ++ time_entry_at r.time count civil ∷ []) }
 {}
 
-/// An event that is no earlier than the last, put behind the packets, is carried, and counted. What it
+/// An event that is no earlier than the last, put after the packets, is carried, and counted. What it
 /// tells is what is kept of its number.
 pub fn events_are_carried()
     ensures carried { (r : Recording) (image : MediumImage) (text : List ℕ) (entries : List Entry)
@@ -80,7 +80,7 @@ pub fn events_are_carried()
 {}
 
 /// A file begins with a setup text of at most 524,260 bytes and a time, where nothing is open. Its first
-/// two packets, with an index behind them, end within what it costs.
+/// two packets, with an index after them, end within what it costs.
 pub fn files_begin()
     ensures carried { (r : Recording) (text : List ℕ) (count : ℕ) (civil : Parts) → StandApart r
         → AreChannelSettings 0 (specs_of r.builders) → all_held r.builders ≡ [] → EventsAreCounted r.counts []
@@ -98,7 +98,7 @@ pub fn files_begin()
         ≤ file_cost text (time_entry_at r.time count civil ∷ []) }
 {}
 
-/// Where nothing is open, the packets with their index behind them, in groups of so many nodes, are a closed file that says all
+/// Where nothing is open, the packets with their index after them, in groups of so many nodes, are a closed file that says all
 /// entries.
 pub fn closed_files_say()
     ensures { (r : Recording) (packets : List StrictPacket) (text : List ℕ) (entries : List Entry) (nodes : ℕ)
@@ -106,8 +106,8 @@ pub fn closed_files_say()
         → PacketsSay (packets ++ index_of nodes packets) text entries true }
 {}
 
-/// The packets, with their index behind them, are no longer than the file costs, and so they stay with
-/// each packet that is put behind them.
+/// The packets, with their index after them, are no longer than the file costs, and so they stay with
+/// each packet that is put after them.
 pub fn packets_have_room()
     ensures index { (r : Recording) (packets : List StrictPacket) (text : List ℕ) (entries : List Entry)
         → Says r packets text entries → r.cost < 2 ^ 63 → length (file_bytes packets) + index_size (length packets) ≤ r.cost }
@@ -132,7 +132,7 @@ pub fn packets_have_room()
         ≤ r.cost + entry_cost (next_event_entry r.event count number entries) }
 {}
 
-/// Where an entry may come behind others, none on its channel is later.
+/// Where an entry may come after others, none on its channel is later.
 pub fn none_is_later()
     ensures { (entries : List Entry) (e : Entry)
         → ((channel : ℕ) → Rise 0 (on_channel channel entries ++ on_channel channel (e ∷ [])))

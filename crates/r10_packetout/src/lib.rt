@@ -1,4 +1,4 @@
-//! The packets of a file that is being written: their bytes on a medium, numbered on each channel, with the index behind them
+//! The packets of a file that is being written: their bytes on a medium, numbered on each channel, with the index after them
 //! at the close; and what such a file carries, in packets and in builders, as a relation with its laws.
 #![tactic(auto)]
 

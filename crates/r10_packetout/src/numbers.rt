@@ -35,7 +35,7 @@ pub(crate) fn next_number(numbers: &[Number], channel: u16) -> u8
     }
 }
 
-/// Counts a packet of a channel: its next number is one more, and behind 255 comes 0. There is
+/// Counts a packet of a channel: its next number is one more, and after 255 comes 0. There is
 /// memory for a channel more.
 pub(crate) fn count_packet(numbers: &mut Vec<Number>, channel: u16)
     requires { length numbers.old.items < vec_capacity numbers.old }

@@ -25,7 +25,7 @@ use Rattle.r10_playback.specs.declared.selection.PlayRefusal.TheVariants as play
 abbrev pub HasCounts : Selection → Type 0
 HasCounts s = IsCount s.from × IsCount s.to
 
--- the channels that a replay is told: this one, or none, which stands for all, where it is 0
+-- the channels that a replay is given: this one, or none, which is all, where it is 0
 abbrev pub channels_of : ℕ → List ℕ
 channels_of zero = []
 channels_of (suc n) = suc n ∷ []

@@ -63,7 +63,7 @@ pub record IsLeft (got sent : List Sample) (rest : List Item) : Type 0 where
   pub known : samples rest ≡ drop (length got) sent
   pub count : length rest ≡ length (drop (length got) sent)
 
--- of items that went in, all behind the first of which are samples, those behind the ones that came out
+-- of items that went in, all after the first of which are samples, those after the ones that came out
 pub left_behind : (out out2 rest items items2 : List Item) → out2 ≡ out → items2 ≡ items → out2 ++ rest ≡ items2 → length items ≡ length (samples items) + 1 → length out ≡ length (samples out) + 1
     → IsLeft (samples out) (samples items) rest
 left_behind out out2 rest items items2 received sent fifo entries ends =

@@ -9,7 +9,7 @@ use Rattle.r10_port.specs.Items.{samples}
 use Rattle.r10_port.specs.Ends.{Receiving, TookReceived}
 use Rattle.r10_port.specs.Laws.{port_took_joins, port_took_stays}
 
--- so many were moved behind what was there before, and what is known to come is the rest
+-- so many were moved after what was there before, and what is known to come is the rest
 pub record Moves (old now : Receiving) (before after : List Sample) (counter : ℕ) : Type 0 where
   pub moved : List Sample
   pub took : TookReceived old moved now

@@ -63,11 +63,11 @@ module _ (ring : Ring) where
   a_gap_is_marked : Offered (port ring (first ∷ second ∷ []) (Some 2) 1 1 0) 4 (text 0x44) (Ok tt) (port ring (first ∷ second ∷ fourth ∷ []) (Some 4) 0 1 0)
   a_gap_is_marked = (refl, lit≤ tt)
 
-  -- behind three losses the next tells three, however many were lost before
+  -- after three losses the next tells three, however many were lost before
   three_are_told : Offered (port ring (first ∷ second ∷ []) (Some 2) 3 8 0) 4 (text 0x44) (Ok tt) (port ring (first ∷ second ∷ sample 4 0x44 (Lost 3) ∷ []) (Some 4) 0 8 0)
   three_are_told = (refl, lit≤ tt)
 
-  -- losses that were never offered are told with those that were refused
+  -- losses that were never offered are reported with those that were refused
   more_are_lost : with_losses 40 (port ring (first ∷ second ∷ []) (Some 2) 1 1 0) ≡ port ring (first ∷ second ∷ []) (Some 2) 41 41 0
   more_are_lost = refl
 

@@ -36,7 +36,7 @@ impl Outlet {
         }
     }
 
-    /// Moves what is left of a lane whose sending end is in this thread too behind what `into` has, the first sent first, as much
+    /// Moves what is left of a lane whose sending end is in this thread too after what `into` has, the first sent first, as much
     /// of it as `into` has room for. The rest stays. This takes no memory.
     #[tactic(auto, using(crate::proofs::Resting::moves_none))]
     pub fn rest_into(&mut self, port: &mut Port, into: &mut Vec<Sample>)

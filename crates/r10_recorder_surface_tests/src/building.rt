@@ -49,7 +49,7 @@ fn closed_parts(closed: &Option<Closed>) -> Option<(Reason, usize, Gap)> {
     }
 }
 
-/// A message opens a packet, one joins it, one behind a loss closes it, and age closes that one's.
+/// A message opens a packet, one joins it, one after a loss closes it, and age closes that one's.
 #[test]
 fn builders_take_and_hand_out(rt: HostRuntime) -> Result<(), Fail> {
     let alloc = rt.alloc();

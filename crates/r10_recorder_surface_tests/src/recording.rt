@@ -98,7 +98,7 @@ fn a_recorder_counts_losses_from_outside(rt: HostRuntime) -> Result<(), Fail> {
     Ok(())
 }
 
-/// Whether its one file is the one that is meant.
+/// Whether its one file is the one that is expected.
 fn lists(recorder: &DirectRecorder) -> bool {
     let Ok(files) = recorder.files() else {
         return false;

@@ -102,7 +102,7 @@ fn left_by<R: Threads + Wait + Sync>(
 }
 
 /// A setup, a time and an event have 32, 36 and 40 bytes, shown by the commit; the file is left open, and sealed by another
-/// recorder, which may begin the next one only after that. Its stop puts a node and a root behind setup and time: 68 and 60 bytes.
+/// recorder, which may begin the next one only after that. Its stop puts a node and a root after setup and time: 68 and 60 bytes.
 /// An order that is not given, or given twice, leaves others.
 #[test]
 fn orders_are_given(rt: HostRuntime) -> Result<(), Fail> {
@@ -209,7 +209,8 @@ fn run_feed<N: Rings + Send + Sync, R: Threads + Wait + Sync>(
     }
 }
 
-/// What is told of the one feed: its channel, how many messages were accepted, refused, erased and filed, and how many are left.
+/// What is reported of the one feed: its channel, how many messages were accepted, refused, erased and filed, and how many are
+/// left.
 fn feed_numbers(feeds: &[FeedReport]) -> Option<(u16, [u64; 4], usize)> {
     let [
         FeedReport {
@@ -227,7 +228,7 @@ fn feed_numbers(feeds: &[FeedReport]) -> Option<(u16, [u64; 4], usize)> {
     Some((*channel, [*accepted, *refused, *erased, *filed], rest.len()))
 }
 
-/// How many entries instalments have that go on from one another, the first from behind the setup and the time.
+/// How many entries instalments have that go on from one another, the first from after the setup and the time.
 fn entries_in(instalments: &[Instalment]) -> usize {
     let (mut given, mut place) = (0usize, 2usize);
     for Instalment { from, to, entries } in instalments {

@@ -1,4 +1,4 @@
-//! Events that are told to a world, and its replies: `r10_world`.
+//! Events that are given to a world, and its replies: `r10_world`.
 
 use crate::inputs::{CHANNEL, LAST, LATER, LEAP_DAY, channels, medium, settings, text, uart};
 use r10_body::{Gap, Refusal};
@@ -261,7 +261,7 @@ fn a_world_replies_to_events(rt: HostRuntime) -> Result<(), Fail> {
     Ok(())
 }
 
-/// Steps before and after a loss of 41 messages that is told of channel 5, and one of channel 6, which is not there.
+/// Steps before and after a loss of 41 messages that is reported of channel 5, and one of channel 6, which is not there.
 const BEFORE_LOSS: &[Ask] = &[Ask::Mount, Ask::Tick, Ask::Start];
 
 const AFTER_LOSS: &[Ask] = &[

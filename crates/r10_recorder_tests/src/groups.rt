@@ -43,7 +43,7 @@ const LEFT: FileListing = FileListing {
     closed: false,
 };
 
-/// Behind such packets two groups, a node of 2,028 bytes and one of 48, and behind each a root of 60.
+/// After such packets two groups, a node of 2,028 bytes and one of 48, and after each a root of 60.
 const CHAINED: FileListing = FileListing {
     name: b"FLT1",
     size: 5828,
@@ -120,7 +120,7 @@ fn reply_of(alloc: Global, ask: Ask) -> Result<Reply, Fail> {
     })
 }
 
-/// A recorder with groups of so many nodes gives the replies that are wanted to what stands before 99 ticks and behind them.
+/// A recorder with groups of so many nodes gives the replies that are wanted to what stands before 99 ticks and after them.
 fn answers_wanted(
     rt: &impl Abort,
     alloc: Global,

@@ -23,7 +23,7 @@ step = [{ do = \"mount\" }, { do = \"tick\", count = 1000, civil = \"2024-02-29 
 /// A message that is refused.
 const REFUSED: &str = "{ do = \"offer\", channel = 5, count = 1003 },\n";
 
-/// One message behind the loss goes into this file. Three more are lost, and the next one goes into another file.
+/// One message after the loss goes into this file. Three more are lost, and the next one goes into another file.
 const BEHIND: &str =
     "{ do = \"pump\", channel = 5, k = 2 }, { do = \"offer\", channel = 5, count = 1004 }, \
     { do = \"offer\", channel = 5, count = 1005 },
@@ -62,7 +62,7 @@ fn script(alloc: Global) -> Result<String, AllocError> {
     Ok(script)
 }
 
-/// Each of two losses is told by its number, the second one in the file behind it.
+/// Each of two losses is known by its number, the second one in the file after it.
 #[test]
 fn a_long_loss_is_told_by_its_number(rt: HostRuntime) -> Result<(), Fail> {
     let alloc = rt.alloc();

@@ -1,4 +1,4 @@
-// Events that are told to a world, and its replies.
+// Events that are given to a world, and its replies.
 
 use r10_body::{ChannelSpec, Entry, Gap, Kind, Message, Refusal};
 use r10_count::{Bytes, Count, Items, Parts};
@@ -54,7 +54,7 @@ const LISTED: [u8; 176] = [
     0x2D, 0x2D, 0x2D, 0x2D, 0x2D, 0x2D, 0x2D, 0x2D,
 ];
 
-/// That file, as it was recorded before there were reports: two messages, and one behind a loss.
+/// That file, as it was recorded before there were reports: two messages, and one after a loss.
 const BEFORE: [u8; 168] = [
     0x25, 0xEB, 0, 0, 0x20, 0, 0, 0, 8, 0, 0, 0, 8, 0, 0, 1, 0xE8, 3, 0, 0, 0, 0, 0x3D, 0xF0, //
     0x0C, 0, 0, 0, 0x41, 0x42, 0x43, 0x44, 0x25, 0xEB, 1, 0, 0x24, 0, 0, 0, 0x0C, 0, 0, 0, 8, 0, 0,
@@ -147,7 +147,7 @@ enum Want {
     Cursor,
     Advanced(usize),
     Given(u64, &'static [u8]),
-    /// A message behind a loss of which no number is told.
+    /// A message after a loss of which no number is reported.
     Behind(u64, &'static [u8]),
     Nothing,
     Refused(Refusal),
@@ -250,7 +250,7 @@ fn replies(alloc: Global, world: &mut World<Memory>, table: &[(Ask, Want)]) -> R
     Ok(done == events.len() && given == wanted)
 }
 
-/// The first recording has its replies, and stands behind the directory's blocks.
+/// The first recording has its replies, and stands after the directory's blocks.
 #[test]
 fn two_messages_are_recorded_and_replayed(rt: HostRuntime) -> Result<(), Fail> {
     let alloc = rt.alloc();

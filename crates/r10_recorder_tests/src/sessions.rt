@@ -3,7 +3,7 @@ use r10_text::ScriptFault;
 use std::alloc::{AllocError, Global};
 use std::test::Fail;
 
-/// A session script up to its tables behind the channels.
+/// A session script up to its tables after the channels.
 const HEAD: &str = "blocks = 64
 directory = 2
 volume = \"VOL\"

@@ -1,4 +1,4 @@
--- Calls behind which a recorder's files are safe.
+-- Calls after which a recorder's files are safe.
 use Rattle.std.proofs.Common.{◌≡◌, ◌⊎◌, ⊎_elim, inl, inr, false, List, map, Result, Ok, Err, refl, sym, ◌∙◌, subst}
 use Rattle.std.specs.Prelude.{OnOk}
 use Rattle.r10_body.specs.declared.refusal.Refusal.{Refusal}
@@ -23,7 +23,7 @@ use Rattle.r10_refinement.specs.Left.{IsEither, StaysSafe}
 use Rattle.r10_refinement.specs.Quiet.{IsNoFailure, may_make}
 use Rattle.r10_refinement.specs.Safe.{IsSafe, IsSafeOrFailed, SaysLast}
 
--- what is meant is said
+-- what is represented is stated
 pub files_said : (s : Config) (work : Work) (image : Image) (files : List File) → HasFiles s work image files → MediumSays s image files
 files_said s unmounted image files has = has.0
 files_said s (idle chain) image files has = has.says
@@ -81,7 +81,7 @@ quiet_safely known k later event reply old new config alike plain fine same = re
   behind = λ m machine means safe led. still_safe k later m machine old new config same alike (step_shows k.config m event reply machine means.sound led.step plain fine) safe;
 }
 
--- a file is recorded before and behind it, and a stop leaves what was shown
+-- a file is recorded before and after it, and a stop leaves what was shown
 pub shown_safely : (known : Machine → Type 0) (k later : Kept) (event : EventValue) (reply : ReplyValue) (old new : Disk) (chain made : List ChainBlock) (o p : OpenState) → k.work ≡ recording chain o → later.work ≡ recording made p
     → later.config ≡ k.config → may_make event ≡ false → IsNoFailure reply
     → ((m : Machine) → KeptStandsFor k old.blocks old.failures m → Settled (SaysLast k.config m.files old.blocks) old → Leaves (SaysLast k.config m.files old.blocks) old new) → StaysSafe known k event reply old later new

@@ -1,4 +1,4 @@
--- Steps of the machine, and the machines that are meant before and after them.
+-- Steps of the machine, and the machines that are represented before and after them.
 use Rattle.std.proofs.Common.{◌≡◌, ◌≤◌, ◌+◌, ℕ, true, inl, inr, List, [], ◌∷◌, length, map, Some, None, refl, sym, ap, ◌∙◌, subst, arith}
 use Rattle.std.specs.Option.{option_or}
 use Rattle.r10_count.specs.Checks.{first_broken}

@@ -24,7 +24,7 @@ use Rattle.r10_refinement.specs.Quiet.{IsNoFailure, may_make}
 abbrev shows : List File → List File
 shows files = map shown_part files
 
--- entries behind those that are shown show nothing
+-- entries after those that are shown show nothing
 part_same : (f : File) (more : List Entry) → f.shown ≤ length f.entries → shown_part (with_entries more f) ≡ shown_part f
 part_same f more within = ap (λ (es : List Entry). record f { entries = es }) (take-append-le f.shown f.entries more within)
 

@@ -86,7 +86,7 @@ offer_refused law k image n m channel count message r limits means is =
     by-means true sound = lane_means overflowed (λ l. (refl, refl)) channel k image n m means sound
     by-means false sound = means
 
--- ---- losses that are told
+-- ---- losses that are reported
 
 pub loss_counted : StepsStaySound → (k : Kept) (image : Image) (n : ℕ) (m : Machine) (channel lost : ℕ) → IsConfig k.config → KeptStandsFor k image n m → refusal k.config m (Lose channel lost) ≡ None
     → KeptStepsTo k m (Lose channel lost) replies.Done k image n (with_lane channel (losing lost) m)

@@ -27,13 +27,13 @@ pub record Makes (s : Config) (m : Machine) (event : EventValue) (image : Image)
 abbrev pub IsEither : Config → Machine → EventValue → Image → Type 0
 IsEither s m event image = MediumSays s image m.files ⊎ Makes s m event image
 
--- Of each machine that is meant, and of which this is known: where its files were safe before the call, at every moment of the call a stop leaves these, or those that the event makes of them. Behind the call the files of each machine that the reply leads to are safe again, unless the recorder failed.
+-- Of each machine that is represented, and of which this is known: where its files were safe before the call, at every moment of the call a stop leaves these, or those that the event makes of them. After the call the files of each machine that the reply leads to are safe again, unless the recorder failed.
 pub record StaysSafe (known : Machine → Type 0) (k : Kept) (event : EventValue) (reply : ReplyValue) (old : Disk) (later : Kept) (new : Disk) : Type 0 where
   pub left : (m : Machine) → KeptStandsFor k old.blocks old.failures m → known m → IsSafe k.config k.work m.files old → Leaves (IsEither k.config m event) old new
   pub behind : (m : Machine) (machine : Machine) → KeptStandsFor k old.blocks old.failures m → IsSafe k.config k.work m.files old → KeptStepsTo k m event reply later new.blocks new.failures machine
       → IsSafeOrFailed later.config later.work machine.files new
 
--- any machine that is meant
+-- any machine that is represented
 abbrev pub whichever : Machine → Type 0
 whichever m = Unit {0}
 
@@ -45,7 +45,7 @@ AnswersSafely k old event reply result later new =
 -- ---- a run
 
 -- Where a machine got these replies to these events: the image says the files that it comes to by some first events and their replies, or those that the next event makes of them.
--- Which events these are is left open, and may be none at any moment of the run: nobody is told a reply before the run returns. What a stop leaves after each single event is said by
+-- Which events these are is left open, and may be none at any moment of the run: nobody gets a reply before the run returns. What a stop leaves after each single event is stated by
 -- a run of that event alone, and by each call of a recorder (`StaysSafe`).
 pub record IsLeft (s : Config) (m : Machine) (events : List EventValue) (given : List ReplyValue) (image : Image) : Type 0 where
   pub done : ℕ

@@ -1,4 +1,4 @@
--- Which machines a recorder stands for.
+-- Which machines a recorder represents.
 use Rattle.std.specs.Prelude.{◌≡◌, ◌⊎◌, ℕ, ◌+◌, true, false, List, [], ◌∷◌, ◌++◌, Option, None, Some, length, map, replicate}
 use Rattle.r10_medium.specs.Disk.{Image}
 use Rattle.r10_body.specs.declared.spec.ChannelSpec.{ChannelSpec}
@@ -46,14 +46,14 @@ OwnFilesAre (idle chain) found files = OwnFollow found files
 OwnFilesAre (recording chain file) found files = OwnFollow found files
 OwnFilesAre failed found files = Unit {0}
 
--- the numbers are the machine's; of a recorder that failed they are told to nobody
+-- the numbers are the machine's; of a recorder that failed they are given to nobody
 abbrev pub NumbersAre : Kept → Machine → Type 0
 NumbersAre k m = elim k.work [
   | failed ↦ Unit {0}
   | _ ↦ (m.last_event ≡ k.last_event) × (m.generation ≡ k.generation) × LanesAreCounted m.files k.config.channels k.taken k.erased m.lanes × OwnFilesAre k.work k.found m.files
 ]
 
--- what is kept, over a medium that reads as an image and has failed so often, stands for this machine, whatever waits in its lanes
+-- what is kept, over a medium that reads as an image and has failed so often, represents this machine, whatever waits in its lanes
 pub record KeptStandsFor (k : Kept) (image : Image) (failures : ℕ) (m : Machine) : Type 0 where
   pub mode : m.mode ≡ mode_of k.work
   pub tick : m.tick ≡ k.tick
@@ -62,7 +62,7 @@ pub record KeptStandsFor (k : Kept) (image : Image) (failures : ℕ) (m : Machin
   pub numbers : NumbersAre k m
   pub sound : IsSound k.config m
 
--- the step leads to this machine, which is meant then
+-- the step leads to this machine, which is represented then
 pub record KeptStepsTo (k : Kept) (m : Machine) (event : EventValue) (reply : ReplyValue) (later : Kept) (image : Image) (failures : ℕ) (machine : Machine) : Type 0 where
   pub step : Step k.config m event reply machine
   pub means : KeptStandsFor later image failures machine

@@ -30,7 +30,7 @@ ghost use Rattle.r10_refinement.specs.Means.{LanesAreCounted, KeptStepsTo, KeptS
 
 use r10_machine::a_step_stays_sound;
 
-/// A call that a check refuses leaves what is kept and the medium's files; an offer to a full lane is told
+/// A call that a check refuses leaves what is kept and the medium's files; an offer to a full lane is reported
 /// elsewhere.
 pub fn refusals_are_steps()
     ensures { (k : Kept) (old new : Image) (n later : ℕ) (m : Machine) (event : EventValue) (r : RefusalValue)

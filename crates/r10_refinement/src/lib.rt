@@ -1,4 +1,4 @@
-//! Which machines a recorder stands for, and the steps between them: where a call does to the files what it does, and to
+//! Which machines a recorder represents, and the steps between them: where a call does to the files what it does, and to
 //! what is kept, the machine takes its step. And what a stop at any moment leaves of a recorder's files, over whole runs, and how a
 //! new recorder finds them again.
 #![tactic(auto)]

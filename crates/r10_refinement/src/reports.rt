@@ -31,7 +31,8 @@ pub fn offers_are_steps()
     a_step_stays_sound();
 }
 
-/// A loss that is told is counted in its channel's lane, in whatever mode, or there is no such channel; what is kept is the same.
+/// A loss that is reported is counted in its channel's lane, in whatever mode, or there is no such channel; what is kept is the
+/// same.
 pub fn losses_are_steps()
     ensures counted { (k : Kept) (image : Image) (n : ℕ) (m : Machine) (channel lost : ℕ) → IsConfig k.config
         → KeptStandsFor k image n m → refusal k.config m (events.Lose channel lost) ≡ None
@@ -43,7 +44,7 @@ pub fn losses_are_steps()
     a_step_stays_sound();
 }
 
-/// What is told is the machine's, and all stays: its files, its status, what is found in a file, and the
+/// What is reported is the machine's, and all stays: its files, its status, what is found in a file, and the
 /// count at a civil time.
 pub fn reports_are_steps()
     ensures files { (k : Kept) (old new : Image) (n later : ℕ) (m : Machine) → IsConfig k.config

@@ -36,7 +36,7 @@ pub fn other_events_show_no_more()
         → map shown_part later.files ≡ map shown_part m.files }
 {}
 
-/// A synced medium is safe for each machine that a recorder over it stands for, whatever was before: a stop leaves what is read.
+/// A synced medium is safe for each machine that a recorder over it represents, whatever was before: a stop leaves what is read.
 pub fn synced_media_are_safe<M: BlockMedium>(medium: &M)
     ensures { (k : Kept) (m : Machine) → KeptStandsFor k (M.disk medium.now).blocks (M.disk medium.now).failures m
         → IsSynced (M.disk medium.now) → IsSafeOrFailed k.config k.work m.files (M.disk medium.now) }

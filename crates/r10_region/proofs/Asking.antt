@@ -48,7 +48,7 @@ module _ (start : Image) (ops : List OperationValue) (blocks : Image) (reads : (
       split (inr (inl w)) = inr w
       split (inr (inr w)) = inl (inr w)
 
-  -- what a stop left behind one of the operations before, or behind all
+  -- what a stop left after one of the operations before, or after all
   left_before : (op : OperationValue) (t : ℕ) (image : Image) → IsStoppedSince start (ops ++ op ∷ []) t image
       → IsStoppedSince start ops t image ⊎ IsLeftOfDevice (device_of start (ops ++ op ∷ [])) image
   left_before op t image s = elim (cases_lt (length ops) s.done) [
@@ -92,7 +92,7 @@ pub put_or_not : (b : Bool) (n : ℕ) (bytes : Block) (blocks : Image) → MayPu
 put_or_not false n bytes blocks = inl refl
 put_or_not true n bytes blocks = inr refl
 
--- a sync, by what was told
+-- a sync, by what was queued
 module _ (start : Image) (ops ops2 : List OperationValue) (blocks : Image) (reads : (device_of start ops).reads ≡ blocks) (b : Bool) (is : ops2 ≡ told_if b Sync ops) where
   pub reads_still : (device_of start ops2).reads ≡ blocks
   reads_still = subst (λ (l : List OperationValue). (device_of start l).reads ≡ blocks) (sym is) (synced_reads start ops blocks reads b)
@@ -113,7 +113,7 @@ module _ (start : Image) (ops ops2 : List OperationValue) (blocks : Image) (read
   is_sure told k c holds = sure start ops blocks reads k c
       (subst (λ (a : Bool). MayHold (device_of start (told_if a Sync ops)) k c) told (subst (λ (l : List OperationValue). MayHold (device_of start l) k c) is holds))
 
--- a write, by what was told and put
+-- a write, by what was queued and put
 module _ (start : Image) (ops ops2 : List OperationValue) (blocks blocks2 : Image) (reads : (device_of start ops).reads ≡ blocks) (b : Bool) (n : ℕ) (bytes : Block)
     (is : ops2 ≡ told_if b (Write n bytes) ops) (put : blocks2 ≡ put_if b n bytes blocks) where
   pub reads_put : (device_of start ops2).reads ≡ blocks2

@@ -7,7 +7,7 @@ use Rattle.r10_medium.specs.Disk.{Image, Block, block_at, IsWhole, PicksEach}
 use Rattle.r10_region.specs.declared.operation.Operation.{Operation as OperationValue}
 use Rattle.r10_region.specs.declared.operation.Operation.TheVariants.{Write, Sync}
 
--- what is read, what was read behind the last sync, and what was written since into which block, the last first
+-- what is read, what was read after the last sync, and what was written since into which block, the last first
 pub record Device : Type 0 where
   pub reads : Image
   pub synced : Image
@@ -24,7 +24,7 @@ abbrev pub does_all : Device → List OperationValue → Device
 does_all d [] = d
 does_all d (op ∷ ops) = does_all (does d op) ops
 
--- one that held this, behind these operations
+-- one that held this, after these operations
 abbrev pub device_of : Image → List OperationValue → Device
 device_of start ops = does_all (at_rest start) ops
 
@@ -33,7 +33,7 @@ abbrev pub WasWritten : List (ℕ × Block) → ℕ → Block → Type 0
 WasWritten [] n c = ⊥
 WasWritten (w ∷ ws) n c = ((n ≡ w.0) × (c ≡ w.1)) ⊎ WasWritten ws n c
 
--- a stop may leave this in block n: what was sure, or what was written there since
+-- a stop may leave this in block n: what was synced, or what was written there since
 abbrev pub MayHold : Device → ℕ → Block → Type 0
 MayHold d n c = (c ≡ block_at d.synced n) ⊎ WasWritten d.unsure n c
 
@@ -41,7 +41,7 @@ MayHold d n c = (c ≡ block_at d.synced n) ⊎ WasWritten d.unsure n c
 abbrev pub IsLeftOfDevice : Device → Image → Type 0
 IsLeftOfDevice d image = PicksEach d.reads (MayHold d) image
 
--- What a stop leaves of a disk that held `start`, behind one of these operations, of which it has done t or more.
+-- What a stop leaves of a disk that held `start`, after one of these operations, of which it has done t or more.
 pub record IsStoppedSince (start : Image) (ops : List OperationValue) (t : ℕ) (image : Image) : Type 0 where
   pub done : ℕ
   pub later : t ≤ done
@@ -57,7 +57,7 @@ written_size Sync = 512
 abbrev pub AreWhole : List OperationValue → Type 0
 AreWhole ops = (i : ℕ) → i < length ops → written_size (get_or ops i Sync) ≡ 512
 
--- one operation more where it was told, and where it was done
+-- one operation more where it was queued, and where it was done
 abbrev pub told_if : Bool → OperationValue → List OperationValue → List OperationValue
 told_if true op ops = ops ++ op ∷ []
 told_if false op ops = ops
@@ -80,7 +80,7 @@ pub record IsSoundDevice (d : Device) : Type 0 where
 pub rest_is_sound : (image : Image) → IsSoundDevice (at_rest image)
 rest_is_sound image = record { size = refl; stands = λ n. inl refl }
 
--- what a stop might leave it may leave behind one more write
+-- what a stop might leave it may leave after one more write
 pub still_held : (d : Device) (n k : ℕ) (bytes c : Block) → MayHold d n c → MayHold (does d (Write k bytes)) n c
 still_held d n k bytes c (inl e) = inl e
 still_held d n k bytes c (inr w) = inr (inr w)

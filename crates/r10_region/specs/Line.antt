@@ -1,4 +1,4 @@
--- A line of rings: what was told through it, and how it goes on.
+-- A line of rings: what was sent through it, and how it goes on.
 use Rattle.std.specs.Prelude.{◌≡◌, ◌⊎◌, ℕ, ◌+◌, ◌≤◌, Bool, false, List, [], ◌∷◌, ◌++◌}
 use Rattle.rtrb.specs.Ring.{sent, received, known_free, known_items, IsPair, SameProducer, SameConsumer}
 use Rattle.r10_region.specs.declared.operation.Operation.{Operation as OperationValue}
@@ -31,7 +31,7 @@ pub record KeepsRing (old new : LineValue) : Type 0 where
   pub out : sent_links new ≡ sent_links old
   pub ring : SameProducer old.ring new.ring
 
--- Behind an operation that was told, which took a place at most of those known to be free, or began a further ring where there was none; it was not told only where no place
+-- After an operation that was queued, which took a place at most of those known to be free, or began a further ring where there was none; it was not queued only where no place
 -- was known to be free, and none is, and where there is no spare ring, or as many rings wait as may.
 pub record KeepsLine (told : Bool) (old new : LineValue) : Type 0 where
   pub links : SameProducer old.links new.links

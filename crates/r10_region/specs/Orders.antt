@@ -60,7 +60,7 @@ order_out Sync = record { block = 0; kind = 2 }
 abbrev pub no_order : OrderOut
 no_order = record { block = 0; kind = 0 }
 
--- the bytes of a write, and behind them what was there
+-- the bytes of a write, and after them what was there
 abbrev pub written_bytes : OperationValue → List ℕ → List ℕ
 written_bytes (Write n bytes) before = bytes ++ drop 512 before
 written_bytes Sync before = before
@@ -110,7 +110,7 @@ no_run = record { block = 0; blocks = 0; kind = 0 }
 abbrev pub sync_run : RunOut
 sync_run = record { block = 0; blocks = 0; kind = 2 }
 
--- a write, and as many behind it as join it: what each block of the run has then is what was written there last
+-- a write, and as many after it as join it: what each block of the run has then is what was written there last
 pub record HandsRun (first : ℕ) (bytes : List ℕ) (ops : List OperationValue) (old new : OrdersValue) (out : RunOut) (before after : List ℕ) : Type 0 where
   pub more : taken new ≡ taken old ++ Write first bytes ∷ ops
   pub all_join : AllJoin first 1 (length before / 512) ops
@@ -150,7 +150,7 @@ pub record CountsQueue (old new : OrdersValue) (out : QueueOut) : Type 0 where
   pub room : new.room ≡ old.room
   pub told : out ≡ record { waiting = length (known_items new.ring); places = consumer_capacity new.ring; rings = length (known_items new.links) }
 
--- a failure was told to the region, or one was told before and is not yet heard
+-- a failure was reported to the region, or one was reported before and is not yet heard
 pub record HasTold (old new : OrdersValue) : Type 0 where
   pub ring : new.ring ≡ old.ring
   pub links : new.links ≡ old.links
@@ -167,7 +167,7 @@ pub record SendsSpare (old new : OrdersValue) : Type 0 where
   pub sends : sent new.spares ≡ sent old.spares ++ spare ∷ []
   pub places : producer_capacity spare.ring ≡ max old.room 1
 
--- Before memory is asked for there is a place for each of so many operations: in the spare ring that was sent before and is there, in the ring in hand, behind which none waits, or in
+-- Before memory is asked for there is a place for each of so many operations: in the spare ring that was sent before and is there, in the ring in hand, after which none waits, or in
 -- a spare ring that is sent now.
 pub data HasRoom (old new : OrdersValue) : Type 0 where
   waits : known_free new.spares ≡ 0 → sent new.spares ≡ sent old.spares → HasRoom old new

@@ -20,7 +20,7 @@ pub record IsSameQueue (old new : Region) : Type 0 where
   pub spares : SameConsumer old.line.spares new.line.spares
   pub ring : KeepsRing old.line new.line ⊎ BeginsRing old.line new.line
 
--- The disk was asked this, behind what it was asked before, and it took a place at most of those known.
+-- The disk was asked this, after what it was asked before, and it took a place at most of those known.
 pub record AsksDisk (op : OperationValue) (old new : Region) : Type 0 where
   pub lent : lent_to new ≡ lent_to old
   pub queue : IsSameQueue old new
@@ -38,7 +38,7 @@ pub record FindsNoPlace (old new : Region) : Type 0 where
   pub no_more : asked new ≡ asked old
   pub blocks : (region_disk new).blocks ≡ (region_disk old).blocks
 
--- It was told that the disk failed: nothing was written, and the disk was asked nothing.
+-- It was reported that the disk failed: nothing was written, and the disk was asked nothing.
 pub record HearsFailure (old new : Region) : Type 0 where
   pub heard : 0 < length (known_items new.news)
   pub lent : lent_to new ≡ lent_to old

@@ -1,4 +1,4 @@
--- What lent memory reads as, and what a stop leaves of the disk that does what it is told.
+-- What lent memory reads as, and what a stop leaves of the disk that does what it is ordered to.
 use Rattle.std.specs.Prelude.{◌≡◌, ℕ, ◌-◌, ◌^◌, ◌≤◌, ◌<◌, List, length, min}
 use Rattle.std.proofs.Common.{arith, sym, ap, subst}
 use Rattle.std.proofs.lemmas.List.{take_all}
@@ -13,7 +13,7 @@ use Rattle.r10_region.specs.declared.region.Region.{Region}
 abbrev pub lent_to : Region → Image
 lent_to r = r.was.value.held
 
--- what the disk was told to do, in order
+-- what the disk was ordered to do, in order
 abbrev pub asked : Region → List OperationValue
 asked r = told_by r.line
 

@@ -3,7 +3,7 @@ use Rattle.std.specs.Prelude.{◌≡◌, ℕ, ◌+◌, ◌-◌, ◌*◌, ◌&&�
 use Rattle.r10_region.specs.declared.operation.Operation.{Operation as OperationValue}
 use Rattle.r10_region.specs.declared.operation.Operation.TheVariants.{Write, Sync}
 
--- it writes one of the blocks of a run from this one on, of so many blocks, or the next behind them, of which there may be at most so many
+-- it writes one of the blocks of a run from this one on, of so many blocks, or the next after them, of which there may be at most so many
 abbrev pub joins : ℕ → ℕ → ℕ → OperationValue → Bool
 joins first count most (Write n bytes) = nat_le first n && (nat_le (n - first) count && nat_lt (n - first) most)
 joins first count most Sync = false

@@ -37,7 +37,7 @@ pub struct Line {
     pub(crate) spares: Consumer<Spare, Global>,
 }
 
-/// How many places the ring behind one of so many has.
+/// How many places the ring after one of so many has.
 fn larger(places: usize) -> usize
     ensures { 0 < result }
 {
@@ -96,7 +96,7 @@ impl Line {
         Ok((line, orders, later, spare))
     }
 
-    /// Puts an operation behind the others. It is not put where there is no place for it and memory for more is refused.
+    /// Puts an operation after the others. It is not put where there is no place for it and memory for more is refused.
     pub(crate) fn ask(&mut self, operation: Operation) -> bool
         ensures told { told_by self.new ≡ told_if result operation (told_by self.old) }
         ensures keeps { KeepsLine result self.old self.new }

@@ -7,7 +7,7 @@ ghost use Rattle.std.specs.Prelude.{◌≡◌, length};
 pub enum Operation {
     /// The block `block` holds these bytes from now on.
     Write { block: usize, bytes: [u8; 512] },
-    /// What was written so far is made sure.
+    /// What was written so far is synced.
     Sync,
 }
 

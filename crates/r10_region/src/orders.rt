@@ -15,7 +15,7 @@ use std::alloc::Global;
 pub struct OrderOut {
     /// which block is written
     pub block: usize,
-    /// 0 there is none, 1 a block is written, 2 what was written so far is made sure
+    /// 0 there is none, 1 a block is written, 2 what was written so far is synced
     pub kind: u8,
 }
 
@@ -27,7 +27,7 @@ pub struct RunOut {
     pub block: usize,
     /// how many blocks are written, side by side
     pub blocks: usize,
-    /// 0 there is none, 1 blocks are written, 2 what was written so far is made sure
+    /// 0 there is none, 1 blocks are written, 2 what was written so far is synced
     pub kind: u8,
 }
 
@@ -179,7 +179,7 @@ impl Orders {
     }
 
     /// Hands out the next operations that a disk may do at once, and the bytes of their writes, if there are some: a sync alone, or
-    /// a write and those behind it that write its block, or blocks side by side with it, as many as there is room for.
+    /// a write and those after it that write its block, or blocks side by side with it, as many as there is room for.
     pub fn hand_out_run(&mut self, out: &mut RunOut, bytes: &mut [u8])
         requires { 512 ≤ length bytes.old }
         ensures { HandsRunOut self.old self.new out.new bytes.old bytes.new }
@@ -241,7 +241,7 @@ impl Orders {
     pub fn disk_failed(&mut self)
         ensures { HasTold self.old self.new }
     {
-        // What was told before still holds.
+        // What was reported before still holds.
         let _told = self.news.push(true);
     }
 

@@ -1,4 +1,4 @@
-//! What is written is told to the disk, where there is room to tell it.
+//! What is written is queued for the disk, where there is room to queue it.
 
 ghost use Rattle.std.specs.Prelude.{◌≡◌, ◌<◌, length};
 ghost use Rattle.r10_region.specs.Device.{told_if, put_if};

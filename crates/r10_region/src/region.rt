@@ -17,7 +17,7 @@ use std::snapshot::Snapshot;
 
 /// A medium over memory that a program lends. The memory reads as it was last written. What a stop leaves is what it leaves of a
 /// disk that held what was lent, and does the operations that `Orders` hands out, in order. A write or a sync fails only where
-/// memory for one operation more is refused, or where `Orders` was told that the disk failed.
+/// memory for one operation more is refused, or where `Orders` was reported that the disk failed.
 #[derive(Drop)]
 pub struct Region {
     blocks: &'static mut [[u8; 512]],

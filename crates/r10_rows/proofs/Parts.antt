@@ -26,7 +26,7 @@ printed_more (first ∷ done) out case answer so_far is_answer =
       ap (λ t. t ++ printed case answer) so_far.4 ∙ append_assoc (printed first so_far.0) so_far.1 (printed case answer),
     )
 
--- the cases before this place were answered, and those behind it are the rest of the text's
+-- the cases before this place were answered, and those after it are the rest of the text's
 abbrev pub SoFar : List ℕ → ℕ → Option (List ℕ) → Option (List ℕ) → Type 0
 SoFar text at old now = (done : List Case) × (out : List ℕ) × ArePrinted done out × Appends old now out
     × ((more : List Case) → AreCases (drop at text) more → AreCases text (done ++ more))

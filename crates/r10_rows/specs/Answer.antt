@@ -14,7 +14,7 @@ use Rattle.r10_rows.specs.declared.case.Case.{Case}
 abbrev pub AreBoth : List ℕ → List ℕ → List ℕ → Type 0
 AreBoth closing word other = (word ≡ codes "judge") × (other ≡ closing)
 
--- behind the case's name the word `judge`, and this closing
+-- after the case's name the word `judge`, and this closing
 abbrev pub AsksJudge : List ℕ → List (List ℕ) → Type 0
 AsksJudge closing [] = ⊥
 AsksJudge closing (name ∷ []) = ⊥

@@ -14,7 +14,7 @@ case_length (b ∷ bs) = if starts_with nat_eq (b ∷ bs) (codes "\n== ") then 1
 abbrev pub IsWord : List ℕ → Type 0
 IsWord word = EachIndex word (λ i. (slice_index word i ≢ 32) × (slice_index word i ≢ 10))
 
--- each word behind a space
+-- each word after a space
 abbrev pub behind_spaces : List (List ℕ) → List ℕ
 behind_spaces [] = []
 behind_spaces (word ∷ words) = 32 ∷ word ++ behind_spaces words
@@ -41,10 +41,10 @@ spelled case =
 abbrev pub IsCase : Case → Type 0
 IsCase case = All (λ word. IsWord (string_bytes word)) case.words.items
 
--- the hex digits that a byte stands for: the end of a line for none, a dot for those of 32 bytes of zeros
+-- the hex digits that a byte represents: the end of a line for none, a dot for those of 32 bytes of zeros
 abbrev pub marks : ℕ → List ℕ
 marks b = if b == 10 then [] else if b == 46 then replicate 64 48 else b ∷ []
 
--- the bytes that the hex digits of the lines stand for, or the lines themselves
+-- the bytes that the hex digits of the lines represent, or the lines themselves
 abbrev pub IsInput : Case → List ℕ → Type 0
 IsInput case input = MatchBool case.is_hex (decode_of (flat_map marks (string_bytes case.body)) ≡ Ok input) (input ≡ string_bytes case.body)

@@ -11,7 +11,7 @@ use std::alloc::{AllocError, Global};
 /// A case: a command line and its input, and the status that it is to end with.
 #[derive(Debug, Drop)]
 pub struct Case {
-    /// The case's name, in the place of the program's, and the words behind it.
+    /// The case's name, in the place of the program's, and the words after it.
     pub words: Vec<String>,
     /// The status that is wanted.
     pub wanted: u8,
@@ -87,7 +87,7 @@ fn window_text(alloc: Global, window: Option<(usize, usize)>) -> Result<String, 
     }
 }
 
-/// The bytes that the hex digits stand for.
+/// The bytes that the hex digits represent.
 fn hex_input(alloc: Global, at: usize, body: &[u8]) -> Result<Vec<u8>, RowsFault>
     ensures { IfOk result (λ input. decode_of (flat_map marks body.now) ≡ Ok input.items) }
 {
@@ -109,7 +109,7 @@ fn digits_of(alloc: Global, body: &[u8]) -> Result<Vec<u8>, AllocError>
     Ok(digits)
 }
 
-/// Adds the digits that one byte of the body stands for: the end of a line for none, a dot for 32 bytes of zeros.
+/// Adds the digits that one byte of the body represents: the end of a line for none, a dot for 32 bytes of zeros.
 fn push_marks(digits: &mut Vec<u8>, byte: u8) -> Result<(), AllocError>
     ensures { OnOk result (digits.new.items ≡ digits.old.items ++ marks byte) }
 {

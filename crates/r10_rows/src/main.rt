@@ -1,4 +1,4 @@
-//! Runs cases, which stand in standard input one behind the other, each through the commands of `r10`, and prints what each
+//! Runs cases, which stand in standard input one after the other, each through the commands of `r10`, and prints what each
 //! came to.
 #![tactic(auto)]
 

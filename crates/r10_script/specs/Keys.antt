@@ -18,7 +18,7 @@ integer_or_zero_at table key = if is_some (get_member key table) then integer_at
 abbrev pub text_at : Members → List ℕ → Option (List ℕ)
 text_at table key = option_and_then as_str (get_member key table)
 
--- the bytes that a text of hex digits stands for
+-- the bytes that a text of hex digits represents
 abbrev pub bytes_at : Members → List ℕ → Option (List ℕ)
 bytes_at table key = option_and_then (λ digits. result_ok (decode_of digits)) (text_at table key)
 

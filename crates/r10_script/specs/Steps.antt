@@ -23,7 +23,7 @@ IsIdStep word table id =
 abbrev pub IsCivilText : Members → Parts → Type 0
 IsCivilText table parts = (text_at table (codes "civil") ≡ Some (civil_text parts)) × HasText parts
 
--- the keys of each event behind the word that names it
+-- the keys of each event after the word that names it
 abbrev pub IsStep : List ChannelSpec → Members → Event → Type 0
 IsStep channels table events.Mount = IsBareStep (codes "mount") table
 IsStep channels table events.Dismount = IsBareStep (codes "dismount") table

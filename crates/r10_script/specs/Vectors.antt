@@ -21,7 +21,7 @@ absent-flag = refl
 pub absent-bytes : bytes_or_none_at no_members (codes "words") ≡ Some []
 absent-bytes = refl
 
--- of items there are none where they may be absent, and nothing is said for them where they may not
+-- of items there are none where they may be absent, and nothing is stated for them where they may not
 pub absent-steps : items_or_none_at no_members (codes "step") ≡ Some []
 absent-steps = refl
 

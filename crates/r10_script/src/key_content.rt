@@ -1,13 +1,13 @@
-//! What a script has where something else is wanted, as it is said in a fault.
+//! What a script has where something else is wanted, as it is stated in a fault.
 
 use r10_text::KeyContent;
 use std::alloc::{AllocError, Global};
 use toml::Value;
 
-/// How many characters of a word of a script are said.
+/// How many characters of a word of a script are stated.
 const MOST: usize = 60;
 
-/// What is said of a value.
+/// What is stated of a value.
 pub fn found_of(alloc: Global, value: &Value) -> Result<KeyContent, AllocError> {
     if let Some(number) = value.as_integer() {
         return Ok(KeyContent::Number(number));

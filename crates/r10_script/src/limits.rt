@@ -93,7 +93,7 @@ fn twice_fault(top: Fields<'_>, id: u16) -> ScriptFault {
     channel_with(top, id, before).fault_at("id", OTHER_ID)
 }
 
-/// The channel table with this ID behind so many others with it, or else the keys above the tables.
+/// The channel table with this ID after so many others with it, or else the keys above the tables.
 fn channel_with<'a>(top: Fields<'a>, id: u16, before: usize) -> Fields<'a> {
     let mut number = 0usize;
     let mut left = before;

@@ -34,7 +34,7 @@ pub fn read_script(alloc: Global, text: &[u8]) -> Result<Script, ScriptFault>
     }
 }
 
-/// The script that the text spells. A fault behind the text's form names no line.
+/// The script that the text spells. A fault after the text's form names no line.
 fn script_of(alloc: Global, text: &[u8]) -> Result<Script, ScriptFault>
     ensures text { IfOk result (λ _. IsUtf8 text.now) }
     ensures script { IfOk result (λ script. (table : Members) × (parse_document text.now ≡ Some table) × HasOnly script_keys table

@@ -84,7 +84,7 @@ pub fn read_session(alloc: Global, text: &[u8]) -> Result<SessionScript, ScriptF
     }
 }
 
-/// The session script that the text spells. A fault behind the text's form names no line.
+/// The session script that the text spells. A fault after the text's form names no line.
 fn session_of(alloc: Global, text: &[u8]) -> Result<SessionScript, ScriptFault>
     ensures text { IfOk result (λ _. IsUtf8 text.now) }
     ensures session { IfOk result (λ session. (table : Members) × (parse_document text.now ≡ Some table)

@@ -181,7 +181,7 @@ impl<'a> Fields<'a> {
         self.size_of(key, NATURAL)
     }
 
-    /// A setting that is a number. Of one that is none it is said what is wanted.
+    /// A setting that is a number. Of one that is none it is stated what is wanted.
     pub fn size_of(&self, key: &'static str, wanted: &'static str) -> Result<usize, ScriptFault>
         ensures { IfOk result (λ n. integer_at (table_view self.now.table.now) key.now ≡ Some (pos n)) }
     {
@@ -198,7 +198,7 @@ impl<'a> Fields<'a> {
         self.short_of(key, SHORT)
     }
 
-    /// A setting of 16 bits. Of one that is none it is said what is wanted.
+    /// A setting of 16 bits. Of one that is none it is stated what is wanted.
     pub fn short_of(&self, key: &'static str, wanted: &'static str) -> Result<u16, ScriptFault>
         ensures { IfOk result (λ n. integer_at (table_view self.now.table.now) key.now ≡ Some (pos n)) }
     {
@@ -312,7 +312,7 @@ impl<'a> Fields<'a> {
         }
     }
 
-    /// The bytes that a text of hex digits stands for. Of another text it is said what is wanted.
+    /// The bytes that a text of hex digits represents. Of another text it is stated what is wanted.
     fn hex_bytes(&self, key: &'static str, wanted: &'static str) -> Result<Vec<u8>, ScriptFault>
         ensures { IfOk result (λ v. bytes_at (table_view self.now.table.now) key.now ≡ Some v.items) }
     {
@@ -323,14 +323,14 @@ impl<'a> Fields<'a> {
         }
     }
 
-    /// The bytes that a text of hex digits stands for.
+    /// The bytes that a text of hex digits represents.
     pub fn bytes(&self, key: &'static str) -> Result<Vec<u8>, ScriptFault>
         ensures { IfOk result (λ v. bytes_at (table_view self.now.table.now) key.now ≡ Some v.items) }
     {
         self.hex_bytes(key, HEX)
     }
 
-    /// The bytes that a text of hex digits stands for, none where the key is absent.
+    /// The bytes that a text of hex digits represents, none where the key is absent.
     pub fn bytes_or_none(&self, key: &'static str) -> Result<Vec<u8>, ScriptFault>
         ensures { IfOk result (λ v. bytes_or_none_at (table_view self.now.table.now) key.now ≡ Some v.items) }
     {
@@ -341,7 +341,7 @@ impl<'a> Fields<'a> {
         }
     }
 
-    /// The 16-bit words that a text of four hex digits each stands for, none where the key is absent.
+    /// The 16-bit words that a text of four hex digits each represents, none where the key is absent.
     pub fn words_or_none(&self, key: &'static str) -> Result<Vec<u16>, ScriptFault>
         ensures { IfOk result (λ v. bytes_or_none_at (table_view self.now.table.now) key.now ≡ Some (words_high_first v.items)) }
     {

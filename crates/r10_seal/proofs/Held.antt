@@ -231,7 +231,7 @@ pub sealable_costs : (s : Config) (old : Image) (chain : List ChainBlock) (nodes
 sealable_costs s old chain nodes area' v files f e whole left last is all =
     omega (arith, is.room, all, cost s old chain nodes files f left whole e is.text is.packets last is.unsealed, area_is s old chain nodes files f left whole e last)
 
--- where nothing changed, the files are said as they were
+-- where nothing changed, the files are stated as they were
 pub still_open : (s : Config) (old new : Disk) (chain : List ChainBlock) (nodes : ℕ) (files : List File) (f : File) → IsLeftOpen s old.blocks chain nodes files f → Unchanged old new → StaysOpen s files f old new
 still_open s old new chain nodes files f left same = record {
   says = subst (λ (image : Image). MediumSays s image (files ++ f ∷ [])) (sym same.reads) left.held.says;

@@ -22,7 +22,7 @@ use Rattle.r10_volume.proofs.Staying.{bytes_behind}
 use Rattle.r10_volume.specs.Mounting.{IsUsable}
 use Rattle.r10_count.proofs.Rules.{none_broken}
 
--- a file behind the reserved blocks, whose bytes are inside the medium
+-- a file after the reserved blocks, whose bytes are inside the medium
 pub record Placed (blocks reserved : ℕ) (e : Entry) : Type 0 where
   pub behind : reserved < e.first_block
   pub within : 512 * e.first_block + e.size ≤ 512 * blocks
@@ -51,7 +51,7 @@ last_place reserved image chain e usable is =
     subst (λ (o : Option Entry). IfSome o (Placed (length image) reserved)) is
     (last_placed (length image) reserved (reserved + 1) None (listed_files chain) (omega arith) tt (usable_of reserved (length image) chain usable.rules).stand)
 
--- ---- the directory, while blocks behind it are written
+-- ---- the directory, while blocks after it are written
 
 holds_stay : (old new : Image) (reserved n first : ℕ) (chain : List ChainBlock) → SameBelow first 0 old new → reserved < first → first_broken (place_rules reserved n chain) ≡ None → All (HoldsBlock old) chain → All (HoldsBlock new) chain
 holds_stay old new reserved n first [] same less places all = All-nil (HoldsBlock new)

@@ -29,7 +29,7 @@ pub record IsUnsealed (bytes : List ℕ) (text : List ℕ) (packets : List Packe
 abbrev pub cost_of_packets : List ℕ → List Packet → ℕ
 cost_of_packets text packets = file_cost text (file_entries packets)
 
--- their bytes with their index behind them, in groups of so many nodes
+-- their bytes with their index after them, in groups of so many nodes
 abbrev pub sealed_bytes : ℕ → List Packet → List ℕ
 sealed_bytes nodes packets = file_bytes (packets ++ index_of nodes packets)
 

@@ -9,7 +9,7 @@ pub enum SealFault {
     /// It is not strict: the first fault of its bytes.
     #[error("{0}")]
     BadFile(FirstFault),
-    /// It costs more than there is of the medium behind its first block.
+    /// It costs more than there is of the medium after its first block.
     #[error("the closed file has no room on the medium")]
     MediumFull,
     /// A call of the medium failed.

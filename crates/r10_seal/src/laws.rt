@@ -53,7 +53,7 @@ pub fn sealed_files_are_held()
         → SealsFile old chain e nodes (512 * (length old - e.first_block)) new made → shown_cost f ≤ area s f }
 {}
 
-/// While blocks of it with its index are put, the files are said as they were; and where it is closed, with it closed,
+/// While blocks of it with its index are put, the files are stated as they were; and where it is closed, with it closed,
 /// and all images say them so with the same bytes.
 pub fn seals_leave_files()
     ensures left { (s : Config) (old from image : Image) (chain : List ChainBlock) (nodes : ℕ)

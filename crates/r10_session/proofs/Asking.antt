@@ -7,7 +7,7 @@ use Rattle.r10_medium.specs.Disk.{Disk}
 use Rattle.r10_session.specs.Answered.{Answered, Answers}
 use Rattle.r10_shared.specs.declared.order.Order.{Order}
 
--- whatever is answered to the orders from a place on, behind these it is what is answered to all
+-- whatever is answered to the orders from a place on, after these it is what is answered to all
 abbrev pub AnsweredTo : {M : Type 0} → (M → Disk) → HeldState M → List Order → ℕ → List Reply → HeldState M → Type 0
 AnsweredTo {M} disk first orders place replies now = (rs : List Reply) (end : HeldState M) → Answered disk now (drop place orders) rs end → Answered disk first orders (replies ++ rs) end
 

@@ -24,7 +24,7 @@ none_counted c (f ∷ tables) none = by (f.channel == c) refl (sym (counted c f 
     by true is zero_all rest = let one : cond true 1 0 + count_by (λ (g : FeedTable). g.channel == c) tables ≡ 0 = rw is at zero_all in absurd (omega (arith, one))
     by false is zero_all rest = let others : cond false 1 0 + count_by (λ (g : FeedTable). g.channel == c) tables ≡ 0 = rw is at zero_all in (is, rest (omega (arith, others)))
 
--- those behind the first are of other channels
+-- those after the first are of other channels
 pub others_apart : (t : FeedTable) (tables : List FeedTable) → AreApart (t ∷ tables) → AllByRecursion (λ (f : FeedTable). (f.channel == t.channel) ≡ false) tables
 others_apart t tables apart =
     let all = counted t.channel t tables in
@@ -63,9 +63,9 @@ module _ (before rest : List FeedTable) (t : FeedTable) (split : before ≡ t �
   pub rest_are_apart : AreApart before → AreApart rest
   rest_are_apart apart = rest_apart t rest (subst (λ (l : List FeedTable). AreApart l) split apart)
 
--- ---- two lists, one behind the other
+-- ---- two lists, one after the other
 
--- whatever belongs to what is left of the first list, behind these it is what belongs to all
+-- whatever belongs to what is left of the first list, after these it is what belongs to all
 abbrev pub PairedTo : {X Y : Type 0} → List X → List X → List Y → (X → Y → Type 0) → Type 0
 PairedTo {X} {Y} xs left ys R = (more : List Y) → AllZip R left more → AllZip R xs (ys ++ more)
 

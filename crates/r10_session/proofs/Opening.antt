@@ -8,7 +8,7 @@ use Rattle.r10_medium.specs.Disk.{Disk}
 use Rattle.r10_session.specs.Readers.{AreOpened, OpensCursor, cursors_in, refusal_of}
 use Rattle.r10_script.specs.declared.session.ReaderTable.{ReaderTable}
 
--- whatever comes of the tables from a place on, behind these it is what comes of all
+-- whatever comes of the tables from a place on, after these it is what comes of all
 abbrev pub OpenedTo : {M : Type 0} → (M → Disk) → HeldState M → List ReaderTable → ℕ → List (Option Refusal) → List Cursor → HeldState M → Type 0
 OpenedTo {M} disk first tables place refused cursors now =
     (rs : List (Option Refusal)) (cs : List Cursor) (end : HeldState M) → AreOpened disk now (drop place tables) rs cs end → AreOpened disk first tables (refused ++ rs) (cursors ++ cs) end

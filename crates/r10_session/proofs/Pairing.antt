@@ -7,7 +7,7 @@ use Rattle.r10_session.specs.Ends.{ArePaired, IsLane}
 use Rattle.r10_session.specs.declared.ends.Sender.{Sender}
 use Rattle.r10_port.specs.Ends.{Receiving}
 
--- whatever lanes the channels from a place on have, behind these they are those of all
+-- whatever lanes the channels from a place on have, after these they are those of all
 abbrev pub PairedTo : List ChannelSpec → ℕ → List Sender → List Receiving → Type 0
 PairedTo specs place senders outlets = (ss : List Sender) (os : List Receiving) → ArePaired (drop place specs) ss os → ArePaired specs (senders ++ ss) (outlets ++ os)
 
@@ -20,7 +20,7 @@ one_paired specs place senders outlets spec sender outlet so within here lane ss
     subst (λ (l : List Sender). ArePaired specs l ((outlets ++ outlet ∷ []) ++ os)) (sym (append_assoc senders (sender ∷ []) ss))
     (subst (λ (l : List Receiving). ArePaired specs (senders ++ (sender ∷ ss)) l) (sym (append_assoc outlets (outlet ∷ []) os)) all)
 
--- and behind the last
+-- and after the last
 pub all_paired : (specs : List ChannelSpec) (place : ℕ) (senders : List Sender) (outlets : List Receiving) → PairedTo specs place senders outlets → length specs ≤ place → ArePaired specs senders outlets
 all_paired specs place senders outlets so done =
     let all : ArePaired specs (senders ++ []) (outlets ++ []) = so [] [] (subst (λ (l : List ChannelSpec). ArePaired l [] []) (sym (drop_all place specs done)) tt) in

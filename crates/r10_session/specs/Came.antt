@@ -18,7 +18,7 @@ use Rattle.r10_shared.specs.declared.order.Order.{Order}
 use Rattle.r10_held.specs.Transcripts.{AllAgree}
 use Rattle.r10_held.specs.declared.transcript.Transcript.{Transcript}
 
--- The steps were asked of a recorder under a lock, and it answered so; the readers' cursors were opened or refused behind them.
+-- The steps were asked of a recorder under a lock, and it answered so; the readers' cursors were opened or refused after them.
 -- At the end, by the own files of a recorder over a medium with this image, this became of each feed's items, and this was read by
 -- each reader; and what the audit says of it, if it is not refused.
 pub record CameOf (specs : List ChannelSpec) (steps : List Order) (feeds : List FeedTable)

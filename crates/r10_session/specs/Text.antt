@@ -12,7 +12,7 @@ use Rattle.r10_session.specs.declared.ended.FeedEnd.{FeedEnd}
 use Rattle.r10_session.specs.declared.ended.ReaderEnd.{ReaderEnd}
 use Rattle.r10_session.specs.declared.ended.ReaderEnd.TheVariants as ends
 
--- the lines of the replies to the steps behind the first `done` ones, each numbered from 1
+-- the lines of the replies to the steps after the first `done` ones, each numbered from 1
 abbrev pub step_lines : ℕ → List Reply → List ℕ
 step_lines done [] = []
 step_lines done (reply ∷ replies) = reply_lines (done + 1) reply ++ step_lines (done + 1) replies

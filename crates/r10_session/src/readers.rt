@@ -38,7 +38,7 @@ fn open<M: BlockMedium, N: Rings>(
     Ok(held.cursor(table.file, channels, table.from, table.to))
 }
 
-/// Puts the refusal of a cursor, or none and the cursor, behind these.
+/// Puts the refusal of a cursor, or none and the cursor, after these.
 fn add(
     refused: &mut Vec<Option<Refusal>>,
     cursors: &mut Vec<Cursor>,

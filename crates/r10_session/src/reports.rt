@@ -1,4 +1,4 @@
-//! What is told of a session, by its report.
+//! What is reported of a session, by its report.
 
 ghost use Rattle.std.specs.Prelude.{◌≡◌, ◌↔◌, IfOk, IsTrue, map};
 ghost use Rattle.r10_medium.specs.MemoryDisk.{memory_disk};

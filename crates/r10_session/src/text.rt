@@ -19,7 +19,7 @@ fn refusal_line(alloc: Global, refusal: Refusal) -> Result<String, AllocError>
     String::from_str(alloc, behind_number(lines.as_str()))
 }
 
-/// What stands behind the number 0 in a line.
+/// What stands after the number 0 in a line.
 fn behind_number(line: &str) -> &str
     ensures { (rest : List ℕ) → line.now ≡ codes "0 " ++ rest → result.now ≡ rest }
 {

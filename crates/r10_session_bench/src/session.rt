@@ -39,7 +39,7 @@ const START: Parts = Parts {
 /// The largest count.
 const LAST: u64 = 281_474_976_710_655;
 
-/// The number of the worker that gives the orders: behind four feeds and the writer.
+/// The number of the worker that gives the orders: after four feeds and the writer.
 const CONTROL: usize = 5;
 
 /// Mounts the medium, and begins a file.

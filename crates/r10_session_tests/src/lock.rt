@@ -44,8 +44,8 @@ const CLOSED: &[(Ask, Result<usize, Refusal>)] = &[
     (Ask::Erase, Ok(0)),
 ];
 
-/// What is told without a change: how often something was published, how many files there are, the last file and its shown bytes,
-/// how many messages of the channel were taken in, how many of them erases took, and the bytes that are free.
+/// What is reported without a change: how often something was published, how many files there are, the last file and its shown
+/// bytes, how many messages of the channel were taken in, how many of them erases took, and the bytes that are free.
 #[derive(Debug, Drop, PartialEq, Eq)]
 struct LockNumbers {
     published: u64,

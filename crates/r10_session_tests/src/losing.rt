@@ -154,7 +154,7 @@ impl Seen {
         self.next = count.wrapping_add(1);
     }
 
-    /// How many messages were lost: those that the gaps tell of, and those behind the last entry.
+    /// How many messages were lost: those that the gaps tell of, and those after the last entry.
     pub fn lost(&self) -> u64 {
         let behind = (FIRST + ALL).saturating_sub(self.next);
         self.lost.wrapping_add(behind)

@@ -89,7 +89,7 @@ fn read<M: BlockMedium, N: Rings, R: Wait>(
     }
 }
 
-/// What passes saw: one that was split before a commit, before it and behind it, and the one that it was split from, behind it.
+/// What passes saw: one that was split before a commit, before it and after it, and the one that it was split from, after it.
 #[derive(Debug, Drop, PartialEq, Eq)]
 struct PassGlances {
     before: Glance,

@@ -1,4 +1,4 @@
-// Sessions, and what is told of them.
+// Sessions, and what is reported of them.
 
 ghost use Rattle.std.specs.Prelude.{◌≡◌, [], ◌∷◌, All, IfOk, Some};
 ghost use Rattle.r10_held.specs.Account.{IsNew};
@@ -190,7 +190,7 @@ pub fn run_recorded<N: Rings + Send + Sync, R: Threads + Wait + Sync, G: Gate + 
 }
 
 /// The same with a stop, and then a further session of the feed with another source: how many messages were sent until the stop was
-/// asked, and what is told of both.
+/// asked, and what is reported of both.
 pub fn run_twice<N: Rings + Send + Sync, R: Threads + Wait + Sync>(
     rt: &R,
     alloc: Global,
@@ -244,7 +244,7 @@ pub fn run_one<N: Rings + Send + Sync, R: Threads + Wait + Sync>(
     run_and_end(rt, alloc, &Open, cabinet, feeds, orders, Vec::new(alloc))
 }
 
-/// What is told of a feed: its channel, how many messages were accepted, refused, erased and filed, and how many are left.
+/// What is reported of a feed: its channel, how many messages were accepted, refused, erased and filed, and how many are left.
 pub type FeedNumbers = (u16, u64, u64, u64, u64, usize);
 
 fn told_of(report: &FeedReport) -> FeedNumbers {
@@ -258,7 +258,7 @@ fn told_of(report: &FeedReport) -> FeedNumbers {
     )
 }
 
-/// What is told of a session: of the first two feeds, how many entries were read, and what the audit says.
+/// What is reported of a session: of the first two feeds, how many entries were read, and what the audit says.
 #[derive(Debug, Drop, PartialEq, Eq)]
 pub struct SessionNumbers {
     pub feeds: [Option<FeedNumbers>; 2],

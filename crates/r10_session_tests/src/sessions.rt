@@ -10,7 +10,7 @@ use std::marker::Brand;
 use std::sync::Arc;
 use std::test::Fail;
 
-/// What is told of two feeds of ten messages that were all filed, and all read by one reader.
+/// What is reported of two feeds of ten messages that were all filed, and all read by one reader.
 fn all_filed_and_read() -> SessionNumbers {
     SessionNumbers {
         feeds: [Some((5, 10, 0, 0, 10, 0)), Some((6, 10, 0, 0, 10, 0))],

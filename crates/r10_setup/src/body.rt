@@ -12,7 +12,7 @@ use std::alloc::{AllocError, Global};
 /// this recorder's own choice.
 const WORD: u32 = 0x0000_000C;
 
-/// The most bytes that a setup text of this recorder has: those of a body behind its word.
+/// The most bytes that a setup text of this recorder has: those of a body after its word.
 pub const LONGEST_TEXT: usize = LONGEST_BODY - 4;
 
 /// The body of a setup packet: the channel specific data word, and the setup text as it is.

@@ -38,18 +38,18 @@ all_in : (before left : List Sample) (room : ℕ) → before ≡ [] → length l
 all_in before left room none enough =
     rw none (take_all (room - 0) left (omega (arith, enough)))
 
--- a number that stands for no larger one
+-- a number that represents no larger one
 exact_number : (n accepted : ℕ) → accepted ≡ saturated n → accepted < 2 ^ 64 - 1 → accepted ≡ n
 exact_number n accepted is few = omega (arith, is, few)
 
--- what stands behind those that are gone and those that are kept
+-- what stands after those that are gone and those that are kept
 behind : (gone kept left all : List Sample) (taken : ℕ) → all ≡ (gone ++ kept) ++ left → taken ≡ length gone + length kept → drop taken all ≡ left
 behind gone kept left all taken are number =
     rw (are, number ∙ sym (length-append gone kept)) (drop-append_seam (gone ++ kept) left)
 
 module _ (rings : List ChannelRing) (k : Kept) (lanes : List Receiving) (own : List Entry) (accounts : ChannelAccounts outlet_spec outlet_received own k.config.channels k.taken k.erased lanes) where
   module _ (line : SendingLine) (tally : Tally) (report : FeedReport) (ready : IsReportReady rings k line tally report) where
-    -- and behind the move all is settled, by the numbers that were kept
+    -- and after the move all is settled, by the numbers that were kept
     settled : (later : FeedReport) → IsSomeAnd (receiving_of line.channel lanes) (λ lane. Drains lane line.port report later) → IsSettledReport own line tally later × TellsKept k line later
     settled later drained =
         let a = account_on outlet_spec outlet_received own line.channel k.config.channels k.taken k.erased lanes ready.taken accounts ready.taken_is in
@@ -111,7 +111,7 @@ module _ (rings : List ChannelRing) (k : Kept) (lanes : List Receiving) (bounds 
         let id : b.lane.spec.id ≡ line.channel = eqb-true b.lane.spec.id line.channel has.1 in
         subst (λ (o : Option Receiving). IsSomeAnd o (λ lane. lane.ring ≡ line.port.ring)) (sym b.found) (some_ring b.lane.ring line.port.ring (sym has.0 ∙ ap (λ (c : ℕ). ring_for c rings) id ∙ ready.named))
 
-    -- and behind the move what was sent is what was received and the rest
+    -- and after the move what was sent is what was received and the rest
     failed_settled : (later : FeedReport) → IsSomeAnd (receiving_of line.channel lanes) (λ lane. Drains lane line.port report later) → IsFailedReport k lanes line tally later
     failed_settled later drained =
         let b = bound_on outlet_spec outlet_received line.channel k.config.channels k.taken k.erased lanes ready.taken bounds ready.taken_is in

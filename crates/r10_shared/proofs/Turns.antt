@@ -106,7 +106,7 @@ fed_whole stops n a b c p q r x tally accepted refused so pumps more others ende
 pub fed_stopped : (stops : Bool → Type 0) (a b : List SourceItem) (p q r : Sending) (tally : Tally) → FedTo a b p q tally → r ≡ q → stops true → FedUnless stops a p r tally
 fed_stopped stops a b p q r tally so same asked = subst (λ (s : Sending). FedUnless stops a p s tally) (sym same) (so.0, inr asked)
 
--- behind the gate: all that the source had was offered, or nothing
+-- past the gate: all that the source had was offered, or nothing
 pub fed_let : (answers stops : Bool → Type 0) (a : List SourceItem) (p q : Sending) (tally : Tally) (answer : Bool) → answers answer → answer ≡ true → FedUnless stops a p q tally → FedUntil answers stops a p q tally
 fed_let answers stops a p q tally answer answered is (fed, whole) = record { fed = fed; answer = answer; answered = answered; whole = λ let_in. whole; none = λ shut. absurd (cc) }
 

@@ -91,7 +91,7 @@ abbrev pub WasAsked : {M : Type 0} → (M → Disk) → List ChannelRing → Giv
 WasAsked disk rings (Gives order answer) = WasGiven disk rings order answer
 WasAsked disk rings given = Unit {0}
 
--- ---- a worker behind the gate
+-- ---- a worker past the gate
 
 -- the number of a worker, so many after the first
 abbrev pub number_after : ℕ → ℕ → ℕ

@@ -23,7 +23,7 @@ pub record FedFrom (before : List SourceItem) (old new : Sending) (tally : Tally
 abbrev pub FedUnless : (Bool → Type 0) → List SourceItem → Sending → Sending → Tally → Type 0
 FedUnless stops before old new tally = (fed : FedFrom before old new tally) × ((fed.left ≡ []) ⊎ stops true)
 
--- A feed behind a gate, with a stop. If the gate let it through, all that the source had was offered, up to its end, unless the stop was asked. Else nothing was.
+-- A feed after a gate, with a stop. If the gate let it through, all that the source had was offered, up to its end, unless the stop was asked. Else nothing was.
 pub record FedUntil (answers stops : Bool → Type 0) (before : List SourceItem) (old new : Sending) (tally : Tally) : Type 0 where
   pub fed : FedFrom before old new tally
   pub answer : Bool
@@ -31,7 +31,7 @@ pub record FedUntil (answers stops : Bool → Type 0) (before : List SourceItem)
   pub whole : answer ≡ true → (fed.left ≡ []) ⊎ stops true
   pub none : answer ≡ false → fed.tried ≡ []
 
--- A feed behind a gate. If the gate let it through, all that the source had was offered, up to its end. Else nothing was.
+-- A feed after a gate. If the gate let it through, all that the source had was offered, up to its end. Else nothing was.
 pub record FedBehind (answers : Bool → Type 0) (before : List SourceItem) (old new : Sending) (tally : Tally) : Type 0 where
   pub fed : FedFrom before old new tally
   pub answer : Bool
@@ -48,7 +48,7 @@ abbrev pub HasRun : {S : Type 0} → (S → List SourceItem) → Option S → Se
 HasRun rest_of (Some source) line tally line' tally' = FedLine (rest_of source) line line' tally'
 HasRun rest_of None line tally line' tally' = (line' ≡ line) × (tally' ≡ tally)
 
--- a source that waited was fed to its line behind the gate, and to its end if that let it through
+-- a source that waited was fed to its line past the gate, and to its end if that let it through
 abbrev pub HasRunWhole : {S : Type 0} → (Bool → Type 0) → (S → List SourceItem) → Option S → SendingLine → SendingLine → Tally → Type 0
 HasRunWhole answers rest_of (Some source) line line' tally' = (line'.channel ≡ line.channel) × FedBehind answers (rest_of source) line.port line'.port tally'
 HasRunWhole answers rest_of None line line' tally' = Unit {0}

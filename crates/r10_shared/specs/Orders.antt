@@ -53,7 +53,7 @@ abbrev pub IsToldAs : Result Stopped Refusal → Result Reply Refusal → Type 0
 IsToldAs (Ok stopped) told = told ≡ Ok (replies.Stopped stopped)
 IsToldAs (Err r) told = told ≡ Err r
 
--- what it answers is a step of each machine that the recorder stands for, to one that it stands for then; of a stop, with what it took from the lanes
+-- what it answers is a step of each machine that the recorder represents, to one that it represents then; of a stop, with what it took from the lanes
 abbrev pub Performs : {M : Type 0} → (M → Disk) → Order → HeldState M → HeldState M → Result Reply Refusal → Type 0
 Performs disk orders.Stop old new result =
     (stopped : Result Stopped Refusal) × IsToldAs stopped result
@@ -88,7 +88,7 @@ abbrev pub LanesStayBut : {M : Type 0} → Order → HeldState M → HeldState M
 LanesStayBut orders.Stop old new = Unit {0}
 LanesStayBut order old new = new.recorder.lanes ≡ old.recorder.lanes
 
--- Of the recorder's own files: behind an erase they have no entry; a stop puts what it took behind theirs, as its step says (`Performs`); no other order adds an entry of a channel.
+-- Of the recorder's own files: after an erase they have no entry; a stop puts what it took after theirs, as its step says (`Performs`); no other order adds an entry of a channel.
 abbrev pub OwnsAs : {M : Type 0} → (M → Disk) → Order → HeldState M → HeldState M → Result Reply Refusal → Type 0
 OwnsAs disk orders.Stop old new result = Unit {0}
 OwnsAs disk order old new result = OwnsBy (event_of order) result old.recorder.kept (disk old.recorder.medium).blocks new.recorder.kept (disk new.recorder.medium).blocks

@@ -34,8 +34,8 @@ pub record IsSettledReport (own : List Entry) (line : SendingLine) (tally : Tall
   pub filed_is : report.filed ≡ saturated (length kept)
   pub refused_is : report.refused ≡ tally.refused
 
--- The report's numbers are those that the recorder kept: so many erased of the feed's channel, and as filed what it took in there less those. Fewer than 2^64 - 1 were sent, so that none of these numbers stands for a larger one:
--- it is known then how many are gone and how many kept, and the rest is what stands behind them, all that was sent and not taken in. A message that was left in a ring can't be told as erased.
+-- The report's numbers are those that the recorder kept: so many erased of the feed's channel, and as filed what it took in there less those. Fewer than 2^64 - 1 were sent, so that none of these numbers represents a larger one:
+-- it is known then how many are gone and how many kept, and the rest is what stands after them, all that was sent and not taken in. A message that was left in a ring can't be reported as erased.
 pub record TellsKept (k : Kept) (line : SendingLine) (report : FeedReport) : Type 0 where
   pub few : report.accepted < 2 ^ 64 - 1
   pub erased_is : number_on line.channel k.config.channels k.erased ≡ Some report.erased

@@ -106,7 +106,7 @@ impl<N: Rings> ChannelPort<N> {
         show_level(rt, &self.port, gauge);
     }
 
-    /// Moves what is left between the two ends behind what `into` has, as much of it as `into` has room for. It takes no memory.
+    /// Moves what is left between the two ends after what `into` has, as much of it as `into` has room for. It takes no memory.
     pub(crate) fn drain(&mut self, outlet: &mut Outlet, into: &mut Vec<Sample>)
         requires { outlet.old.ring ≡ self.old.port.ring }
         ensures all { sent self.old.port ≡ outlet.old.received ++ unreceived outlet.old self.old.port }

@@ -38,7 +38,7 @@ is_refused (counts n) = false
 abbrev pub is_overflow : Refusal → Bool
 is_overflow r = elim r [ Overflow ↦ true | _ ↦ false ]
 
--- how many messages were lost since the last that was accepted, behind an answer; the number stays at the greatest of 64 bits
+-- how many messages were lost since the last that was accepted, after an answer; the number stays at the greatest of 64 bits
 abbrev pub missed_after : ℕ → Result (Unit {0}) Refusal → ℕ
 missed_after missed (Ok x) = 0
 missed_after missed (Err r) = if is_overflow r then saturated (missed + 1) else missed

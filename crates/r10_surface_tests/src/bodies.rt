@@ -62,7 +62,7 @@ fn uart(alloc: Global) -> Result<(Vec<u8>, usize, u64), AllocError> {
     Ok((out, body.size(), said_of_uart(&body)))
 }
 
-/// The count of the message alone, if it is the one that is meant.
+/// The count of the message alone, if it is the expected one.
 fn said_of_uart(body: &UartBody) -> u64 {
     let [
         UartEntry {

@@ -13,7 +13,7 @@ const HEAD: [u8; 19] = *b"FORTYtwo\x0F\xFF\0\x01\0\0\x02\0VOL";
 /// The name of a file.
 const NAME: [u8; 4] = *b"FLT1";
 
-/// What a directory says of it, 272 bytes in block 3, behind its name.
+/// What a directory says of it, 272 bytes in block 3, after its name.
 const SAID: [u8; 56] =
     *b"\0\0\0\0\0\0\0\x03\0\0\0\0\0\0\0\x01\0\0\0\0\0\0\x01\x102902202412345678\0\0\0\0\0\0\0\012345678";
 

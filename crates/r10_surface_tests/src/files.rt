@@ -10,7 +10,7 @@ use std::alloc::{AllocError, Global};
 use std::process::Abort;
 use std::test::Fail;
 
-/// Puts 500 bytes and then 20 from block 1 on, and commits: the block behind them.
+/// Puts 500 bytes and then 20 from block 1 on, and commits: the block after them.
 fn two_pieces<M: BlockMedium>(rt: &impl Abort, medium: &mut M) -> Result<usize, MediumFault> {
     let mut out = BlockOut::begin(1);
     assert!(rt; 3 <= medium.blocks());
@@ -34,7 +34,7 @@ fn bytes_are_put_behind_one_another(rt: HostRuntime) -> Result<(), Fail> {
     Ok(())
 }
 
-/// The index behind these packets, and where the candidates of channel 5 begin.
+/// The index after these packets, and where the candidates of channel 5 begin.
 fn index_bytes(alloc: Global, counter: Count) -> Result<(Vec<u8>, Option<u64>), Fail> {
     let mut book = IndexBook::new(alloc);
     for (entry, entries) in index_entries(counter).iter().zip([0, 1, 2]) {

@@ -25,7 +25,7 @@ fn three_turns<L: LaneOut>(lane: &mut L) -> [LaneNumbers; 3] {
     [next(lane), next(lane), next(lane)]
 }
 
-/// The first of two that wait, the second, one that comes behind a loss, and nothing.
+/// The first of two that wait, the second, one that comes after a loss, and nothing.
 const BEFORE: LaneNumbers = (5, 2, Some(1), Some((1, Gap::Whole)));
 
 const BEHIND: [LaneNumbers; 3] = [
@@ -63,7 +63,7 @@ fn a_lane_gives_what_it_accepted(rt: HostRuntime) -> Result<(), Fail> {
     Ok(())
 }
 
-/// The first of two that wait, behind losses that were never offered, the second, and one behind more of them and an overflow.
+/// The first of two that wait, after losses that were never offered, the second, and one after more of them and an overflow.
 const MARKED: [LaneNumbers; 3] = [
     (5, 2, Some(1), Some((1, Gap::Lost(42)))),
     (5, 1, Some(2), Some((2, Gap::Whole))),

@@ -158,7 +158,7 @@ fn directory() -> [u8; 512] {
     })
 }
 
-/// A medium that has this directory, and the first recording behind it.
+/// A medium that has this directory, and the first recording after it.
 fn listing_medium(rt: &impl Abort, alloc: Global) -> Result<Memory, AllocError> {
     let mut image = [0; 1536];
     image[1024..1296].copy_from_slice(&FIRST);

@@ -3,7 +3,7 @@ use Rattle.std.specs.Prelude.{ℕ, List, ◌∷◌, ◌++◌, ◌<◌, ◌/◌, 
 use Rattle.r10_count.specs.declared.civil.Parts.{Parts}
 use Rattle.r10_text.specs.Civil.{two_digits}
 
--- YYYY-MM-DD, and what stands behind it
+-- YYYY-MM-DD, and what stands after it
 abbrev pub date_text : ℕ → ℕ → ℕ → List ℕ → List ℕ
 date_text year month day rest =
     two_digits (year / 100) ++ (two_digits (year % 100) ++ (45 ∷ two_digits month ++ (45 ∷ two_digits day ++ rest)))

@@ -8,7 +8,7 @@ use Rattle.r10_body.specs.declared.refusal.Refusal.{Refusal}
 use Rattle.r10_body.specs.declared.refusal.Refusal.TheVariants as refusals
 use Rattle.r10_text.specs.Words.{spaced}
 
--- a fault's word, and behind it the number of a rule
+-- a fault's word, and after it the number of a rule
 abbrev pub fault_text : FileFault → List ℕ
 fault_text file_faults.Truncated = codes "Truncated"
 fault_text file_faults.Sync = codes "Sync"

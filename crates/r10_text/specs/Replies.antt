@@ -49,11 +49,11 @@ channel_line c = line_of (codes "channel" ∷ decimal c.channel ∷ decimal c.wa
 
 -- ---- replies
 
--- an entry behind its number on its channel
+-- an entry after its number on its channel
 abbrev pub found_text : Found → List ℕ
 found_text found = spaced (codes "found" ∷ decimal found.number ∷ entry_text found.entry ∷ [])
 
--- the words behind the step's number
+-- the words after the step's number
 abbrev pub reply_text : Reply → List ℕ
 reply_text replies.Done = codes "ok"
 reply_text (replies.Moved moved) = spaced (codes "moved" ∷ decimal moved ∷ [])
@@ -70,12 +70,12 @@ reply_text (replies.CountAt None) = codes "none"
 reply_text (replies.CountAt (Some count)) = spaced (codes "count" ∷ decimal count ∷ [])
 reply_text (replies.Refused refusal) = refusal_text refusal
 
--- the lines behind the first one: a line for each file, or for each channel
+-- the lines after the first one: a line for each file, or for each channel
 abbrev pub reply_rest : Reply → List ℕ
 reply_rest (replies.Files files) = file_lines 0 files
 reply_rest (replies.Status status) = flat_map channel_line status.channels
 reply_rest reply = []
 
--- the step's number and the reply's words, and the lines behind
+-- the step's number and the reply's words, and the lines after
 abbrev pub reply_lines : ℕ → Reply → List ℕ
 reply_lines number reply = line_of (decimal number ∷ reply_text reply ∷ []) ++ reply_rest reply

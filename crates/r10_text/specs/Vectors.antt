@@ -138,7 +138,7 @@ pub next-lines : reply_lines 11 (replies.Next (Some (empty_entry 1010))) ≡ cod
 unfolding digits
 next-lines = refl
 
--- behind so many lost ones, and behind some of which a file doesn't tell how many
+-- after so many lost ones, and after some of which a file doesn't tell how many
 pub behind-lost-lines : reply_lines 9 (replies.Next (Some (empty_behind (Lost 70000) 2000))) ≡ codes "9 entry 5 2000 70000 uart 0 0 -\n"
 unfolding digits
 behind-lost-lines = refl

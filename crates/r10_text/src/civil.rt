@@ -30,7 +30,7 @@ pub fn parts_of(text: &[u8]) -> Option<Parts>
     })
 }
 
-/// The date `YYYY-MM-DD` at the front as year, month and day, and the bytes behind it.
+/// The date `YYYY-MM-DD` at the front as year, month and day, and the bytes after it.
 fn split_date(bytes: &[u8]) -> Option<(u16, u16, u16, &[u8])>
     ensures found { IfSome result (λ x. bytes.now ≡ date_text x.0 x.1 x.2 x.3.now) }
     ensures range { IfSome result (λ x. (x.0 < 10000) × (x.1 < 100) × (x.2 < 100)) }
@@ -44,7 +44,7 @@ fn split_date(bytes: &[u8]) -> Option<(u16, u16, u16, &[u8])>
     Some((century * 100 + year, month, day, rest))
 }
 
-/// The decimal digit at the front, and the bytes behind it.
+/// The decimal digit at the front, and the bytes after it.
 fn split_digit(bytes: &[u8]) -> Option<(u16, &[u8])>
     ensures found { IfSome result (λ x. bytes.now ≡ (48 + x.0) ∷ x.1.now) }
     ensures range { IfSome result (λ x. x.0 < 10) }
@@ -56,7 +56,7 @@ fn split_digit(bytes: &[u8]) -> Option<(u16, &[u8])>
     }
 }
 
-/// The number of two decimal digits at the front, and the bytes behind it.
+/// The number of two decimal digits at the front, and the bytes after it.
 fn split_pair(bytes: &[u8]) -> Option<(u16, &[u8])>
     ensures found { IfSome result (λ x. bytes.now ≡ two_digits x.0 ++ x.1.now) }
     ensures range { IfSome result (λ x. x.0 < 100) }
@@ -67,7 +67,7 @@ fn split_pair(bytes: &[u8]) -> Option<(u16, &[u8])>
     Some((10 * tens + ones, rest))
 }
 
-/// The number of two decimal digits behind a mark at the front, and the bytes behind it.
+/// The number of two decimal digits after a mark at the front, and the bytes after it.
 fn split_marked(mark: u8, bytes: &[u8]) -> Option<(u16, &[u8])>
     ensures found { IfSome result (λ x. bytes.now ≡ mark ∷ two_digits x.0 ++ x.1.now) }
     ensures range { IfSome result (λ x. x.0 < 100) }

@@ -25,7 +25,7 @@ pub(crate) fn refusal_text(alloc: Global, refusal: &Refusal) -> Result<String, A
     }
 }
 
-/// The word of a fault, and behind it the number of a rule.
+/// The word of a fault, and after it the number of a rule.
 pub fn fault_text(alloc: Global, fault: FileFault) -> Result<String, AllocError>
     ensures { IfOk result (λ text. string_bytes text ≡ fault_text fault) }
 {

@@ -12,7 +12,7 @@ use r10_count::Count;
 use r10_machine::{ChannelStatus, FileInfo, Found, Mode, Reply, Status};
 use std::alloc::{AllocError, Global};
 
-/// The lines of the reply to the step of this number, each with its line feed. The first one begins with the number; behind it
+/// The lines of the reply to the step of this number, each with its line feed. The first one begins with the number; after it
 /// stands a line for each file that is listed, or for each channel of a status.
 pub fn reply_lines(alloc: Global, number: usize, reply: &Reply) -> Result<String, AllocError>
     ensures { IfOk result (λ lines. string_bytes lines ≡ reply_lines number reply.now) }
@@ -54,7 +54,7 @@ fn reply_text(alloc: Global, reply: &Reply) -> Result<String, AllocError>
     }
 }
 
-/// An entry that was found, behind its number on its channel.
+/// An entry that was found, after its number on its channel.
 fn found_text(alloc: Global, found: &Found) -> Result<String, AllocError>
     ensures { IfOk result (λ text. string_bytes text ≡ found_text found.now) }
 {
@@ -97,7 +97,7 @@ fn tick_text(alloc: Global, tick: Option<Count>) -> Result<String, AllocError>
     }
 }
 
-/// The lines behind the first one.
+/// The lines after the first one.
 fn reply_rest(alloc: Global, reply: &Reply) -> Result<String, AllocError>
     ensures { IfOk result (λ text. string_bytes text ≡ reply_rest reply.now) }
 {

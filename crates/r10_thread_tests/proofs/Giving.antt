@@ -63,7 +63,7 @@ next_is samples at x is = by (slice_get samples at) is
     by None is = cc
     by (Some y) is = ap (λ (z : Sample). Some z) (plain_is y x y.message is)
 
--- what a lane is known to be, behind its next sample
+-- what a lane is known to be, after its next sample
 pub record Next (spec : ChannelSpec) (samples : List Sample) (at reached : ℕ) (x : Sample) (now : ℕ) : Type 0 where
   pub took : TookTape (tape spec samples at reached) (x ∷ []) (tape spec samples (at + 1) now)
   pub ahead : (top : ℕ) × Gives spec now (drop (at + 1) samples) top
@@ -79,7 +79,7 @@ tape_next spec samples slice at reached x now same is count (top, gives) =
     let next = gives_next spec samples at (at + 1) reached top x there (omega arith) gives in
     rw count (record { took = next.0; ahead = (top, next.1); bound = next.2; passes = next.0.gives.passes.0; sound = next.0.gives.gaps.0; climbs = (next.0.gives.climbs.0, omega arith) })
 
--- a lane of one thread gives what is put behind others that it gave
+-- a lane of one thread gives what is put after others that it gave
 pub moves_next : (old new : Lane) (items xs : List Sample) → TookWaiting old xs new → Gives old.spec 0 items (lane_reached old) → (new.spec ≡ old.spec) × Gives new.spec 0 (items ++ xs) (lane_reached new)
 moves_next old new items xs took gives =
     let same : new.spec ≡ old.spec = ap (λ (l : Lane). l.spec) took.others in

@@ -52,7 +52,7 @@ const NEW_YEAR: Parts = Parts {
     centi: 0,
 };
 
-/// The directory that lists the foreign file, closed, behind it.
+/// The directory that lists the foreign file, closed, after it.
 fn directory() -> [u8; 512] {
     let mut entries = Entries::new();
     if !entries.is_full() {

@@ -53,7 +53,7 @@ fn send_all(alloc: Global, port: Port, done: &AtomicBool) -> Sent
 }
 
 /// What is seen of the messages that came: how many, the count that comes next where none is lost, how many counts were lower
-/// than that, and how many told another number of losses than there were.
+/// than that, and how many reported another number of losses than there were.
 #[derive(Clone, Copy, Debug, Default, PartialEq, Eq)]
 struct MessagesSeen {
     taken: u64,

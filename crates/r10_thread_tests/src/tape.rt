@@ -36,7 +36,7 @@ impl Model for TapeLane {
     } };
 }
 
-/// Moves the next sample of a lane behind others that it gave.
+/// Moves the next sample of a lane after others that it gave.
 fn move_next(lane: &mut RingLane, samples: &mut Vec<Sample>) -> Result<(), AllocError>
     requires { Gives lane.old.spec 0 samples.old.items (reached lane.old) }
     ensures { OnOk result ((lane.new.spec ≡ lane.old.spec) × Gives lane.new.spec 0 samples.new.items (reached lane.new)) }

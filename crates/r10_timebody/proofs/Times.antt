@@ -27,7 +27,7 @@ pub record HasDigits (p : Parts) : Type 0 where
   pub second : p.second < 100
   pub centi : p.centi < 100
 
--- the bytes behind the word
+-- the bytes after the word
 abbrev pub digit_bytes : Parts → List ℕ
 digit_bytes p =
     two_packed_digits p.centi ∷ two_packed_digits p.second ∷ two_packed_digits p.minute ∷ two_packed_digits p.hour ∷ two_packed_digits p.day

@@ -18,7 +18,7 @@ use std::alloc::{AllocError, Global};
 enum StepResult {
     /// The reply that is wanted came at once.
     Once,
-    /// Memory was refused, nothing was changed, and the wanted reply came when the step was told again.
+    /// Memory was refused, nothing was changed, and the wanted reply came when the step was given again.
     Again,
     /// Another reply came, or a refusal changed something.
     Otherwise,
@@ -32,7 +32,7 @@ struct MakingResult {
     before: Option<u32>,
 }
 
-/// Asks for memory behind what was done, and adds the line of what came, where memory was asked for before it too.
+/// Asks for memory after what was done, and adds the line of what came, where memory was asked for before it too.
 fn push_came(
     alloc: Global,
     came: &str,
@@ -45,7 +45,7 @@ fn push_came(
     Ok(())
 }
 
-/// Asks for memory so often, so that a refused allocation of a fixed number falls on another one behind these; then makes a
+/// Asks for memory so often, so that a refused allocation of a fixed number falls on another one after these; then makes a
 /// recorder, once more where memory is refused.
 fn made_behind(alloc: Global, course: &Course, asks: u32) -> Result<MakingResult, TrialFault> {
     let medium = medium_of(alloc, course.image.as_slice())?;
@@ -85,8 +85,8 @@ fn reads_as(alloc: Global, world: World<Memory>, wanted: &[u8]) -> bool {
     }
 }
 
-/// Does each step of the course behind so many asks for memory, again where it was refused for want of memory. It adds the line of
-/// what came: `as wanted` where each reply is that of a run without refusals, and the medium then reads as behind that run.
+/// Does each step of the course after so many asks for memory, again where it was refused for want of memory. It adds the line of
+/// what came: `as wanted` where each reply is that of a run without refusals, and the medium then reads as after that run.
 pub fn tell_again(
     alloc: Global,
     course: &Course,
@@ -101,7 +101,7 @@ pub fn tell_again(
     push_came(alloc, came, before, text)
 }
 
-/// What came of all steps, told to this recorder, where the medium should then read as these bytes.
+/// What came of all steps, given to this recorder, where the medium should then read as these bytes.
 fn told_to_end(alloc: Global, course: &Course, made: MakingResult, end: &[u8]) -> &'static str {
     let MakingResult { world, told, .. } = made;
     let mut world = world;
@@ -110,7 +110,7 @@ fn told_to_end(alloc: Global, course: &Course, made: MakingResult, end: &[u8]) -
     came_of(told, each, reads)
 }
 
-/// What came of steps that were told, by a recorder that was made so.
+/// What came of steps that were reported, by a recorder that was made so.
 fn came_of(made: StepResult, told: StepResult, reads: bool) -> &'static str {
     if !reads {
         return "not as wanted";
@@ -122,7 +122,7 @@ fn came_of(made: StepResult, told: StepResult, reads: bool) -> &'static str {
     }
 }
 
-/// What came where all that was told came at once.
+/// What came where all that was reported came at once.
 fn came_at_once(made: StepResult) -> &'static str {
     match made {
         StepResult::Once => "as wanted",
@@ -130,7 +130,7 @@ fn came_at_once(made: StepResult) -> &'static str {
     }
 }
 
-/// Runs the whole course in one call behind so many asks for memory, and goes on behind the number that it answered where it ended
+/// Runs the whole course in one call after so many asks for memory, and goes on after the number that it answered where it ended
 /// early. It adds the line of what came; replies are compared up to a step that was refused for want of memory.
 pub fn run_on(
     alloc: Global,
@@ -194,7 +194,7 @@ fn up_to(reply: &Reply) -> &'static str {
     }
 }
 
-/// Judges the bytes of the files that the course finds as one file, behind so many asks for memory, and once more where memory is
+/// Judges the bytes of the files that the course finds as one file, after so many asks for memory, and once more where memory is
 /// refused. It adds the line of what came.
 pub fn judge_again(
     alloc: Global,
@@ -277,7 +277,7 @@ fn as_wanted(replies: &[Reply], wanted: &Reply, told: StepResult) -> StepResult 
     }
 }
 
-/// The reply to one step, alone. None where the step can't be told for want of memory.
+/// The reply to one step, alone. None where the step can't be given for want of memory.
 fn replies_to(alloc: Global, world: &mut World<Memory>, event: &[Event]) -> Vec<Reply> {
     let mut replies = Vec::new(alloc);
     let _ = run(world, event, &mut replies);

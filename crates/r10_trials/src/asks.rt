@@ -1,9 +1,9 @@
-//! Asks for memory, so that a refused allocation of a fixed number falls on another one behind them.
+//! Asks for memory, so that a refused allocation of a fixed number falls on another one after them.
 
 use crate::tally::push_number;
 use std::alloc::{AllocError, Global};
 
-/// How often memory is asked for behind what is done: more often than a number that is refused.
+/// How often memory is asked for after what is done: more often than a number that is refused.
 const BEHIND: u32 = 5_000;
 
 /// Asks for memory so often, and gives it back. It answers how many asks came before one that was refused.
@@ -18,12 +18,12 @@ pub fn ask(alloc: Global, times: u32) -> Option<u32> {
     refused
 }
 
-/// The same behind what was done.
+/// The same after what was done.
 pub fn ask_behind(alloc: Global) -> Option<u32> {
     ask(alloc, BEHIND)
 }
 
-/// Adds which ask was refused, before what was done or behind it, if one was, and the end of the line.
+/// Adds which ask was refused, before what was done or after it, if one was, and the end of the line.
 pub fn push_refused(
     alloc: Global,
     before: Option<u32>,

@@ -16,12 +16,12 @@ pub struct Course {
     pub events: Vec<Event>,
     /// The replies over a medium that never fails.
     pub replies: Vec<Reply>,
-    /// The steps that a new recorder is to do behind these.
+    /// The steps that a new recorder is to do after these.
     pub rest: Vec<Event>,
 }
 
 /// The course of a task. One that a new recorder ends has the first so many steps, on a formatted medium; another one has those
-/// behind them, on the medium that these leave, with a status at its end.
+/// after them, on the medium that these leave, with a status at its end.
 pub fn course_of(alloc: Global, script: Script, task: &Task) -> Result<Course, TrialFault> {
     let Script { settings, events } = script;
     let mut course = Course {
@@ -35,7 +35,7 @@ pub fn course_of(alloc: Global, script: Script, task: &Task) -> Result<Course, T
     Ok(course)
 }
 
-/// Whether a new recorder does the steps behind the first.
+/// Whether a new recorder does the steps after the first.
 fn is_ended_by_another(act: Act) -> bool {
     matches!(act, Act::Fails | Act::Stops | Act::Spoils)
 }

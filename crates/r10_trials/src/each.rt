@@ -20,7 +20,7 @@ const CHOICES: [Choice; 4] = [
     Choice::LowestRead,
 ];
 
-/// What a new recorder finds before a step and behind it, on a medium that never fails.
+/// What a new recorder finds before a step and after it, on a medium that never fails.
 #[derive(Drop)]
 struct Around {
     place: usize,
@@ -33,13 +33,13 @@ struct Around {
 struct StopWalk {
     /// Around the step that the call before met, and else around none.
     around: Around,
-    /// What was read behind the calls before; nothing before the first.
+    /// What was read after the calls before; nothing before the first.
     image: Vec<u8>,
     /// The place of the row of the last of these calls.
     row: usize,
 }
 
-/// Stops the course after so many calls, and after each one more, and has each call behind the first so many fail. It adds a row
+/// Stops the course after so many calls, and after each one more, and has each call after the first so many fail. It adds a row
 /// for each word of a step that calls the medium.
 pub fn try_each(
     alloc: Global,
@@ -75,7 +75,7 @@ fn walk_on(
     Err(TrialFault::Endless { most: MOST })
 }
 
-/// Stops the course after so many calls, and has the one behind them fail. It answers whether the course has no more.
+/// Stops the course after so many calls, and has the one after them fail. It answers whether the course has no more.
 fn is_over_after(
     alloc: Global,
     course: &Course,
@@ -96,7 +96,7 @@ fn is_over_after(
     )
 }
 
-/// Counts what the last call changed, and a stop behind it and a failure of the call that is next. It answers whether there is
+/// Counts what the last call changed, and a stop after it and a failure of the call that is next. It answers whether there is
 /// none.
 fn add_stop(
     alloc: Global,
@@ -179,7 +179,7 @@ fn around_step(alloc: Global, course: &Course, place: usize) -> Result<Around, T
     })
 }
 
-/// What a new recorder finds behind the first so many steps.
+/// What a new recorder finds after the first so many steps.
 fn shown_behind(alloc: Global, course: &Course, steps: usize) -> Result<MediumContent, TrialFault> {
     let events = first_of(course.events.as_slice(), steps);
     let image = image_behind(alloc, &course.settings, course.image.as_slice(), events)?;

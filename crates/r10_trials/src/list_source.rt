@@ -57,7 +57,7 @@ pub fn source(alloc: Global) -> Result<ListSource, AllocError> {
     Ok(ListSource { left })
 }
 
-/// Whether this is the message of this number, behind no overflow.
+/// Whether this is the message of this number, after no overflow.
 pub fn is_message(number: u64, count: Count, message: &Message, gap: Gap) -> bool {
     match message {
         Message::Uart { parity, sub, bytes } => {

@@ -24,7 +24,7 @@ const LEFT: [(Choice, &str); 4] = [
     ),
 ];
 
-/// Adds the lines of replies, of which the first is to the step behind the first `done` ones.
+/// Adds the lines of replies, of which the first is to the step after the first `done` ones.
 fn push_replies(
     alloc: Global,
     done: usize,

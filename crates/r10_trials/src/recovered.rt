@@ -19,7 +19,7 @@ pub struct Recovered {
     pub strict: bool,
 }
 
-/// The messages of a file, behind those that were found before.
+/// The messages of a file, after those that were found before.
 fn add_file<M: BlockMedium, L: LaneOut>(
     alloc: Global,
     recorder: &mut Recorder<M, L>,

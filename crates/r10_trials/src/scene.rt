@@ -55,7 +55,7 @@ pub fn world_over<M: BlockMedium + Drop>(
     }
 }
 
-/// Tells events to a new recorder over this medium, adds what it answers, and gives the medium behind them.
+/// Tells events to a new recorder over this medium, adds what it answers, and gives the medium after them.
 pub fn run_events<M: BlockMedium + Drop>(
     alloc: Global,
     settings: &Settings,
@@ -73,7 +73,7 @@ pub fn run_events<M: BlockMedium + Drop>(
     }
 }
 
-/// The bytes that a new recorder leaves behind events, on a medium of these bytes that never fails.
+/// The bytes that a new recorder leaves after events, on a medium of these bytes that never fails.
 pub fn image_behind(
     alloc: Global,
     settings: &Settings,

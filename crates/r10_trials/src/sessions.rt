@@ -65,7 +65,7 @@ fn try_again<R: Threads + Wait + Sync>(
     }
 }
 
-/// How often memory was asked for before and behind a session before an ask that was refused, if one was.
+/// How often memory was asked for before and after a session before an ask that was refused, if one was.
 #[derive(Clone, Copy)]
 struct AskCounts {
     before: Option<u32>,
@@ -97,7 +97,7 @@ fn push_lines(
     push_refused(alloc, asked.before, asked.behind, text)
 }
 
-/// Runs a session behind so many asks for memory, and settles it.
+/// Runs a session after so many asks for memory, and settles it.
 fn try_behind<R: Threads + Wait + Sync>(
     rt: &R,
     alloc: Global,

@@ -8,9 +8,9 @@ use std::alloc::{AllocError, Global};
 pub enum FilesFound {
     /// Those from before the step.
     Old,
-    /// Those behind it.
+    /// Those after it.
     New,
-    /// Those from before it, which are those behind it too.
+    /// Those from before it, which are those after it too.
     Same,
     /// Others.
     Neither,
@@ -122,7 +122,7 @@ impl Row {
     }
 }
 
-/// Adds numbers, each with what stands behind it.
+/// Adds numbers, each with what stands after it.
 fn push_parts(alloc: Global, parts: &[(u64, &str)], text: &mut String) -> Result<(), AllocError> {
     for (number, behind) in parts {
         push_number(alloc, *number, behind, text)?;
@@ -130,7 +130,7 @@ fn push_parts(alloc: Global, parts: &[(u64, &str)], text: &mut String) -> Result
     Ok(())
 }
 
-/// Adds a number, and what stands behind it.
+/// Adds a number, and what stands after it.
 pub fn push_number(
     alloc: Global,
     number: u64,

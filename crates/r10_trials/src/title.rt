@@ -5,18 +5,18 @@ use crate::fault::TrialFault;
 /// What is tried with a script. Its first steps may be done by a recorder that is gone when the rest begins.
 #[derive(Clone, Copy)]
 pub enum Act {
-    /// Behind the first steps the medium is stopped after so many calls, and after each call more in turn; and each call behind the
+    /// After the first steps the medium is stopped after so many calls, and after each call more in turn; and each call after the
     /// first so many fails in turn.
     Each,
     /// The call of this number, from 1, fails in the first steps, and a new recorder does the rest.
     Fails,
     /// The first steps are stopped after so many calls, and a new recorder does the rest on each image that the stop may leave.
     Stops,
-    /// The byte in a place of the medium is another one behind the first steps, and a new recorder does the rest.
+    /// The byte in a place of the medium is another one after the first steps, and a new recorder does the rest.
     Spoils,
-    /// Behind the first steps each step is told, again where memory was refused, after so many asks for memory.
+    /// After the first steps each step is given, again where memory was refused, after so many asks for memory.
     Again,
-    /// Behind the first steps all others are run at once, and run on behind the number that was answered, after so many asks for
+    /// After the first steps all others are run at once, and run on after the number that was answered, after so many asks for
     /// memory.
     Runs,
     /// The bytes of the files that the first steps leave are judged as one file, again where memory was refused, after so many asks
@@ -39,7 +39,7 @@ pub struct Task {
 /// A trial, as it stands in the input.
 #[derive(Clone, Copy)]
 pub struct Trial<'a> {
-    /// The name, and the words behind it.
+    /// The name, and the words after it.
     pub title: &'a str,
     pub script: &'a str,
 }
@@ -93,7 +93,7 @@ fn number_of(word: &str) -> Option<u32> {
     word.parse().ok()
 }
 
-/// The act whose word stands last, behind others.
+/// The act whose word stands last, after others.
 fn act_in(words: &str) -> Option<Act> {
     let (_, word) = words.rsplit_once(' ')?;
     act_of(word)

@@ -121,7 +121,7 @@ fn push_tried(
     }
 }
 
-/// Tries each call of a course behind the first so many, adds the lines of each word of a step, and of all, and answers the row of
+/// Tries each call of a course after the first so many, adds the lines of each word of a step, and of all, and answers the row of
 /// all.
 fn push_each(
     alloc: Global,

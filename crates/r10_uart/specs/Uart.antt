@@ -16,7 +16,7 @@ uart_word = le_bytes 4 0x80000000
 abbrev pub uart_header : UartEntry → ℕ
 uart_header e = flag_at 31 e.parity + 2 ^ 16 * e.sub + length e.bytes
 
--- a zero byte stands behind an odd number of bytes
+-- a zero byte stands after an odd number of bytes
 abbrev pub uart_entry : UartEntry → List ℕ
 uart_entry e = stamp e.count ++ le_bytes 4 (uart_header e) ++ padded e.bytes
 

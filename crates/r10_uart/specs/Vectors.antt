@@ -26,7 +26,7 @@ without-stamps = refl
 pub no-word : is_opaque_uart (0 ∷ 0 ∷ 0 ∷ []) ≡ false
 no-word = refl
 
--- the last subchannel, and one behind it
+-- the last subchannel, and one after it
 pub greatest-fits : FitsUart (uart_of 281474976710655 true 16383 (0x5A ∷ 0xA5 ∷ []))
 greatest-fits = record { count = lit< tt; sub = lit< tt; bytes = lit< tt }
 
@@ -43,6 +43,6 @@ four-bytes = refl
 pub five-bytes : told_size (uart_front 5) ≡ Some 18
 five-bytes = refl
 
--- any word, stamp and header, and any byte behind an odd number of bytes, may be another recorder's
+-- any word, stamp and header, and any byte after an odd number of bytes, may be another recorder's
 pub another-recorders : IsForeignUart ((1 ∷ 0 ∷ 0 ∷ 0 ∷ []) ++ uart_front 1 ++ (0x41 ∷ 0x20 ∷ []) ++ uart_front 0)
 another-recorders = (1, (uart_front 1 ++ (0x41 ∷ 0x20 ∷ [])) ∷ uart_front 0 ∷ [], lit< tt, ((lit≤ tt, refl), ((lit≤ tt, refl), tt)), refl)

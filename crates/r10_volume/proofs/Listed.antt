@@ -120,11 +120,11 @@ few_files blocks n (e ∷ entries) le stand =
     let at = placed_at blocks n e stand.0 in
     omega (arith, at.some, few_files blocks (n + e.block_count) entries at.within stand.1)
 
--- the block behind a file, or another one
+-- the block after a file, or another one
 abbrev end_of : ℕ → Option Entry → ℕ
 end_of k d = elim d [ None ↦ k | Some e ↦ e.first_block + e.block_count ]
 
--- the block behind the last of them is inside the medium, or its end
+-- the block after the last of them is inside the medium, or its end
 last_inside : (blocks n k : ℕ) (d : Option Entry) (entries : List Entry) → end_of k d ≤ blocks → Stand blocks n entries → end_of k (last_or d entries) ≤ blocks
 last_inside blocks n k d [] le stand = le
 last_inside blocks n k d (e ∷ entries) le stand =
@@ -161,7 +161,7 @@ module _ (s : Config) (image : Image) (chain : List ChainBlock) (written : Optio
 pub names_told : (s : Config) (image : Image) (chain : List ChainBlock) (written : Option OpenState) (files : List File) (name : List ℕ) → HoldsFiles s image chain written files → has_name name (listed_files chain) ≡ is_taken name files
 names_told s image chain written files name holds = same_names image (listed_files chain) files name (held_lists s image chain written files holds).each
 
--- ---- lists behind one another
+-- ---- lists after one another
 
 pub last-append : {A : Type 0} (d : Option A) (xs ys : List A) → last_or d (xs ++ ys) ≡ last_or (last_or d xs) ys
 last-append d [] ys = refl

@@ -70,7 +70,7 @@ last_stands image blocks n (e ∷ d ∷ entries) (g ∷ files) f stand each =
     one_more : (e d : DirectoryEntry) (entries : List DirectoryEntry) → length (e ∷ d ∷ entries) - 1 ≡ suc (length (d ∷ entries) - 1)
     one_more e d entries = omega arith
 
--- ---- the last file, as it is said and listed
+-- ---- the last file, as it is stated and listed
 
 pub last_file_said : (image : Image) (entries : List DirectoryEntry) (files : List File) (f : File) → SaysEach image entries (files ++ f ∷ []) → SaysFile image f
 last_file_said image [] [] f each = absurd each
@@ -91,7 +91,7 @@ last_file_listed image d (e ∷ entries) (g ∷ files) f each = last_file_listed
 abbrev pub written_in : List ChainBlock → List ℕ
 written_in chain = (at chain (last_listing chain)).number ∷ []
 
--- over an image that says the files, the last of them is shown anew: it is said, and an entry lists it
+-- over an image that says the files, the last of them is shown anew: it is stated, and an entry lists it
 pub record Relists (s : Config) (image : Image) (chain : List ChainBlock) (files : List File) (f g : File) (e : DirectoryEntry) : Type 0 where
   pub whole : IsWhole image
   pub there : IsDirectory image chain

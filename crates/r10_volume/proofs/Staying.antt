@@ -1,4 +1,4 @@
--- Bytes behind the blocks that change.
+-- Bytes after the blocks that change.
 use Rattle.std.proofs.Common.{◌≡◌, ℕ, ◌+◌, ◌<◌, ◌≤◌, List, [], take, drop, sym, ap, ◌∙◌, arith, ext_get_or, get_or-drop}
 use Rattle.std.specs.List.{All, concat}
 use Rattle.std.proofs.lemmas.List.{length-drop}

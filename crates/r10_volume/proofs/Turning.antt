@@ -163,7 +163,7 @@ held_still s old new made changed files makes found turned = record {
 pub held_empty : (s : Config) (old : Disk) (new : Image) (made : List ChainBlock) (changed : List ℕ) (files : List File) → Makes s old.blocks made changed files [] → Turned made changed old.blocks new → HoldsFiles s new made None []
 held_empty s old new made changed files makes turned = record { says = said s old new made changed files [] makes turned; directory = turned.directory; found = tt; last = tt }
 
--- ---- a step behind calls that change nothing
+-- ---- a step after calls that change nothing
 
 pub left_before : (old mid : Disk) → Unchanged old mid → (image : Image) → MayLeave mid image → MayLeave old image
 left_before old mid same image now = record {
@@ -217,7 +217,7 @@ emptied_on s old new chain made now files result makes turns done =
     (λ turned is. subst (λ (l : List ChainBlock). HoldsFiles s new.blocks l None []) (sym is) (held_empty s old new.blocks made (1 ∷ []) files makes (settled_reads (Turned made (1 ∷ []) old.blocks) new turned)))
     turns.settled done
 
--- another shutdown byte, behind calls that change nothing
+-- another shutdown byte, after calls that change nothing
 pub marked_later : {T E F G : Type 0} (chain : List ChainBlock) (shutdown : ℕ) (old mid new : Disk) (first : Result T E) (result : Result F G) → Unchanged old mid → IsDirectory old.blocks chain
     → Turns chain (with_shutdown shutdown chain) [] ((at chain 0).number ∷ []) mid new first → ((P : Type 0) → OnOk first P → OnOk result P) → Turns chain (with_shutdown shutdown chain) [] (1 ∷ []) old new result
 marked_later chain shutdown old mid new first result same is turns both =

@@ -24,7 +24,7 @@ here blocks n e first some count within =
     four : (a b c d : Bool) → a ≡ true → b ≡ true → c ≡ true → d ≡ true → (a && b && c && d) ≡ true
     four a b c d x y z w = rw (x, y, z, w) refl
 
--- where the last of these stands, and what comes behind it
+-- where the last of these stands, and what comes after it
 record IsLast (n : ℕ) (entries : List Entry) (e : Entry) : Type 0 where
   pub some : 0 < length entries
   pub first : e.first_block ≡ n + blocks_in (take (length entries - 1) entries)

@@ -10,7 +10,7 @@ use Rattle.r10_machine.specs.declared.reply.FileInfo.{FileInfo}
 abbrev pub info_in : Entry → FileInfo
 info_in e = record { name = stripped e.name; size = e.size; blocks = e.block_count; closed = is_closed e }
 
--- the block behind the last of these files, or behind so many reserved ones
+-- the block after the last of these files, or after so many reserved ones
 abbrev pub block_behind : ℕ → List Entry → ℕ
 block_behind reserved entries = elim (last_or None entries) [ None ↦ 1 + reserved | Some e ↦ e.first_block + e.block_count ]
 

@@ -16,7 +16,7 @@ use r10_machine::Settings;
 use r10_medium::BlockMedium;
 
 /// Formats a medium for a recorder of these settings: block 1 becomes a directory without files, properly dismounted, under
-/// the settings' volume name (IRIG 106-17, chapter 10). It is sure at `Ok`. No other block is touched.
+/// the settings' volume name (IRIG 106-17, chapter 10). It is synced at `Ok`. No other block is touched.
 ///
 /// # Errors
 ///

@@ -14,7 +14,7 @@ ghost use Rattle.r10_volume.specs.Holding.{HoldsFiles, OpenState};
 ghost use Rattle.r10_volume.specs.Listing.{block_behind, has_name, info_in, is_last_closed};
 
 /// Where files are held, a directory tells them: their listing and their number, which names are taken, whether
-/// the last is closed, and the block behind it, which is none behind the medium's end.
+/// the last is closed, and the block after it, which is none after the medium's end.
 pub fn listings_tell()
     ensures infos { (s : Config) (image : Image) (chain : List ChainBlock) (written : Option OpenState) (files : List File)
         → HoldsFiles s image chain written files → map info_in (listed_files chain) ≡ map info_of files }

@@ -67,7 +67,7 @@ fn last_of(entries: &[Entry], before: Option<Entry>) -> Option<Entry>
     }
 }
 
-/// The first block of a next file: the one behind the last file, or behind so many reserved ones.
+/// The first block of a next file: the one after the last file, or after so many reserved ones.
 pub fn next_block(directory: &Directory, reserved: usize) -> usize
     ensures { result ≡ min (block_behind reserved (listed_files directory.now)) (2 ^ 64 - 1) }
 {

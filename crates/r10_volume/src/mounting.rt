@@ -17,7 +17,7 @@ use std::alloc::Global;
 /// that a recorder can take into use with so many reserved directory blocks: `BadDirectory` names the first
 /// block at fault. Where it isn't, or memory is refused, nothing is written.
 ///
-/// What the medium says of its files stays, and is sure at `Ok`.
+/// What the medium says of its files stays, and is synced at `Ok`.
 pub fn mount<M: BlockMedium>(
     alloc: Global,
     medium: &mut M,

@@ -17,7 +17,7 @@ ghost use Rattle.r10_volume.specs.Settling.{IsSettled};
 use r10_dirchain::Directory;
 use r10_medium::{BlockMedium, MediumFault};
 
-/// Notes in block 1 that the medium is properly dismounted. What it says of its files stays, and is sure at `Ok`.
+/// Notes in block 1 that the medium is properly dismounted. What it says of its files stays, and is synced at `Ok`.
 pub fn dismount<M: BlockMedium>(
     medium: &mut M,
     directory: &mut Directory,

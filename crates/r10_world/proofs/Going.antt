@@ -59,14 +59,14 @@ goes_on law k mid later m es rs event reply image new failures now lanes lanes' 
       config = next.on.config ∙ ran.config;
     }
 
--- a list behind its first ones, with one element more
+-- a list after its first ones, with one element more
 pub drop_one_more : {A : Type 0} (n : ℕ) (xs ys : List A) (x : A) → n ≤ length xs → ys ≡ xs ++ x ∷ [] → drop n ys ≡ drop n xs ++ x ∷ []
 drop_one_more n xs ys x within longer = grind (arith, common_steps)
 
 pub take_one_more : {A : Type 0} (n : ℕ) (xs ys : List A) (x : A) → n ≤ length xs → ys ≡ xs ++ x ∷ [] → take n ys ≡ take n xs
 take_one_more n xs ys x within longer = rw longer (take-append-le n xs (x ∷ []) within)
 
--- one event more, and its reply behind those before
+-- one event more, and its reply after those before
 pub run_more : {M : Type 0} (disk : M → Disk) (start mid new : WorldState M) (events : List EventValue) (i n : ℕ) (event : EventValue) (reply : ReplyValue) (xs ys : List ReplyValue) → RunsJoin
     → i < length events → event ≡ get_or events i event → n ≤ length xs → ys ≡ xs ++ reply ∷ []
     → WorldRuns disk start (take i events) (drop n xs) mid → RecorderStepsTo disk mid.recorder mid.slots event reply new.recorder new.slots → WorldRuns disk start (take (i + 1) events) (drop n ys) new

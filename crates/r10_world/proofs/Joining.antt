@@ -34,7 +34,7 @@ CursorsStay = (s : Config) (old new : Image) (m later : Machine) (event : EventV
     → (later.generation ≡ m.generation → NoneShrinks m.files later.files × KeepsBytes old new m.files) → SlotsStandFor slots m.cursors → HaveRead old m.files m.generation slots m.cursors
     → SlotsStandFor slots later.cursors × HaveRead new later.files later.generation slots later.cursors
 
--- the medium says the files of a machine that is meant
+-- the medium says the files of a machine that is represented
 said : (work : Work) (s : Config) (image : Image) (files : List File) → HasFiles s work image files → MediumSays s image files
 said unmounted s image files has = has.0
 said (idle chain) s image files has = has.says

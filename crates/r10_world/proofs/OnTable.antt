@@ -54,7 +54,7 @@ gives_first old new id given gives = by (get old id) gives
 pub no_cursor : (slot : Option Cursor) (r : Refusal) → slot ≡ None → r ≡ refusals.NoCursor → first_broken (slot_checks slot) ≡ Some r
 no_cursor slot r none is = rw (none, is) refl
 
--- ---- a table stands for a machine's cursors
+-- ---- a table represents a machine's cursors
 
 abbrev mirror : Cursor → MachineCursor
 mirror c = record { file = c.file; channels = c.reading.channels; from = c.reading.from; to = c.reading.to; generation = c.generation; covered = 0; queue = c.reading.queue }

@@ -86,7 +86,7 @@ check_on stay refused k image failures m event r lanes slots stands first after 
       lanes_are = stands.lanes_are;
     }
 
--- ---- what a cursor stands for
+-- ---- what a cursor represents
 
 -- a cursor of this generation reads a file that is there, and the machine's has covered so many of the file's entries
 pub record Reads (image : Image) (m : Machine) (id : ℕ) (c : Cursor) : Type 0 where

@@ -130,7 +130,7 @@ LeavesLanes old (Pump channel most) new = HaveGiven old new
 LeavesLanes old Stop new = HaveGiven old new
 LeavesLanes old event new = new ≡ old
 
--- whatever entries the recorder's own files had, they have them then, and times or events behind them
+-- whatever entries the recorder's own files had, they have them then, and times or events after them
 abbrev pub KeepsOwn : {M : Type 0} → (M → Disk) → RecorderState M Lane → RecorderState M Lane → Type 0
 KeepsOwn disk old new = OwnStay old.kept (disk old.medium).blocks new.kept (disk new.medium).blocks
 
@@ -181,7 +181,7 @@ pub record OnlyRead {M : Type 0} (disk : M → Disk) (old new : RecorderState M 
   pub no_fewer : (disk old.medium).failures ≤ (disk new.medium).failures
   pub lanes : new.lanes ≡ old.lanes
 
--- Channel by channel in this order, these samples were taken from the lanes, no more of a channel than may be: all that may, up to the first that has no room; they and the rests are all that waited. They are counted, and whatever entries the recorder's own files had, these are behind them then.
+-- Channel by channel in this order, these samples were taken from the lanes, no more of a channel than may be: all that may, up to the first that has no room; they and the rests are all that waited. They are counted, and whatever entries the recorder's own files had, these are after them then.
 pub record TakesParts (order : List ℕ) (most : ℕ → ℕ) (says : List Part → Type 0) (k : Kept) (old : Disk) (lanes : List Lane) (later : Kept) (new : Disk) (lanes' : List Lane) : Type 0 where
   pub parts : List Part
   pub order_is : map (λ (p : Part). p.channel) parts ≡ order

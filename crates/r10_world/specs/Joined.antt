@@ -1,4 +1,4 @@
--- Which machines a recorder and the cursors of its readers stand for together.
+-- Which machines a recorder and the cursors of its readers represent together.
 use Rattle.std.specs.Prelude.{◌≡◌, ℕ, List, [], Option, None, length, map, replicate}
 use Rattle.r10_medium.specs.Disk.{Image}
 use Rattle.r10_machine.specs.Config.{Config}
@@ -31,7 +31,7 @@ new_kept s = record {
 abbrev pub begun_world : {M : Type 0} → Config → M → WorldState M
 begun_world s medium = record { recorder = record { kept = new_kept s; lanes = map fresh_lane s.channels; medium = medium }; slots = [] }
 
--- what a recorder keeps, over a medium that reads as an image and has failed so often, stands for the machine, and so does the table for
+-- what a recorder keeps, over a medium that reads as an image and has failed so often, represents the machine, and so does the table for
 -- its cursors, which are as far in their files as the machine's
 pub record KeptAndSlotsStandFor (k : Kept) (image : Image) (failures : ℕ) (slots : List (Option Cursor)) (m : Machine) : Type 0 where
   pub means : KeptStandsFor k image failures m

@@ -1,4 +1,4 @@
--- Which machines a recorder with lanes of one thread, and its readers' cursors, stand for, and how they go on.
+-- Which machines a recorder with lanes of one thread, and its readers' cursors, represent, and how they go on.
 use Rattle.std.specs.Prelude.{◌≡◌, ℕ, List, Option}
 use Rattle.r10_world.specs.Joined.{KeptAndSlotsStandFor, KeptAndSlotsStepTo}
 use Rattle.r10_machine.specs.Limits.{IsConfig}
@@ -12,7 +12,7 @@ use Rattle.r10_machine.specs.Step.{Run}
 use Rattle.r10_machine.specs.declared.event.Event.{Event as EventValue}
 use Rattle.r10_machine.specs.declared.reply.Reply.{Reply as ReplyValue}
 
--- What a recorder keeps, over a medium that reads as an image and has failed so often, with these lanes and these readers' cursors, stands for
+-- What a recorder keeps, over a medium that reads as an image and has failed so often, with these lanes and these readers' cursors, represents
 -- the machine: the medium says the machine's files, and what waits, was lost and was missed is the machine's.
 pub record PartsStandFor (k : Kept) (image : Image) (failures : ℕ) (lanes : List Lane) (slots : List (Option Cursor)) (m : Machine) : Type 0 where
   pub limits : IsConfig k.config

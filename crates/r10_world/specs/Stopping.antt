@@ -35,7 +35,7 @@ pub record Survives {M : Type 0} (disk : M → Disk) (old : RecorderState M Lane
   pub safe : StaysSafe (AreLanes old.lanes) old.kept event reply (disk old.medium) new.kept (disk new.medium)
   pub failed : old.kept.work ≡ failed → Unchanged (disk old.medium) (disk new.medium) × (new.kept.work ≡ failed)
 
--- The replies are a run. Where the files were safe before it, a stop at any moment of it left the files of a state of the run, or those that the next event makes of them; and behind the last event the files of the machine that it ends with are safe, unless the recorder failed.
+-- The replies are a run. Where the files were safe before it, a stop at any moment of it left the files of a state of the run, or those that the next event makes of them; and after the last event the files of the machine that it ends with are safe, unless the recorder failed.
 pub record RanSafely (k : Kept) (m : Machine) (events : List EventValue) (replies : List ReplyValue) (later : Kept) (old new : Disk) (lanes : List Lane) (slots : List (Option Cursor)) : Type 0 where
   pub ran : PartsRunTo k m events replies later new.blocks new.failures lanes slots
   pub left : IsSafe k.config k.work m.files old → Leaves (IsLeft k.config m events replies) old new
@@ -47,7 +47,7 @@ RunsSafely disk old events replies new =
     (m : Machine) → WorldStandsFor disk old m
     → RanSafely old.recorder.kept m events replies new.recorder.kept (disk old.recorder.medium) (disk new.recorder.medium) new.recorder.lanes new.slots
 
--- a new world stands for a new machine with the files that it finds again, which are safe where a stop leaves the files
+-- a new world represents a new machine with the files that it finds again, which are safe where a stop leaves the files
 pub record Recovers {M : Type 0} (disk : M → Disk) (s : Config) (old : Disk) (files : List File) (w : WorldState M) : Type 0 where
   pub finds : FindsAgain s old.blocks files
   pub stands : WorldStandsFor disk w (fresh s.channels finds.again old.failures)
@@ -55,7 +55,7 @@ pub record Recovers {M : Type 0} (disk : M → Disk) (s : Config) (old : Disk) (
 
 -- ---- a whole recording, with no word of a recorder
 
--- What a stop leaves at rest, by what a machine does. Not mounted: these files. Mounted: what is read, which says them. Recording: these files, and of the last the bytes that are read. Nothing is said of one that failed.
+-- What a stop leaves at rest, by what a machine does. Not mounted: these files. Mounted: what is read, which says them. Recording: these files, and of the last the bytes that are read. Nothing is stated of one that failed.
 abbrev pub IsSafeIn : Config → Mode → List File → Disk → Type 0
 IsSafeIn s modes.Unmounted files disk = Settled (λ image. MediumSays s image files) disk
 IsSafeIn s modes.Idle files disk = IsSynced disk × MediumSays s disk.blocks files

@@ -29,7 +29,7 @@ use r10_cursor::cursors_stay_over_steps;
 use r10_machine::{a_new_recorder_is_sound, a_step_stays_sound, files_on_a_medium_are_found};
 use r10_medium::BlockMedium;
 
-/// A new recorder over a medium that has files, joined by an empty table, stands for a machine that is unmounted, with these files
+/// A new recorder over a medium that has files, joined by an empty table, represents a machine that is unmounted, with these files
 /// and empty lanes.
 pub fn a_new_recorder_stands()
     ensures { (s : Config) (image : Image) (files : List File) (failures : ℕ) → MediumHas s image files
@@ -40,7 +40,7 @@ pub fn a_new_recorder_stands()
     files_on_a_medium_are_found();
 }
 
-/// A recorder's call, which leaves the cursors, is a step of the machine that both stand for. In the same generation no file may
+/// A recorder's call, which leaves the cursors, is a step of the machine that both represent. In the same generation no file may
 /// have fewer bytes afterwards, and the medium shows those that it showed; a call that leaves files and medium needs nothing more.
 pub fn recorders_calls_are_steps()
     ensures moves { (k : Kept) (later : Kept) (old : Image) (new : Image) (before : ℕ) (now : ℕ) (m : Machine) (machine : Machine)
@@ -54,7 +54,7 @@ pub fn recorders_calls_are_steps()
         → machine.cursors ≡ m.cursors → later.config ≡ k.config → machine.files ≡ m.files → new ≡ old
         → KeptAndSlotsStepTo k m event reply machine later new now slots }
 {
-    // For the proof: cursors stand for the machine over a step that leaves them.
+    // For the proof: cursors represent the machine over a step that leaves them.
     cursors_stay_over_steps();
 }
 

@@ -1,4 +1,4 @@
-//! The run theorem: a recorder over a medium and the cursors of its readers, in one thread, to which events are told; each event
+//! The run theorem: a recorder over a medium and the cursors of its readers, in one thread, to which events are given; each event
 //! is a step of the small machine, and what is done to a list of events is a run of it.
 #![tactic(auto)]
 

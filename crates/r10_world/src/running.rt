@@ -22,8 +22,8 @@ fn message_of(alloc: Global, event: &Event) -> Result<Option<Message>, AllocErro
     }
 }
 
-/// Does events in order, until one can't be told or taken for want of memory, and adds their replies. It answers how many events it
-/// did; it fails only where it did none though there are some. Of every machine for which the world stands, the events that were
+/// Does events in order, until one can't be given or taken for want of memory, and adds their replies. It answers how many events
+/// it did; it fails only where it did none though there are some. Of every machine for which the world stands, the events that were
 /// done and their replies are a run to one for which it stands then. Whatever files the medium has, also where no machine stands
 /// for them: a refusal names the first check that doesn't hold, or what is lacking, and changes nothing but the count of a loss,
 /// unless the medium failed; and any other reply comes where all checks hold, and says what the event did.
@@ -47,7 +47,7 @@ pub fn run<M: BlockMedium>(
     ensures world_kept { OnErr result (world.new ≡ world.old) }
     ensures replies_kept { OnErr result (replies.new.items ≡ replies.old.items) }
 {
-    // For the proof: one run behind another is a run.
+    // For the proof: one run after another is a run.
     runs_join();
     let alloc = world.alloc();
     for (i, event) in events.iter().enumerate() {

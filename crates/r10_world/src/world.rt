@@ -67,13 +67,13 @@ fn lanes_of(alloc: Global, channels: &[ChannelSpec]) -> Result<Vec<RingLane>, Al
 }
 
 impl<M: BlockMedium> World<M> {
-    /// A world over a medium of these settings, which is not mounted yet. Where the medium has files, the world stands for a
+    /// A world over a medium of these settings, which is not mounted yet. Where the medium has files, the world represents a
     /// machine that has them. Where memory is refused, settings and medium come back.
     pub fn new(alloc: Global, settings: Settings, medium: M) -> Result<World<M>, (Settings, M)>
         requires { length (M.disk medium).blocks ≡ settings.blocks }
         ensures stands { (files : List File) → MediumHas settings (M.disk medium).blocks files
             → IfOk result (λ w. WorldStandsFor M.disk w (fresh settings.channels files (M.disk medium).failures)) }
-        // So it does over what a stop left of a medium that said files: it finds these again.
+        // So it does over what a stop left of a medium that stated files: it finds these again.
         ensures recovers { (files : List File) → MediumSays settings (M.disk medium).blocks files
             → IfOk result (Recovers M.disk settings (M.disk medium) files) }
         ensures safe { (files : List File) → Settled (λ image. MediumSays settings image files) (M.disk medium)
@@ -83,7 +83,7 @@ impl<M: BlockMedium> World<M> {
         ensures medium { IfOk result (λ w. w.recorder.medium ≡ medium) }
         ensures refused { IfErr result (λ back. (back.0 ≡ settings) × (back.1 ≡ medium)) }
     {
-        // For the proof: a new recorder stands for an unmounted machine.
+        // For the proof: a new recorder represents an unmounted machine.
         a_new_recorder_stands();
         let Ok(lanes) = lanes_of(alloc, settings.channels()) else {
             return Err((settings, medium));
@@ -147,7 +147,7 @@ impl<M: BlockMedium> World<M> {
     }
 }
 
-/// One event that is told to a recorder and its readers' cursors. An offer takes the copy of its message.
+/// One event that is given to a recorder and its readers' cursors. An offer takes the copy of its message.
 fn answer<M: BlockMedium>(
     alloc: Global,
     recorder: &mut Recorder<M, RingLane>,

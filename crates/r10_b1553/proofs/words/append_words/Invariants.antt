@@ -2,7 +2,7 @@ use Rattle.std.proofs.Common.{◌≡◌, ◌≤◌, ◌++◌, take, drop, length
 use Rattle.r10_b1553.specs.Bus.{words_low_first}
 use Rattle.r10_b1553.proofs.words.append_words.Given as goal
 
--- what is written and the words that are left are all words, behind what was there
+-- what is written and the words that are left are all words, after what was there
 abbrev pub invariant-loop-word : goal.invariant-loop-word
 invariant-loop-word l = record {
   written : l.out.items ++ words_low_first (drop l.word-index l.words) ≡ l.fn.out.items ++ words_low_first l.words;

@@ -8,7 +8,7 @@ use Rattle.r10_held.proofs.Comparing.{compared, covers_so, elsewhere}
 use Rattle.r10_held.proofs.auditing.read_instalment.Goals.{then-covered-instalment, else-covered-instalment}
 use Rattle.r10_held.proofs.auditing.read_instalment.Goals as goal
 
--- numbers that differ aren't told as the same
+-- numbers that differ aren't written as the same
 apart : (a b : ℕ) → (a ≡ b → ⊥) → (a == b) ≡ true → ⊥
 apart a b away told = away (grind (arith, nat_tests))
 

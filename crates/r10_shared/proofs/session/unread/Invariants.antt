@@ -2,7 +2,7 @@ use Rattle.std.proofs.Common.{◌≡◌, ◌≤◌, ◌+◌, ◌++◌, [], map, 
 use Rattle.std.specs.Prelude.{All, vec_capacity, vec_len}
 use Rattle.r10_shared.proofs.session.unread.Given as goal
 
--- the players so far, and the others behind them
+-- the players so far, and the others after them
 abbrev pub invariant-loop-player : goal.invariant-loop-player
 invariant-loop-player l = record {
   players : map (λ reading. reading.player) l.readings.items ++ l.player-iterator.rest.items ≡ l.fn.players.items;

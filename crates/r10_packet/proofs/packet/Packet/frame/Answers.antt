@@ -14,7 +14,7 @@ is_framed h body w n ew en =
     let same : n ≡ (framed h body).packet_len = omega (arith, en, ew, packet_len_is h body) in
     ap (λ m. record h { packet_len = m; data_len = length body }) same
 
--- the items behind the calls that may fail
+-- the items after the calls that may fail
 bytes_are : (c : goal.In_ok-push_checksum) → c.push_checksum.new.out.items ≡ framed_bytes c.args.header.now c.args.body.now
 bytes_are c =
     let h = c.args.header.now in
