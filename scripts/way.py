@@ -1,0 +1,113 @@
+#!/usr/bin/env python3
+"""Counts the functions that a message runs through: from its offer over a pump and a commit to the medium, and back by an advance
+and a `next` of a cursor.
+
+    scripts/way.py            builds the program without proofs and without inlining, and runs it under callgrind, in three minutes
+    scripts/way.py --names    prints each function too
+
+A function counts once, whatever its type parameters are. Closures, what lets values go, laws and the program's own frames around
+the recorder do not count, nor does what is not of this repository. It wants the toolchain and valgrind.
+"""
+from __future__ import annotations
+
+import argparse
+import collections
+import pathlib
+import re
+import shutil
+import subprocess
+import sys
+import tempfile
+
+sys.dont_write_bytecode = True
+
+import quick_build  # noqa: E402
+from quick_build import TOP, Fault  # noqa: E402
+
+SETTINGS = '''blocks = 64
+directory = 2
+volume = "VOL"
+nodes = 100
+time = 1
+event = 2
+
+[[channel]]
+id = 5
+kind = "uart"
+capacity = 2
+check = 0
+bytes = 524288
+number = 65535
+'''
+STEPS = (
+    'do = "mount"',
+    'do = "tick"\ncount = 1000\ncivil = "2024-02-29 12:34:56.78"',
+    'do = "start"\nname = "FLT1"\nsetup = "41424344"',
+    'do = "cursor"\nfile = 0\nchannels = [5]\nfrom = 0\nto = 281474976710655',
+    'do = "offer"\nchannel = 5\ncount = 1000\nbytes = "414243"',
+    'do = "pump"\nchannel = 5\nk = 2',
+    'do = "commit"',
+    'do = "advance"\nid = 0',
+    'do = "next"\nid = 0',
+)
+LAST = '9 entry 5 1000 0 uart 0 0 414243'
+CALLS = ('control::offer', 'control::pump', 'control::commit', 'readers::advance', 'readers::next')
+FRAMES = ('r10_cli', 'r10_command', 'r10_session', 'r10_world::running', 'r10_world::world')
+PASSED_OVER = re.compile(r'Destruct|(^|::)fn::|\+Fn|\w*laws::|::drop$|r10_refinement::')
+
+
+def not_inlined(lines):
+    """The lines of a module, in which each function stays one."""
+    for line in lines:
+        yield re.sub(r'\balwaysinline\b', 'noinline', line) if line.startswith(('define ', 'attributes #')) else line
+
+
+def build(room: pathlib.Path) -> pathlib.Path:
+    """The program without proofs, with each function as it is written."""
+    quick_build.FLAGS = [*quick_build.FLAGS[:2], '-fPIE', '-O0', '-ffunction-sections']
+    stripped = quick_build.stripped
+    quick_build.stripped = lambda lines, marks: not_inlined(stripped(lines, {}))
+    program = room / 'r10'
+    quick_build.make_program(TOP / 'crates' / quick_build.PROGRAM, program, room, room / 'log')
+    return program
+
+
+def functions_of(program: pathlib.Path, room: pathlib.Path) -> list[str]:
+    """The names of the functions that ran between those calls and their answers."""
+    out = room / 'callgrind.out'
+    words = ['valgrind', '--tool=callgrind', f'--callgrind-out-file={out}', '--collect-atstart=no',
+             *(f'--toggle-collect=r10_world::{it}*' for it in CALLS), str(program), 'sim']
+    script = SETTINGS + ''.join(f'\n[[step]]\n{it}\n' for it in STEPS)
+    ran = subprocess.run(words, input=script, capture_output=True, text=True, check=False)
+    if ran.returncode or ran.stdout.splitlines()[-1:] != [LAST]:
+        sys.exit('way: the recording did not go as it has to:\n' + ran.stdout + ran.stderr[-1000:])
+    names = re.findall(r'(?m)^c?fn=\(\d+\) (r10_\S*)', out.read_text(encoding='utf-8', errors='replace'))
+    found = {re.sub(r'::<.*', '', it) for it in names}
+    return sorted(it for it in found if not PASSED_OVER.search(it) and not it.startswith(FRAMES))
+
+
+def main() -> None:
+    """Prints how many functions each crate has on the way."""
+    words = argparse.ArgumentParser(description=__doc__, formatter_class=argparse.RawDescriptionHelpFormatter)
+    words.add_argument('--names', action='store_true', help='print each function too')
+    words = words.parse_args()
+    if not shutil.which('valgrind'):
+        sys.exit('way: there is no valgrind here')
+    with tempfile.TemporaryDirectory(prefix='way-') as folder:
+        room = pathlib.Path(folder)
+        try:
+            found = functions_of(build(room), room)
+        except Fault as fault:
+            log = room / 'log'
+            said = log.read_text(encoding='utf-8', errors='replace') if log.is_file() else ''
+            sys.exit('way: the tool built nothing: %s\n%s' % (fault, said[-2000:]))
+    if words.names:
+        print('\n'.join(found))
+    crates = collections.Counter(it.split('::')[0] for it in found)
+    for crate, count in sorted(crates.items(), key=lambda it: (-it[1], it[0])):
+        print(f'{count:4}  {crate}')
+    print(f'{len(found):4}  functions in {len(crates)} crates')
+
+
+if __name__ == '__main__':
+    main()
