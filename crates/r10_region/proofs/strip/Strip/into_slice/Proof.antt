@@ -41,8 +41,8 @@ stayed = (stay_dropped (plain (λ _. S)) yes, tt)
 abbrev B : RattleType
 B = Array u8 512
 
-pub lent_spec : {M : Type 1} → statement M
-lent_spec 𝓤 𝓛 𝓜 𝓡 wired =
+pub into_slice_spec : {M : Type 1} → statement M
+into_slice_spec 𝓤 𝓛 𝓜 𝓡 wired =
     let c = f.clauses 𝓛 𝓜.mem 𝓡.returns in let W = walk_of 𝓛 f.ended stayed c in let 𝓣 = tables 𝓤 𝓛.H 𝓜 𝓡 𝓡.env in
     proved 𝓛 f.ended stayed c 𝓜 𝓡 (Goes-dropped 𝓛 1 (plain (λ _. S)) yes (λ κs x w. refl), tt)
     f.Key.name code.function (code.unfolded 𝓤 𝓛.H 𝓜 𝓡 wired)
