@@ -24,8 +24,8 @@ struct Words {
     /// The recorder's socket
     #[arg(long, env = "R10_SOCKET", default_value = "/run/r10/control")]
     socket: PathBuf,
-    /// An address and a port, for a recorder that listens on TCP
-    #[arg(long, conflicts_with = "socket")]
+    /// An address and a port, for a recorder that listens on TCP: in place of the socket
+    #[arg(long)]
     tcp: Option<String>,
     /// Answers in JSON, one value a line
     #[arg(long)]

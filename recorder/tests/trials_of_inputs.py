@@ -227,6 +227,11 @@ def chapter_6_words(room: Room) -> str:
         must(wanted in line, f'r10ctl {words}: {line}')
     there = (HOST, tcp)
     must(ask('.STATUS', path=there) == ['S 01 0 0 0%'], 'over TCP')
+    # (README.md has a shell that knows the socket: over TCP it asks all the same)
+    ran = subprocess.run(
+        [ctl[0], '--tcp', f'{HOST}:{tcp}', 'status'], env=dict(os.environ, R10_SOCKET='elsewhere'), capture_output=True, text=True
+    )
+    must(ran.stdout.startswith('S 01 0 0 0%'), f'r10ctl --tcp, where R10_SOCKET is set: {ran}')
     must(
         ask('.ERASE', path=there)[0].startswith('E 02')
         and ask('.SHUTDOWN', path=there)[0].startswith('E 02')
