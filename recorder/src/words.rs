@@ -364,7 +364,10 @@ impl Owner {
     fn publish(&mut self, words: &[&str]) -> Result<String, No> {
         let usage =
             || No::Parameter("give .PUBLISH START ADDRESS PORT, .PUBLISH STOP [ADDRESS PORT], or .PUBLISH LIST".to_string());
-        let address = |host: &str, port: &str| Some(SocketAddr::from((host.parse::<IpAddr>().ok()?, port.parse().ok()?)));
+        let address = |host: &str, port: &str| {
+            let port = port.parse().ok().filter(|it| *it != 0)?;
+            Some(SocketAddr::from((host.parse::<IpAddr>().ok()?, port)))
+        };
         let upper: Vec<String> = words.iter().map(|it| it.to_ascii_uppercase()).collect();
         match upper.iter().map(String::as_str).collect::<Vec<_>>().as_slice() {
             [] | ["LIST"] => Ok(self.live.addresses().fold(String::new(), |mut out, it| {

@@ -187,6 +187,7 @@ def chapter_6_words(room: Room) -> str:
         ('.REPLAY 77', 1),
         ('.HEALTH 9', 1),
         ('.PUBLISH START x 1', 1),
+        ('.PUBLISH START 127.0.0.1 0', 1),
         ('.PUBLISH STOP', 2),
     ):
         found = ask(line)
@@ -257,7 +258,7 @@ def chapter_6_words(room: Room) -> str:
     must(ask('.MEDIUM') == [f"{room.folder / 'medium'} 65536 8"], 'the medium')
     must(ask('.ERASE', '.FILES') == [], 'an erase')
     must(ask('.SHUTDOWN') == [] and service.child.wait(LONG) == 0, 'a shutdown')
-    return f'{14 + 28} commands'
+    return f'{15 + 29} commands'
 
 
 @trial
