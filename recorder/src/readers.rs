@@ -11,6 +11,7 @@ use crate::clock::COUNTS;
 use crate::control::Reply;
 use crate::entries;
 use crate::owner::{Owner, State, TURN, Trouble};
+use crate::words;
 
 /// The bytes of text that may wait for a client.
 const WAITING: usize = 1 << 20;
@@ -184,6 +185,11 @@ impl Owner {
             return Ok((true, false));
         }
         let What::Replay { file, mut from, to, mut span } = it.what else { return Ok((false, false)) };
+        // a recording may have begun since
+        if !self.may_read(file)? {
+            it.give(words::too_long().line());
+            return Ok((false, false));
+        }
         let end = from.saturating_add(span - 1).min(to);
         let step = if self.state == State::Recording { STEPS.0 } else { STEPS.1 };
         let recorder = self.recorder.as_mut().ok_or_else(|| Trouble::Failed("no medium is mounted".to_string()))?;

@@ -25,7 +25,7 @@ pub enum No {
 }
 
 impl No {
-    fn line(&self) -> String {
+    pub(crate) fn line(&self) -> String {
         let (number, name, text) = match self {
             No::Invalid(text) => (0, "INVALID COMMAND", text),
             No::Parameter(text) => (1, "INVALID PARAMETER", text),
@@ -463,7 +463,7 @@ impl Owner {
     }
 }
 
-fn too_long() -> No {
+pub(crate) fn too_long() -> No {
     No::Mode(
         "that file is long, and reading it would hold up what is recorded; give .STOP first, or read a copy with r10 play"
             .to_string(),

@@ -98,6 +98,36 @@ def clients_that_go(room: Room) -> str:
 
 
 @trial
+def a_long_replay_and_a_recording(room: Room) -> str:
+    """The replay of a long file ends when a recording begins: each of its steps would hold up what comes."""
+    ports = room.ports(1)
+    service = Service(room, settings(udp_channels(ports), start='wait', blocks=262144))
+    service.ask('.RECORD')
+    # (a file of more than 64 MiB, of the 128 that the medium has)
+    load = room.load(ports, count=1300, rate=500, size=60000)
+    service.until(lambda it: it['file']['bytes'] > 65 << 20, 'the file does not grow')
+    load.kill()
+    load.wait()
+    service.ask('.STOP')
+    with socket.socket(socket.AF_UNIX) as it:
+        it.settimeout(LONG)
+        it.connect(str(room.folder / 'control'))
+        it.sendall(b'.REPLAY\n')
+        text = it.recv(1 << 16)
+        must(text.startswith(b'entry '), f'a replay begins with {text[:100]!r}')
+        must(service.ask('.RECORD', '.STATUS')[-1].startswith('S 0'), 'no recording begins')
+        while not text.endswith(b'*\n'):
+            more = it.recv(1 << 20)
+            must(more, 'the connection is closed')
+            text = text[-300:] + more
+    last = text.decode().splitlines()[-2]
+    must(last.startswith('E 02 INVALID MODE: that file is long'), f'the replay ends with {last[:100]}')
+    must(service.ask('.STATUS')[0].startswith('S 05'), 'it does not record')
+    service.end()
+    return 'it says why it ends'
+
+
+@trial
 def peers(room: Room) -> str:
     """Peers over TCP that say nothing leave the socket free, and what a browser sends does nothing."""
     (port,) = room.ports(1)
