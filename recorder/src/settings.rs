@@ -158,7 +158,7 @@ struct Document {
 }
 
 #[derive(Deserialize)]
-#[serde(deny_unknown_fields)]
+#[serde(deny_unknown_fields, expecting = "a table")]
 struct ControlTable {
     socket: Spanned<PathBuf>,
     tcp: Option<Spanned<String>>,
@@ -167,11 +167,11 @@ struct ControlTable {
 }
 
 #[derive(Deserialize)]
-#[serde(deny_unknown_fields)]
+#[serde(deny_unknown_fields, expecting = "a table")]
 struct ChannelTable {
     id: Spanned<u64>,
     kind: Spanned<String>,
-    name: Option<String>,
+    name: Option<Spanned<String>>,
     capacity: Option<Spanned<u64>>,
     check: Option<Spanned<u64>>,
     bytes: Option<Spanned<u64>>,
@@ -183,7 +183,7 @@ struct ChannelTable {
 }
 
 #[derive(Deserialize)]
-#[serde(deny_unknown_fields)]
+#[serde(deny_unknown_fields, expecting = "a table")]
 struct InputTable {
     udp: Option<Spanned<String>>,
     group: Option<Spanned<String>>,
@@ -196,6 +196,9 @@ struct InputTable {
     lines: Option<Spanned<PathBuf>>,
 }
 
+/// The system takes no longer path of a socket.
+const LONGEST_SOCKET: usize = 107;
+
 /// The rates that a serial line may have.
 pub const RATES: [u32; 13] = [1200, 2400, 4800, 9600, 19200, 38400, 57600, 115200, 230400, 460800, 500000, 921600, 1000000];
 
@@ -206,8 +209,10 @@ pub fn read(text: &str, folder: &Path) -> Result<Settings, Vec<Fault>> {
         let said = said.rsplit_once(" at line").map_or(said.as_str(), |it| it.0);
         // of an unknown key the crate says where its table ends
         let key = said.strip_prefix("unknown field `").and_then(|it| it.split('`').next());
-        let line = key.and_then(|it| line_of_key(text, it)).or(error.line_col().map(|it| it.0 + 1)).unwrap_or(1);
-        vec![Fault { line, text: said.to_string() }]
+        let twice = said.strip_prefix("duplicate field `").and_then(|it| it.split('`').next());
+        let line = key.and_then(|it| line_of_key(text, it)).or(twice.and_then(|it| line_of_second(text, it)));
+        let line = line.or(error.line_col().map(|it| it.0 + 1)).unwrap_or(1);
+        vec![Fault { line, text: in_words(said) }]
     })?;
     let mut reader = Reader { text, folder, faults: Vec::new() };
     let settings = reader.settings(document);
@@ -225,15 +230,38 @@ fn is_taken(script: &str) -> bool {
     r10::Recorder::open(r10::Region::memory(1), 1, script).err().map(|it| it.0) == Some(r10::Error::BLOCKS)
 }
 
+/// What the crate says of types, in the words of who writes settings.
+fn in_words(said: &str) -> String {
+    [
+        ("expected u64", "expected a whole number"),
+        ("expected a sequence", "expected a list"),
+        ("invalid type: map", "invalid type: table"),
+    ]
+    .iter()
+    .fold(said.to_string(), |text, (theirs, ours)| text.replace(theirs, ours))
+}
+
 /// The first line on which a key is given a value.
 fn line_of_key(text: &str, key: &str) -> Option<usize> {
-    let gives = |line: &str| {
-        line.match_indices(key).any(|(at, _)| {
-            let is_word = line[..at].chars().next_back().is_none_or(|it| it.is_whitespace() || ",{.\"".contains(it));
-            is_word && line[at + key.len()..].trim_start_matches(['"', ' ', '\t']).starts_with('=')
-        })
+    text.lines().position(|it| gives(it, key)).map(|it| it + 1)
+}
+
+/// The first line on which a key is given a value that its table has already.
+fn line_of_second(text: &str, key: &str) -> Option<usize> {
+    let mut has_it = false;
+    let is_second = |line: &str| {
+        has_it &= !line.trim_start().starts_with('[');
+        gives(line, key) && std::mem::replace(&mut has_it, true)
     };
-    text.lines().position(gives).map(|it| it + 1)
+    text.lines().position(is_second).map(|it| it + 1)
+}
+
+/// Whether a line gives a key a value.
+fn gives(line: &str, key: &str) -> bool {
+    line.match_indices(key).any(|(at, _)| {
+        let is_word = line[..at].chars().next_back().is_none_or(|it| it.is_whitespace() || ",{.\"".contains(it));
+        is_word && line[at + key.len()..].trim_start_matches(['"', ' ', '\t']).starts_with('=')
+    })
 }
 
 struct Reader<'a> {
@@ -383,6 +411,16 @@ impl Reader<'_> {
         let mut taken = BTreeMap::new();
         for (key, at) in named {
             let path = self.path(at.get_ref());
+            if at.get_ref().as_os_str().is_empty() {
+                self.fault(at, format!("{key} = \"\": give a path"));
+            }
+            let length = path.as_os_str().len();
+            if key == "control.socket" && length > LONGEST_SOCKET {
+                self.fault(
+                    at,
+                    format!("{key} = {path:?}: it has {length} bytes; the path of a socket has at most {LONGEST_SOCKET}"),
+                );
+            }
             // of two serial lines more is said elsewhere, and a pipe may have several channels
             if let Some(other) = taken.insert(path.clone(), key)
                 && other != key
@@ -421,6 +459,12 @@ impl Reader<'_> {
                 &it.id,
                 format!("id = {id}: another channel has this ID; give each channel, time and event an ID of its own"),
             );
+        }
+        // it stands in lines of answers
+        if let Some(at) = &it.name
+            && at.get_ref().contains(char::is_control)
+        {
+            self.fault(at, format!("name = {:?}: give a text without control characters", at.get_ref()));
         }
         let kind = Kind::of(it.kind.get_ref()).unwrap_or_else(|| {
             self.fault(
@@ -464,7 +508,7 @@ impl Reader<'_> {
         Channel {
             id: id as u16,
             kind,
-            name: it.name.clone().unwrap_or_else(|| format!("CH{id}")),
+            name: it.name.as_ref().map_or_else(|| format!("CH{id}"), |it| it.get_ref().clone()),
             capacity: capacity as usize,
             input,
             queue: (queue_mib as usize) << 20,
@@ -493,6 +537,12 @@ impl Reader<'_> {
         }
         let (found, what) = if let Some(at) = &it.udp {
             let address = self.address("udp", at)?;
+            if address.ip().is_multicast() {
+                self.fault(
+                    at,
+                    format!("udp = \"{address}\": a multicast address is given by the key group; here give one of this machine"),
+                );
+            }
             let group = it.group.as_ref().and_then(|at| self.host("group", at));
             if let (Some(group), Some(at)) = (group, &it.group)
                 && !group.is_multicast()
@@ -650,6 +700,13 @@ input = { udp = \"127.0.0.1:20005\" }
                 "volume = \"VOL\"\nmetrics = \"127.0.0.1:9\"\n[control]\ntcp = \"127.0.0.1:9\"",
                 "line 4: metrics = \"127.0.0.1:9\": control.tcp has this port; give another one",
             ),
+            (
+                "\"127.0.0.1:20005\"",
+                "\"239.0.0.1:20005\"",
+                "line 9: udp = \"239.0.0.1:20005\": a multicast address is given by the key group; here give one of this machine",
+            ),
+            ("id = 5", "id = 5\nname = \"a\\n*\"", "line 8: name = \"a\\n*\": give a text without control characters"),
+            ("\"m\"", "\"\"", "line 1: medium = \"\": give a path"),
             ("volume", "start = \"now\"\nvolume", "line 3: start = \"now\": give \"record\", \"resume\" or \"wait\""),
             ("volume", "commit_ms = 0\nvolume", "line 3: commit_ms = 0: give a number from 1 to 10000"),
         ] {
@@ -659,13 +716,32 @@ input = { udp = \"127.0.0.1:20005\" }
         assert!(faults(&GOOD.replace("volume", "colour = 1\nvolume"))[0].starts_with("line 3: unknown field `colour`"));
         let within = GOOD.replace("{ udp", "{ colour = 1, udp");
         assert!(faults(&within)[0].starts_with("line 9: unknown field `colour`"), "{:?}", faults(&within));
-        assert!(faults(&GOOD.replace("4096", "\"many\""))[0].starts_with("line 2: invalid type: string \"many\", expected u64"));
+        for (old, new, wanted) in [
+            ("4096", "\"many\"", "line 2: invalid type: string \"many\", expected a whole number for key `blocks`"),
+            ("4096", "-1", "line 2: invalid value: integer `-1`, expected a whole number for key `blocks`"),
+            (
+                "[control]\nsocket = \"c\"",
+                "control = \"c\"",
+                "line 4: invalid type: string \"c\", expected a table for key `control`",
+            ),
+            ("[[channel]]", "[channel]", "line 6: invalid type: table, expected a list for key `channel`"),
+            ("{ udp = \"127.0.0.1:20005\" }", "5", "line 9: invalid type: integer `5`, expected a table for key `channel.input`"),
+            ("blocks = 4096", "blocks = 4096\nblocks = 4097", "line 3: duplicate field `blocks`"),
+            ("id = 5", "id = 4\nkind = \"uart\"\n[[channel]]\nid = 5\nid = 6", "line 11: duplicate field `id`"),
+        ] {
+            assert!(faults(&GOOD.replacen(old, new, 1))[0].starts_with(wanted), "{:?}", faults(&GOOD.replacen(old, new, 1)));
+        }
         assert!(faults(&GOOD.replace("blocks = 4096", "blocks = "))[0].starts_with("line 2: "));
         let twice = format!("{GOOD}[[channel]]\nid = 6\nkind = \"uart\"\ninput = {{ udp = \"127.0.0.1:20005\" }}\n");
         assert_eq!(
             faults(&twice),
             ["line 13: input udp 127.0.0.1:20005: channel 5 has it already; give each channel an input of its own"]
         );
+        // the system takes this one, and one byte more would be too many
+        let socket = |length: usize| GOOD.replace("\"c\"", &format!("\"/{}\"", "x".repeat(length - 1)));
+        assert!(faults(&socket(107)).is_empty());
+        let found = faults(&socket(108));
+        assert!(found[0].starts_with("line 5: control.socket") && found[0].contains("it has 108 bytes"), "{found:?}");
         // one port of this machine, by another name
         assert_eq!(
             faults(&twice.replacen("127.0.0.1:20005", "0.0.0.0:20005", 1)),
