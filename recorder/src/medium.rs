@@ -67,8 +67,21 @@ impl Medium {
 
     /// Makes the file, where nothing of its name is there.
     pub fn make(&self) -> Result<(), Refusal> {
-        if self.path.exists() {
-            return Ok(());
+        match fs::metadata(&self.path) {
+            Ok(found) if found.is_file() || found.file_type().is_block_device() => return Ok(()),
+            Ok(_) => {
+                return Err(Refusal::Wrong(format!(
+                    "the medium {} is no file and no block device: give the path of one, or one at which nothing is yet",
+                    self.name()
+                )));
+            }
+            Err(_) if self.path.is_symlink() => {
+                return Err(Refusal::Wrong(format!(
+                    "the medium {} is a link that leads nowhere: mount the disk to which it leads, or take the link away",
+                    self.name()
+                )));
+            }
+            Err(_) => (),
         }
         let start = Instant::now();
         Disk::make(&self.path, self.blocks, &self.script).map_err(|error| {

@@ -159,7 +159,14 @@ def settings_faults(room: Room) -> str:
     ran = subprocess.run([room.programs / 'r10d', 'settings.toml'], cwd=room.folder, capture_output=True, text=True, timeout=LONG)
     must(ran.returncode == 3 and 'another file is there' in ran.stderr, f'a file in place of the socket: {ran}')
     must((room.folder / 'precious').read_text() == 'a file of somebody', 'a file at the path of the socket was taken away')
-    return '5 faults'
+    # a medium that is none
+    (room.folder / 'link').symlink_to('nowhere')
+    for medium, wanted in (('/tmp', 'is no file and no block device'), ('/dev/null', 'is no file and no block device'),
+                           ('link', 'is a link that leads nowhere')):
+        (room.folder / 'settings.toml').write_text(good.replace('"medium"', f'"{medium}"'))
+        ran = subprocess.run([room.programs / 'r10d', 'settings.toml'], cwd=room.folder, capture_output=True, text=True, timeout=LONG)
+        must(ran.returncode == 3 and ran.stderr.count('\n') == 1 and wanted in ran.stderr, f'{medium} as the medium: {ran}')
+    return '8 faults'
 
 
 @trial
