@@ -23,9 +23,9 @@ impl Channel {
     /// Whether its socket hears what is sent to this address of this machine.
     pub fn hears(&self, to: SocketAddr) -> bool {
         match &self.input {
-            Some(Input::Udp { address, .. }) => {
+            Some(Input::Udp { address, group, .. }) => {
                 let is_here = to.ip() == address.ip() || to.ip().is_loopback() || to.ip().is_unspecified();
-                address.port() == to.port() && has(address.ip(), to.ip()) && is_here
+                address.port() == to.port() && (*group == Some(to.ip()) || has(address.ip(), to.ip()) && is_here)
             }
             _ => false,
         }
@@ -552,6 +552,11 @@ impl Reader<'_> {
                 && group.is_ipv4() != address.is_ipv4()
             {
                 self.fault(at, format!("group = \"{group}\": give one of the kind of {address}, version 4 or version 6"));
+            } else if let (Some(group), Some(at)) = (group, &it.group)
+                && group.is_ipv6()
+                && !address.ip().is_unspecified()
+            {
+                self.fault(at, format!("group = \"{group}\": with a group of version 6 give udp = \"[::]:{}\"", address.port()));
             }
             // one socket would have what the other is to get
             let other = inputs.iter().find(|it| {
@@ -679,6 +684,17 @@ input = { udp = \"127.0.0.1:20005\" }
                 "127.0.0.1:20005\"",
                 "0.0.0.0:20005\", group = \"ff02::1\"",
                 "line 9: group = \"ff02::1\": give one of the kind of 0.0.0.0:20005, version 4 or version 6",
+            ),
+            (
+                "127.0.0.1:20005\"",
+                "[::1]:20005\", group = \"ff02::1\"",
+                "line 9: group = \"ff02::1\": with a group of version 6 give udp = \"[::]:20005\"",
+            ),
+            (
+                "volume = \"VOL\"\n[control]\nsocket = \"c\"\n[[channel]]\nid = 5\nkind = \"message\"\ninput = { udp = \"127.0.0.1:20005\"",
+                "publish = \"239.0.0.1:20005\"\nvolume = \"VOL\"\n[control]\nsocket = \"c\"\n[[channel]]\nid = 5\nkind = \"message\"\n\
+                 input = { udp = \"127.0.0.1:20005\", group = \"239.0.0.1\"",
+                "line 3: publish = \"239.0.0.1:20005\": channel 5 listens there; give another address",
             ),
             (
                 "socket = \"c\"",

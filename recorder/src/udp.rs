@@ -15,11 +15,14 @@ use std::time::Duration;
 
 /// Opens the socket, with so many MiB for what the system holds. An unprivileged user gets as much as net.core.rmem_max says.
 pub fn open(address: SocketAddr, group: Option<IpAddr>, receive_mib: u64) -> io::Result<UdpSocket> {
-    let socket = UdpSocket::bind(address)?;
-    match group {
-        None => (),
-        Some(IpAddr::V4(group)) => socket.join_multicast_v4(&group, &Ipv4Addr::UNSPECIFIED)?,
-        Some(IpAddr::V6(group)) => socket.join_multicast_v6(&group, 0)?,
+    // a socket at one address of this machine gets nothing of a group: so the socket is the group's, and the address says on which
+    // network that is heard
+    let at = group.filter(|_| !address.ip().is_unspecified()).unwrap_or(address.ip());
+    let socket = UdpSocket::bind((at, address.port()))?;
+    match (group, address.ip()) {
+        (Some(IpAddr::V4(group)), IpAddr::V4(here)) => socket.join_multicast_v4(&group, &here)?,
+        (Some(IpAddr::V6(group)), _) => socket.join_multicast_v6(&group, 0)?,
+        _ => (),
     }
     let wanted = (receive_mib as usize) << 20;
     let fd = socket.as_raw_fd();

@@ -7,7 +7,23 @@ import socket
 import subprocess
 import time
 
-from trying import HOST, KINDS, LONG, Room, Service, channel, entries, files, must, r10, settings, trial, udp_channels, until
+from trying import (
+    HOST,
+    KINDS,
+    LONG,
+    NotTried,
+    Room,
+    Service,
+    channel,
+    entries,
+    files,
+    must,
+    r10,
+    settings,
+    trial,
+    udp_channels,
+    until,
+)
 
 
 @trial
@@ -47,6 +63,36 @@ def each_kind_by_udp(room: Room) -> str:
         f'by UDP came {found}',
     )
     return '5 kinds, one of 65,507 bytes, and 3 datagrams that are none'
+
+
+@trial
+def multicast(room: Room) -> str:
+    """A channel with a multicast group hears the group, on the network of its address."""
+    group, ports = '239.77.3.1', room.ports(2)
+
+    def send(port: int) -> None:
+        with socket.socket(socket.AF_INET, socket.SOCK_DGRAM) as it:
+            it.setsockopt(socket.IPPROTO_IP, socket.IP_MULTICAST_IF, socket.inet_aton(HOST))
+            it.setsockopt(socket.IPPROTO_IP, socket.IP_MULTICAST_TTL, 0)
+            it.sendto(b'to all of the group', (group, port))
+
+    # whether the system has multicast on this network at all
+    try:
+        with socket.socket(socket.AF_INET, socket.SOCK_DGRAM) as it:
+            it.bind((group, ports[1]))
+            it.settimeout(2)
+            it.setsockopt(socket.IPPROTO_IP, socket.IP_ADD_MEMBERSHIP, socket.inet_aton(group) + socket.inet_aton(HOST))
+            send(ports[1])
+            it.recv(100)
+    except OSError as why:
+        raise NotTried(f'no multicast on {HOST}: {why}') from None
+    service = Service(room, settings(channel(14, 'message', f'udp = "{HOST}:{ports[0]}", group = "{group}"')))
+    send(ports[0])
+    service.until_durable(1)
+    service.end()
+    found = [bytes.fromhex(it.words[-1]) for it in entries((room.folder / 'medium').read_bytes(), 0, 14)]
+    must(found == [b'to all of the group'], f'of the group came {found}')
+    return 'one datagram'
 
 
 @trial
