@@ -8,7 +8,7 @@ use std::time::Duration;
 
 use nix::fcntl::OFlag;
 use nix::poll::{PollFd, PollFlags, poll};
-use nix::sys::termios::{BaudRate, SetArg, cfmakeraw, cfsetspeed, tcgetattr, tcsetattr};
+use nix::sys::termios::{BaudRate, ControlFlags, SetArg, cfmakeraw, cfsetspeed, tcgetattr, tcsetattr};
 
 use crate::feed::Feed;
 use crate::inputs::{AGAIN, message_of};
@@ -73,6 +73,8 @@ fn open(path: &Path, baud: Option<u32>) -> io::Result<File> {
         OpenOptions::new().read(true).write(true).custom_flags(OFlag::O_NOCTTY.bits() | OFlag::O_NONBLOCK.bits()).open(path)?;
     let mut line = tcgetattr(file.as_raw_fd())?;
     cfmakeraw(&mut line);
+    // a line of three wires has no carrier, whatever the program before this one wanted
+    line.control_flags |= ControlFlags::CREAD | ControlFlags::CLOCAL;
     if let Some(rate) = baud.and_then(rate) {
         cfsetspeed(&mut line, rate)?;
     }

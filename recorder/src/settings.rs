@@ -596,7 +596,7 @@ impl Reader<'_> {
             rate
         });
         let end = it.end.as_ref().map(|at| self.number("end", at, 0..=255) as u8);
-        let length = self.number_or("length", &it.length, 1024, 1..=65_535) as usize;
+        let length = self.number_or("length", &it.length, 65_535, 1..=65_535) as usize;
         let pause = it.pause_ms.as_ref().map(|at| Duration::from_millis(self.number("pause_ms", at, 1..=60_000)));
         if end.is_none() && it.length.is_none() && pause.is_none() {
             self.fault(

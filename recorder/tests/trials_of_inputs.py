@@ -5,6 +5,7 @@ import random
 import re
 import socket
 import subprocess
+import termios
 import time
 
 from trying import (
@@ -160,10 +161,15 @@ def serial_lines(room: Room) -> str:
     for n, how in enumerate(('end = 10', 'length = 4', 'pause_ms = 30, baud = 115200')):
         master, slave = pty.openpty()
         masters.append((master, slave))
+        # (as a program left it that minds the carrier)
+        modes = termios.tcgetattr(slave)
+        modes[2] &= ~termios.CLOCAL
+        termios.tcsetattr(slave, termios.TCSANOW, modes)
         text += channel(10 + n, 'uart', f'serial = "{os.ttyname(slave)}", {how}')
     service = Service(room, settings(text))
     for n in range(3):
         service.wait_for(f'channel {10 + n}: reads')
+        must(termios.tcgetattr(masters[n][1])[2] & termios.CLOCAL, 'the line minds a carrier')
     os.write(masters[0][0], b'$A,1\n$B')
     os.write(masters[1][0], b'12345678\x03\x04\r\n')
     os.write(masters[2][0], b'first')
@@ -172,10 +178,13 @@ def serial_lines(room: Room) -> str:
     os.write(masters[0][0], b',2\n')
     os.write(masters[2][0], b'second')
     service.until_durable(7)
+    # what has no `length` may be long
+    os.write(masters[0][0], b'$' * 3000 + b'\n')
+    service.until_durable(8)
     service.end()
     found = {n: [bytes.fromhex(it.words[-1]) for it in entries((room.folder / 'medium').read_bytes(), 0, n)] for n in (10, 11, 12)}
     must(
-        found == {10: [b'$A,1\n', b'$B,2\n'], 11: [b'1234', b'5678', b'\x03\x04\r\n'], 12: [b'first', b'second']},
+        found == {10: [b'$A,1\n', b'$B,2\n', b'$' * 3000 + b'\n'], 11: [b'1234', b'5678', b'\x03\x04\r\n'], 12: [b'first', b'second']},
         f'by serial lines came {found}',
     )
     for one, other in masters:
