@@ -94,7 +94,9 @@ pub fn run(path: Option<&Path>, mut feed: Feed, channels: &[Channel]) {
 /// Reads lines to the end. What is no entry is counted; the channel is the line's, or the first. `at` is where a pipe is.
 fn read(mut from: BufReader<File>, at: Option<&Path>, name: &str, feed: &mut Feed, channels: &[Channel]) -> io::Result<()> {
     let only = if channels.len() == 1 { channels.first().map(|it| it.id) } else { None };
-    let (mut line, mut number, mut bad) = (Vec::new(), 0u64, Seldom::default());
+    let (mut line, mut number, mut bad) = (Vec::new(), 1u64, Seldom::default());
+    // whether what comes is the rest of a line that was too long
+    let mut is_rest = false;
     loop {
         let found = read_line(&mut from, &mut line, |file| {
             // what came goes over before the thread may wait
@@ -105,7 +107,11 @@ fn read(mut from: BufReader<File>, at: Option<&Path>, name: &str, feed: &mut Fee
             feed.flush();
             return Ok(());
         };
-        number += 1;
+        let was_rest = std::mem::replace(&mut is_rest, !is_whole);
+        number += u64::from(is_whole);
+        if was_rest {
+            continue;
+        }
         if line.iter().all(u8::is_ascii_whitespace) || line.trim_ascii_start().starts_with(b"#") {
             continue;
         }
@@ -122,22 +128,22 @@ fn read(mut from: BufReader<File>, at: Option<&Path>, name: &str, feed: &mut Fee
             }
             Err(why) => {
                 feed.bad(0);
-                bad.warn(|| format!("{name}, line {number}: {why}"));
+                bad.warn(|| format!("{name}, line {}: {why}", number - u64::from(is_whole)));
             }
         }
     }
 }
 
-/// Reads a line, with its end where it has one, and says whether it is whole: of one that is too long the rest is left out. None at
-/// the end.
+/// Reads a line, with its end where it has one, and says whether it is whole: of one that is too long it reads a part. None at the
+/// end.
 fn read_line(
     from: &mut BufReader<File>,
     line: &mut Vec<u8>,
     mut wait: impl FnMut(&File) -> io::Result<()>,
 ) -> io::Result<Option<bool>> {
-    let (mut count, mut is_ended) = (0, false);
+    let mut is_ended = false;
     line.clear();
-    while !is_ended {
+    while !is_ended && line.len() < LONGEST {
         if from.buffer().is_empty() {
             wait(from.get_ref())?;
         }
@@ -148,13 +154,13 @@ fn read_line(
             Err(error) => return Err(error),
         };
         let end = bytes.iter().position(|it| *it == b'\n');
-        let length = end.map_or(bytes.len(), |it| it + 1);
-        line.extend_from_slice(&bytes[..length.min(LONGEST - line.len())]);
+        let length = end.map_or(bytes.len(), |it| it + 1).min(LONGEST - line.len());
+        line.extend_from_slice(&bytes[..length]);
         from.consume(length);
-        count += length;
-        is_ended = end.is_some();
+        is_ended = line.ends_with(b"\n");
     }
-    Ok((count > 0).then_some(count <= LONGEST))
+    // (a last line has no end)
+    Ok((!line.is_empty()).then_some(is_ended || line.len() < LONGEST))
 }
 
 #[cfg(test)]

@@ -159,7 +159,7 @@ def peers(room: Room) -> str:
 @trial
 def a_pipe_that_goes(room: Room) -> str:
     """A named pipe that is removed is made again, for the service's user and group, and lines come through it; a line of brackets
-    without an end does nothing."""
+    without an end does nothing. A line that does not end is counted while it comes."""
     mask = os.umask(0o077)
     try:
         service = Service(room, settings(channel(13, 'discrete', 'lines = "pipe"')))
@@ -173,9 +173,16 @@ def a_pipe_that_goes(room: Room) -> str:
         service.until_durable(number)
         if number < 3:
             path.unlink()
+    with open(path, 'w', encoding='ascii') as it:
+        it.write('x' * 300_000)
+        it.flush()
+        service.until(lambda it: it['channels'][0]['bad'] == 4, 'a line that does not end is not counted')
+        it.write('\nstates = 4\n')
+    service.until_durable(4)
+    must(service.figures()['channels'][0]['bad'] == 4, 'a long line is counted twice')
     service.end()
     found = [it.words[-1] for it in entries((room.folder / 'medium').read_bytes(), 0, 13)]
-    must(found == ['00000001', '00000002', '00000003'], f'{found}')
+    must(found == ['00000001', '00000002', '00000003', '00000004'], f'{found}')
     return 'removed twice'
 
 
