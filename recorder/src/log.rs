@@ -8,6 +8,8 @@ use std::sync::atomic::{AtomicU64, Ordering::SeqCst};
 use std::sync::mpsc::{Receiver, SyncSender, sync_channel};
 use std::time::{Duration, Instant};
 
+use nix::sys::stat::fstat;
+
 use crate::clock;
 
 /// How many lines may wait to be written.
@@ -26,10 +28,12 @@ pub enum Level {
     Info,
 }
 
-/// Whether standard error goes to the system's journal, which puts times to lines itself and reads a level in front of them.
+/// Whether standard error goes to the system's journal, which puts times to lines itself and reads a level in front of them. The
+/// variable names the file that is the journal: a shell below a service has it too.
 fn is_journal() -> bool {
     static FOUND: OnceLock<bool> = OnceLock::new();
-    *FOUND.get_or_init(|| std::env::var_os("JOURNAL_STREAM").is_some())
+    let look = || fstat(2).ok().zip(std::env::var("JOURNAL_STREAM").ok());
+    *FOUND.get_or_init(|| look().is_some_and(|(it, name)| name == format!("{}:{}", it.st_dev, it.st_ino)))
 }
 
 pub fn write(level: Level, text: &str) {

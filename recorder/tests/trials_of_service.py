@@ -1,6 +1,7 @@
 """Trials of the service as such: readers, the clock, its end and its manager, a flood."""
 import fcntl
 import os
+import re
 import signal
 import socket
 import subprocess
@@ -245,6 +246,19 @@ def nobody_reads_what_it_says(room: Room) -> str:
         os.close(log)
         os.close(acknowledged)
     return 'neither held it up'
+
+
+@trial
+def the_journal(room: Room) -> str:
+    """Lines of the log have a level for the journal if it is the journal that gets them, and else a time."""
+    text = settings(channel(5, 'message', 'lines = "pipe"'))
+    (room.folder / 'log').touch()
+    found = (room.folder / 'log').stat()
+    for stream, wanted in (('1:1', r'\d{4}-\d\d-\d\d [0-9:.]{11}Z info: r10d '), (f'{found.st_dev}:{found.st_ino}', '<6>r10d ')):
+        service = Service(room, text, environment={'JOURNAL_STREAM': stream})
+        service.end()
+        must(re.search('^' + wanted, service.log(), re.MULTILINE), f'JOURNAL_STREAM={stream}: {service.log()}')
+    return 'a time, or a level'
 
 
 @trial
