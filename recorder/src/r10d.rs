@@ -15,7 +15,7 @@ use r10_recorder::medium::{Medium, Refusal};
 use r10_recorder::owner::Owner;
 use r10_recorder::settings::{self, Settings};
 use r10_recorder::{error, info, inputs, log, metrics, watchdog};
-use signal_hook::consts::{SIGHUP, SIGINT, SIGTERM};
+use signal_hook::consts::signal::{SIGHUP, SIGINT, SIGTERM, SIGXFSZ};
 
 #[derive(Parser)]
 #[command(
@@ -110,6 +110,8 @@ fn serve(settings: Settings) -> Result<bool, String> {
     for signal in [SIGTERM, SIGINT].into_iter().chain(hangup) {
         signal_hook::flag::register(signal, ending.clone()).map_err(|it| it.to_string())?;
     }
+    // where a file may grow no more (`acknowledge`) its write fails, and the service goes on
+    signal_hook::flag::register(SIGXFSZ, Arc::default()).map_err(|it| it.to_string())?;
     let counter = Counter::new();
     let came: Vec<Arc<Came>> = settings.channels.iter().map(|_| Arc::default()).collect();
     let (to, commands) = channel();

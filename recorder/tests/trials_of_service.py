@@ -2,6 +2,7 @@
 import fcntl
 import os
 import re
+import shlex
 import signal
 import socket
 import subprocess
@@ -246,6 +247,29 @@ def nobody_reads_what_it_says(room: Room) -> str:
         os.close(log)
         os.close(acknowledged)
     return 'neither held it up'
+
+
+@trial
+def a_file_that_may_not_grow(room: Room) -> str:
+    """A limit of the size of files ends what is acknowledged, and not the service."""
+    room.programs, programs = room.folder / 'limited', room.programs
+    room.programs.mkdir()
+    # (in units of 1,024 bytes: the medium is made before)
+    for limit in ('unlimited', '40000'):
+        (room.programs / 'r10d').write_text(f'#!/bin/bash\nulimit -f {limit} && exec {shlex.quote(str(programs / "r10d"))} "$@"\n')
+        (room.programs / 'r10d').chmod(0o755)
+        service = Service(room, settings(channel(13, 'discrete', 'lines = "pipe"')))
+        if limit == 'unlimited':
+            service.end()
+            with open(room.folder / 'lines', 'ab') as it:
+                it.truncate(40000 << 10)
+            continue
+        (room.folder / 'pipe').write_text('states = 1\n')
+        service.wait_for('cannot be written down any more: File too large')
+        (room.folder / 'pipe').write_text('states = 2\n')
+        service.until_durable(2)
+        service.end()
+    return 'it goes on'
 
 
 @trial
