@@ -11,7 +11,7 @@
 #                                           # recorder/tests/long.py says more
 #     scripts/recorder.sh soak HOURS        # records for so long, and draws memory and acknowledged messages
 #
-# Crates come from Debian's packages where those are there (apt-get install the librust-*-dev packages of PACKAGES below), so no
+# Crates come from Debian's packages where those are there (scripts/packages.sh names them), so no
 # network is needed; else from the registry, as cargo is set up. With --quick the library is the one without proofs. `check` takes
 # the library that is there, says in a line what it cannot try, and fails of nothing that is only missing.
 set -u
@@ -19,8 +19,8 @@ set -u
 top=$(cd "$(dirname "$(readlink -f "${BASH_SOURCE[0]}")")/.." && pwd)
 # shellcheck source=scripts/wants.sh
 . "$top/scripts/wants.sh"
-readonly PACKAGES="librust-clap-dev librust-nix-dev librust-sd-notify-dev librust-serde-dev librust-serde-derive-dev \
-librust-serde-json-dev librust-signal-hook-dev librust-time-dev librust-toml-dev"
+PACKAGES=$("$top/scripts/packages.sh" service)
+readonly PACKAGES
 readonly REGISTRY=/usr/share/cargo/registry
 
 give_up() {

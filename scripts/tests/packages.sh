@@ -1,0 +1,42 @@
+#!/usr/bin/env bash
+# Tests of scripts/packages.sh with stand-ins for dpkg-query, apt-get and id. A second; status 1 where one fails.
+set -u
+# shellcheck disable=SC2016,SC2317 source=scripts/tests/kit.sh
+. "$(dirname "$(readlink -f "${BASH_SOURCE[0]}")")/kit.sh"
+mkdir "$room/bin"
+for it in bash sed grep tail timeout mktemp rm env; do ln -s "$(command -v "$it")" "$room/bin/$it"; done
+# All are installed but those that the file `lacks` names.
+cat >"$room/bin/dpkg-query" <<'IT'
+#!/usr/bin/env bash
+grep -qx "${*: -1}" "${0%/*}/../lacks" || printf 'install ok installed'
+IT
+cat >"$room/bin/apt-get" <<'IT'
+#!/usr/bin/env bash
+echo "$*" >>"${0%/*}/../calls"
+[ ! -e "${0%/*}/../fails" ] || { echo "E: no network" >&2; exit 100; }
+IT
+printf '#!/usr/bin/env bash\ncat "${0%%/*}/../user"\n' >"$room/bin/id"
+ln -s "$(command -v cat)" "$room/bin/cat"
+chmod +x "$room/bin"/*
+packages() { PATH="$room/bin" "$BASH" "$top/scripts/packages.sh" "$@" 2>&1; }
+
+echo 0 >"$room/user"
+: >"$room/lacks"
+check "nothing is missing" is "$(packages)" ""
+check "then nothing is installed" is "$(packages install; echo "$?")" "0"
+check "and apt-get is not called" test ! -e "$room/calls"
+printf 'zsh\nlibrust-toml-dev\n' >"$room/lacks"
+check "what is missing, a line each" is "$(packages | tr '\n' ' ')" "zsh librust-toml-dev "
+check "that alone is installed" is "$(packages install; echo "$?")" $'packages: installed zsh librust-toml-dev\n0'
+check "by apt-get" says "$(cat "$room/calls")" "install zsh librust-toml-dev"
+: >"$room/fails"
+check "without a network it is a line, and status 1" is "$(packages install; echo "$?")" \
+    $'packages: not installed: zsh librust-toml-dev: E: no network\n1'
+echo 1000 >"$room/user"
+check "without root too" is "$(packages install; echo "$?")" \
+    $'packages: not installed, as there is no apt-get or no root here: zsh librust-toml-dev\n1'
+check "the crates of the service in one line" says "$(packages service)" "librust-clap-dev librust-nix-dev"
+check "recorder.sh names them" grep -q 'packages.sh" service' "$top/scripts/recorder.sh"
+check "other words are refused" is "$(packages all >/dev/null; echo "$?")" "2"
+# shellcheck disable=SC2154
+exit "$failed"
