@@ -10,6 +10,8 @@
 # installed. What was installed stands in PREFIX/share/r10/installed. Without leave to write, or room, that is one line, and status
 # 3; then nothing is changed.
 set -eu
+# what is installed is for all users, whatever the caller's mask
+umask 022
 
 top=$(cd "$(dirname "$(readlink -f "${BASH_SOURCE[0]}")")/.." && pwd)
 

@@ -60,8 +60,9 @@ check "and nothing of the service is there" is "$(find "$room/without" -name 'r1
 
 # A prefix with letters that mean something to a shell, to sed or to systemd.
 odd="/opt/r 10 & co"
-"$top/scripts/install.sh" "$odd" "$room/odd" >"$room/said" 2>&1
+(umask 077 && "$top/scripts/install.sh" "$odd" "$room/odd") >"$room/said" 2>&1
 check "it installs below a prefix with spaces" is "$? $("$room/odd$odd/bin/r10" --version)" "0 r10 $version"
+check "for all users, whatever the caller's mask" is "$(find "$room/odd/opt" ! -type l ! -perm -044)" ""
 if command -v pkg-config >/dev/null; then
     check "r10.pc names it" is "$(PKG_CONFIG_PATH="$room/odd$odd/lib/pkgconfig" pkg-config --variable=prefix r10)" "$odd"
     check "and gives words that a shell takes apart right" is \
@@ -151,8 +152,10 @@ if [ "$(id -u)" = 0 ]; then
 fi
 
 if command -v dpkg-deb >/dev/null; then
-    package=$("$top/scripts/deb.sh" "$room" 2>/dev/null)
+    package=$(umask 077 && "$top/scripts/deb.sh" "$room" 2>/dev/null)
     check "a Debian package is made" test -f "$package"
+    check "with files for all users" is "$(dpkg-deb -c "$package" | grep -v '^l' | cut -c 2-10 | sort -u | tr '\n' ' ')" \
+        "rw-r--r-- rwxr-xr-x "
     check "it installs in a root of its own, runs there and goes" "$top/scripts/deb.sh" try "$package"
     cp -r "$room" "$room.broken"
     dpkg-deb -R "$package" "$room.broken/whole" && echo 'echo no' >"$room.broken/whole/usr/bin/r10" &&
