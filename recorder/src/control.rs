@@ -121,7 +121,9 @@ pub fn connected<S>(listener: impl Iterator<Item = io::Result<S>>) -> impl Itera
 pub fn start(settings: &Settings, asking: &Asking) -> io::Result<()> {
     let path = &settings.socket;
     let failed = |it: io::Error| {
-        io::Error::new(it.kind(), format!("control.socket = {path:?}: {it}; it wants a folder that may be written"))
+        // (what `bind` says itself has what to do in it)
+        let what = if it.raw_os_error().is_some() { "; it wants a folder that is there and may be written" } else { "" };
+        io::Error::new(it.kind(), format!("control.socket = {path:?}: {it}{what}"))
     };
     let listener = bind(path).map_err(failed)?;
     let asking_here = asking.clone();

@@ -26,7 +26,7 @@ use crate::{error, info, warning, watchdog};
 #[derive(Debug)]
 pub enum Trouble {
     /// the file's area, or the directory, has no room
-    Full,
+    Full(Error),
     /// the recorder refused a call, and nothing has changed
     Refused(Error),
     /// the disk failed, or the recorder did
@@ -36,7 +36,7 @@ pub enum Trouble {
 impl From<Error> for Trouble {
     fn from(error: Error) -> Trouble {
         match error {
-            Error::MEDIUM_FULL | Error::DIRECTORY_FULL => Trouble::Full,
+            Error::MEDIUM_FULL | Error::DIRECTORY_FULL => Trouble::Full(error),
             Error::MEDIUM | Error::FAILED | Error::NO_MEMORY => {
                 Trouble::Failed(format!("the recorder failed: {error} ({})", error.number()))
             }
@@ -48,7 +48,7 @@ impl From<Error> for Trouble {
 impl fmt::Display for Trouble {
     fn fmt(&self, f: &mut fmt::Formatter) -> fmt::Result {
         match self {
-            Trouble::Full => f.write_str("the medium is full"),
+            Trouble::Full(error) => write!(f, "{error}"),
             Trouble::Refused(error) => write!(f, "the recorder refused a call: {error} ({})", error.number()),
             Trouble::Failed(why) => f.write_str(why),
         }
@@ -244,7 +244,7 @@ impl Owner {
     pub(crate) fn mind(&mut self, done: Result<(), Trouble>) {
         match done {
             Ok(()) => (),
-            Err(Trouble::Full) => {
+            Err(Trouble::Full(_)) => {
                 if let Err(trouble) = self.next_file("is full") {
                     self.fail(&trouble.to_string());
                 }

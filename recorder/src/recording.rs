@@ -1,7 +1,7 @@
 //! What is recorded: lanes go into the file, commits make it durable, files begin and end.
 use std::time::Instant;
 
-use r10::Queue;
+use r10::{Error, Queue};
 use time::OffsetDateTime;
 
 use crate::clock;
@@ -148,7 +148,7 @@ impl Owner {
         let mut is_full = false;
         for place in 0..self.lanes.len() {
             match self.pump(place) {
-                Err(Trouble::Full) => is_full = true,
+                Err(Trouble::Full(_)) => is_full = true,
                 other => other?,
             }
         }
@@ -177,14 +177,14 @@ impl Owner {
             self.stop(why)?;
         }
         let is_empty = is_empty && self.lanes.iter().all(|it| it.durable_in_file == 0);
-        let begun = if is_empty && self.file.is_some() && why == "is full" { Err(Trouble::Full) } else { self.start(None) };
+        let is_all = is_empty && self.file.is_some() && why == "is full";
+        let begun = if is_all { Err(Trouble::Full(Error::MEDIUM_FULL)) } else { self.start(None) };
         match begun {
-            Err(Trouble::Full) => {
+            Err(Trouble::Full(error)) => {
                 self.state = State::Full;
                 self.medium.keep(true);
                 error!(
-                    "the medium is full: nothing is recorded, and what comes is counted as lost; copy the files, then give \
-                     .ERASE and .RECORD"
+                    "{error}: nothing is recorded, and what comes is counted as lost; copy the files, then give .ERASE and .RECORD"
                 );
                 Ok(())
             }

@@ -141,7 +141,7 @@ impl Owner {
     pub(crate) fn resume(&mut self) {
         let begun = self.start(None);
         match begun {
-            Err(Trouble::Full) => {
+            Err(Trouble::Full(_)) => {
                 let done = self.next_file("is full");
                 self.mind(done);
             }

@@ -77,7 +77,7 @@ pub struct Point {
 /// What a call's trouble is to a command. What failed is trouble still.
 fn no(trouble: Trouble) -> Result<No, Trouble> {
     match trouble {
-        Trouble::Full => Ok(No::Full("there is no room for it; copy the files, then give .ERASE".to_string())),
+        Trouble::Full(error) => Ok(No::Full(format!("{error}; copy the files, then give .ERASE"))),
         Trouble::Refused(error @ (Error::BAD_NAME | Error::NAME_TAKEN | Error::BAD_EVENT)) => {
             Ok(No::Parameter(format!("{error}; give another one")))
         }

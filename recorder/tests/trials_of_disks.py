@@ -17,11 +17,11 @@ def a_second_service(room: Room) -> str:
     service = Service(room, settings(udp_channels(ports[:1]), start='wait'))
     before = (room.folder / 'medium').read_bytes()[: 512 * 9]
     (room.folder / 'other.toml').write_text(settings(udp_channels(ports[1:])).replace('"control"', '"other"'))
-    ran = subprocess.run([room.programs / 'r10d', 'other.toml'], cwd=room.folder, capture_output=True, text=True, timeout=10)
+    ran = subprocess.run([room.programs / 'r10d', 'other.toml'], cwd=room.folder, capture_output=True, text=True, timeout=LONG)
     must(ran.returncode == 3 and 'is used by another program' in ran.stderr, f'a second service: {ran}')
     must((room.folder / 'medium').read_bytes()[: 512 * 9] == before, 'the second service wrote to the disk')
     # the same settings: the medium is taken before the socket
-    ran = subprocess.run([room.programs / 'r10d', 'settings.toml'], cwd=room.folder, capture_output=True, text=True, timeout=10)
+    ran = subprocess.run([room.programs / 'r10d', 'settings.toml'], cwd=room.folder, capture_output=True, text=True, timeout=LONG)
     must(ran.returncode == 3 and service.ask('.STATUS')[0].startswith('S 01'), f'the same service again: {ran}')
     service.end()
     return 'refused'
@@ -51,6 +51,22 @@ def full_medium(room: Room) -> str:
     must(service.ask('.ERASE', '.RECORD AGAIN', '.STATUS')[-1].startswith('S 05'), 'no recording after an erase')
     service.end()
     return f"{found['files']} files, {found['messages']} messages, {used:.0%} used"
+
+
+@trial
+def a_full_directory(room: Room) -> str:
+    """A directory that has all its files says so, and not that the medium is full; so does the log of the next start."""
+    text = settings(channel(13, 'discrete', 'lines = "pipe"'), directory=1, start='wait')
+    service = Service(room, text)
+    must(service.ask(*['.RECORD', '.STOP'] * 4) == [], 'four files')
+    found = service.ask('.RECORD')
+    must(found[0].startswith('E 04 MEMORY FULL: the directory is full'), f'a fifth file: {found}')
+    service.end()
+    service = Service(room, text.replace('"wait"', '"record"'))
+    service.wait_for('error: the directory is full: nothing is recorded')
+    must(service.ask('.STATUS')[0].startswith('S 01 0 1'), f"the status is {service.ask('.STATUS')}")
+    service.end()
+    return 'four files'
 
 
 @trial

@@ -212,7 +212,8 @@ def settings_faults(room: Room) -> str:
     (room.folder / 'precious').write_text('a file of somebody')
     (room.folder / 'settings.toml').write_text(good.replace('socket = "control"', 'socket = "precious"'))
     ran = subprocess.run([room.programs / 'r10d', 'settings.toml'], cwd=room.folder, capture_output=True, text=True, timeout=LONG)
-    must(ran.returncode == 3 and 'another file is there' in ran.stderr, f'a file in place of the socket: {ran}')
+    wanted = 'another file is there; give a path of its own\n'
+    must(ran.returncode == 3 and ran.stderr.endswith(wanted), f'a file in place of the socket: {ran}')
     must((room.folder / 'precious').read_text() == 'a file of somebody', 'a file at the path of the socket was taken away')
     # a medium that is none
     (room.folder / 'link').symlink_to('nowhere')
