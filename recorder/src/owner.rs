@@ -433,7 +433,13 @@ impl Owner {
             warning!("the service ends; recording was down: {}", self.why);
             return false;
         }
-        match self.close() {
+        let done = self.close();
+        // what a full file or medium left would have come first in the next one
+        let left: usize = self.lanes.iter().map(|it| it.waiting).sum();
+        if left > 0 {
+            warning!("{left} messages waited for room, and are in no file");
+        }
+        match done {
             Ok(()) => {
                 info!("the service has ended; the medium can be taken away");
                 true

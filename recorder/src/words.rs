@@ -439,7 +439,7 @@ impl Owner {
                 "came": lane.came.messages.load(Relaxed), "bytes": lane.came.bytes.load(Relaxed),
                 "bad": lane.came.bad.load(Relaxed),
                 "durable": lane.durable, "in_file": lane.durable_in_file, "lost": lane.lost + overflow,
-                "refused": lane.refused, "passed": lane.passed,
+                "refused": lane.refused, "passed": lane.passed, "waiting": lane.waiting,
                 "last_count": count, "last_length": length, "last_bytes": hex,
             }));
         }
