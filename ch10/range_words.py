@@ -112,7 +112,8 @@ def add_words(commands: Any, Parser: Any, channel_number: Callable[[str], int]) 
         made.add_argument('--db', metavar='DSN', help='the database')
 
     def judging(made: Any) -> None:
-        made.add_argument('--jobs', type=positive, metavar='N', help='so many at a time (without it: one for each processor)')
+        made.add_argument('--jobs', type=positive, metavar='N',
+                          help='so many at a time, up to 64 (without it: one for each processor)')
         made.add_argument('--memory', type=positive, metavar='MIB',
                           help='memory for what the program holds while it judges (without it: half of what is free); '
                           'what is larger is not judged')

@@ -23,6 +23,8 @@ Task = Dict[str, Any]
 TOP = os.path.dirname(os.path.dirname(os.path.abspath(__file__)))
 # whatever stands in the folder that the call is made in
 START = 'import sys; sys.path[0] = sys.argv[1]; from ch10.workers import main; main()'
+# so many at a time at most, whatever is asked for
+MOST = 64
 
 
 def processors() -> int:
@@ -110,6 +112,7 @@ class Pool:
     may wait to be taken: it is held in memory."""
 
     def __init__(self, number: int, setting: Task, room: Optional[Room] = None, ahead: int = 2) -> None:
+        number = min(number, MOST)
         self.number, self.room, self.over, self.most = number, room, threading.Event(), ahead * number
         self.alone = work_of(setting) if number == 1 else None
         self.waiting: queue.Queue = queue.Queue()

@@ -329,6 +329,9 @@ def beside(room: str, dsns: Sequence[str], made: str) -> None:
     agree(os.listdir(place), ['range.sqlite'], 'files that a database leaves beside who read it')
     ch10(['catalogue', 'add', '--db', path, '--unjudged', '--jobs', '1', folder])
     agree(os.listdir(place), ['range.sqlite'], 'files that a database leaves')
+    begin = time.monotonic()
+    ch10(['catalogue', 'add', '--db', path, '--unjudged', '--jobs', '1000000', folder])
+    agree(time.monotonic() - begin < 30, True, 'more processes than a machine has end in time')
 
 
 NONE = dict.fromkeys(('losses', 'lost', 'untold'), 0)
