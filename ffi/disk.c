@@ -8,6 +8,7 @@
 #include <stdlib.h>
 #include <string.h>
 #include <sys/resource.h>
+#include <sys/wait.h>
 
 #include <errno.h>
 #include <fcntl.h>
@@ -126,6 +127,26 @@ static bool is_same(void) {
     return pread(disk.file, bytes, sizeof bytes, 0) == (ssize_t)sizeof bytes && memcmp(bytes, disk.region.at, sizeof bytes) == 0;
 }
 
+/* Whether of three programs that make the file at the same time one does, and the others leave it to that one; forty times. */
+static bool is_made_once(const char *path) {
+    for (int n = 0; n < 40; n++) {
+        int made = 0, left = 0, status;
+        unlink(path);
+        for (int child = 0; child < 3; child++)
+            if (fork() == 0) {
+                int answer = r10_disk_make(path, BLOCKS, ROOM, script, strlen(script));
+                _exit(answer == 0 ? 0 : answer < 0 && (errno == EEXIST || errno == EWOULDBLOCK) ? 1 : 2);
+            }
+        while (wait(&status) > 0) {
+            made += WIFEXITED(status) && WEXITSTATUS(status) == 0;
+            left += WIFEXITED(status) && WEXITSTATUS(status) == 1;
+        }
+        if (made != 1 || left != 2)
+            return false;
+    }
+    return true;
+}
+
 int main(int count, char **words) {
     size_t taken, left, files, before;
     r10_file_info info;
@@ -146,6 +167,7 @@ int main(int count, char **words) {
     say("made", r10_disk_make(words[1], BLOCKS, ROOM, script, strlen(script)));
     printf("its name is made durable: %s\n", folders > 0 ? "yes" : "no");
     say("made where one is", r10_disk_make(words[1], BLOCKS, ROOM, script, strlen(script)));
+    printf("of three programs at once one makes it: %s\n", is_made_once(words[1]) ? "yes" : "no");
 
     say("opened for more blocks than there are", r10_disk_open(&disk, words[1], BLOCKS + 1));
     drops = 0;

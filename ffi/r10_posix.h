@@ -66,14 +66,11 @@ static inline int r10_disk_drop(int file, int answer) {
     return answer;
 }
 
-/* Takes the file for this program alone, makes sure that what is read is on the disk, and maps it. -1 where that failed: EWOULDBLOCK where another program has
- * it, EINVAL where it has fewer blocks. */
-static inline int r10_disk_open(r10_disk *disk, const char *path, size_t blocks) {
+/* Takes an open file, as r10_disk_open does, and closes it where that failed. */
+static inline int r10_disk_take(r10_disk *disk, int file, size_t blocks) {
     disk->operations = disk->blocks = disk->kept = 0;
     disk->failed = false;
-    disk->file = open(path, O_RDWR | O_CLOEXEC);
-    if (disk->file < 0)
-        return -1;
+    disk->file = file;
     if (flock(disk->file, LOCK_EX | LOCK_NB) != 0)
         return r10_disk_drop(disk->file, -1);
     off_t size = lseek(disk->file, 0, SEEK_END);
@@ -92,6 +89,13 @@ static inline int r10_disk_open(r10_disk *disk, const char *path, size_t blocks)
     disk->region.at = at;
     disk->region.blocks = blocks;
     return 0;
+}
+
+/* Takes the file for this program alone, makes sure that what is read is on the disk, and maps it. -1 where that failed: EWOULDBLOCK where another program has
+ * it, EINVAL where it has fewer blocks. */
+static inline int r10_disk_open(r10_disk *disk, const char *path, size_t blocks) {
+    int file = open(path, O_RDWR | O_CLOEXEC);
+    return file < 0 ? -1 : r10_disk_take(disk, file, blocks);
 }
 
 static inline void r10_disk_close(r10_disk *disk) {
@@ -174,36 +178,20 @@ static inline int r10_disk_sync_folder(const char *path) {
     return r10_disk_drop(file, fsync(file));
 }
 
-/* Makes a file of so many blocks, allocated whole and formatted by the script, under another name, and gives it its own only then. So a file of this name is
- * always whole. 0, or the number of a refusal, or -1 where the system failed: EEXIST where there is something of this name, which stays. */
-static inline int r10_disk_make(const char *path, size_t blocks, size_t room, const void *script, size_t script_length) {
-    char fresh[4096];
-    struct stat found;
-    if (lstat(path, &found) == 0) {
-        errno = EEXIST;
+/* Allocates an open file whole, and formats it. The file stays open. */
+static inline int r10_disk_format(int file, size_t blocks, size_t room, const void *script, size_t script_length) {
+    if (ftruncate(file, 0) != 0)
         return -1;
-    }
-    if (snprintf(fresh, sizeof fresh, "%s.new", path) >= (int)sizeof fresh) {
-        errno = ENAMETOOLONG;
-        return -1;
-    }
-    int file = open(fresh, O_RDWR | O_CREAT | O_TRUNC | O_CLOEXEC, 0644);
-    if (file < 0)
-        return -1;
-    int why = posix_fallocate(file, 0, (off_t)blocks * 512);
-    close(file);
+    int answer = -1, why = posix_fallocate(file, 0, (off_t)blocks * 512);
     if (why != 0) {
-        unlink(fresh);
         errno = why;
         return -1;
     }
-    r10_disk *disk = (r10_disk *)malloc(sizeof *disk);
-    if (!disk)
-        return -1;
     r10 recorder;
     memset(&recorder, 0, sizeof recorder);
-    int answer = -1;
-    if (r10_disk_open(disk, fresh, blocks) == 0) {
+    r10_disk *disk = (r10_disk *)malloc(sizeof *disk);
+    int other = disk ? fcntl(file, F_DUPFD_CLOEXEC, 0) : -1;
+    if (other >= 0 && r10_disk_take(disk, other, blocks) == 0) {
         answer = (int)r10_format(disk->region, room, script, script_length, &recorder);
         if (answer == R10_OK && r10_disk_settle(disk, &recorder) != 0)
             answer = -1;
@@ -212,15 +200,48 @@ static inline int r10_disk_make(const char *path, size_t blocks, size_t room, co
         r10_disk_close(disk);
         errno = why;
     }
+    why = errno;
     free(disk);
+    errno = why;
+    return answer;
+}
+
+/* Makes a file of so many blocks, allocated whole and formatted by the script, under another name, and gives it its own only then. So a file of this name is
+ * always whole. 0, or the number of a refusal, or -1 where the system failed: EEXIST where there is something of this name, which stays, and EWOULDBLOCK where
+ * another program makes it. */
+static inline int r10_disk_make(const char *path, size_t blocks, size_t room, const void *script, size_t script_length) {
+    char fresh[4096];
+    struct stat found, named;
+    if (lstat(path, &found) == 0) {
+        errno = EEXIST;
+        return -1;
+    }
+    if (snprintf(fresh, sizeof fresh, "%s.new", path) >= (int)sizeof fresh) {
+        errno = ENAMETOOLONG;
+        return -1;
+    }
+    /* What a program left that ended amid this is made anew. What one makes just now is left to it. */
+    int file = open(fresh, O_RDWR | O_CREAT | O_CLOEXEC, 0644);
+    if (file < 0)
+        return -1;
+    if (flock(file, LOCK_EX | LOCK_NB) != 0)
+        return r10_disk_drop(file, -1);
+    bool is_ours = fstat(file, &found) == 0 && stat(fresh, &named) == 0 && found.st_dev == named.st_dev && found.st_ino == named.st_ino;
+    if (!is_ours || lstat(path, &named) == 0) {
+        if (is_ours)
+            unlink(fresh);
+        errno = EWOULDBLOCK;
+        return r10_disk_drop(file, -1);
+    }
+    int answer = r10_disk_format(file, blocks, room, script, script_length);
     if (answer == 0 && (rename(fresh, path) != 0 || r10_disk_sync_folder(path) != 0))
         answer = -1;
     if (answer != 0) {
-        why = errno;
+        int why = errno;
         unlink(fresh);
         errno = why;
     }
-    return answer;
+    return r10_disk_drop(file, answer);
 }
 
 #endif

@@ -84,16 +84,17 @@ impl Medium {
             Err(_) => (),
         }
         let start = Instant::now();
-        Disk::make(&self.path, self.blocks, &self.script).map_err(|error| {
-            let mut fresh = self.path.clone().into_os_string();
-            fresh.push(".new");
-            let _ = fs::remove_file(fresh);
-            Refusal::Wrong(format!(
+        Disk::make(&self.path, self.blocks, &self.script).map_err(|error| match error.kind() {
+            io::ErrorKind::WouldBlock | io::ErrorKind::AlreadyExists => Refusal::Taken(format!(
+                "the medium {} is made by another program just now: end that one, or give this one a medium of its own",
+                self.name()
+            )),
+            _ => Refusal::Wrong(format!(
                 "the medium {} cannot be made with {} MiB: {error}; give a folder that is there, may be written and has the room, \
                  or fewer blocks",
                 self.name(),
                 self.blocks >> 11
-            ))
+            )),
         })?;
         info!("medium {}: made and allocated, {} MiB in {} ms", self.name(), self.blocks >> 11, start.elapsed().as_millis());
         self.keep(false);

@@ -7,7 +7,7 @@ import time
 from typing import Optional
 
 from trying import LONG, NotTried, Room, Service, Trail, Wrong, channel, entries, files, judge, lines_of, must, r10, settings, trial
-from trying import udp_channels
+from trying import udp_channels, until
 
 
 @trial
@@ -25,6 +25,28 @@ def a_second_service(room: Room) -> str:
     must(ran.returncode == 3 and service.ask('.STATUS')[0].startswith('S 01'), f'the same service again: {ran}')
     service.end()
     return 'refused'
+
+
+@trial
+def services_that_start_at_once(room: Room) -> str:
+    """Of three services that make one medium at the same time one records, and the others say why they do not."""
+    for _ in range(5):
+        room.clear()
+        started = []
+        for number, port in enumerate(room.ports(3)):
+            text = settings(udp_channels([port]), acknowledge=None).replace('"control"', f'"control{number}"')
+            (room.folder / f'{number}.toml').write_text(text)
+        for number in range(3):
+            with open(room.folder / f'log{number}', 'wb') as log:
+                started.append(room.start([str(room.programs / 'r10d'), f'{number}.toml'], cwd=room.folder, stderr=log))
+        until(lambda: sum(it.poll() is None for it in started) < 2, 'two services stay')
+        logs = [(room.folder / f'log{number}').read_text() for number in range(3)]
+        refused = [log for log, it in zip(logs, started) if it.poll() is not None]
+        statuses = [it.poll() for it in started]
+        must(sorted(map(str, statuses)) == ['3', '3', 'None'], f'{statuses}: {logs}')
+        must(all('by another program' in log for log in refused), f'{refused}')
+        room.end_all()
+    return 'one of three, five times'
 
 
 @trial

@@ -1,9 +1,9 @@
 //! What a recorder lies over: plain memory, or a file or a block device that is mapped.
 use std::ffi::{c_int, c_void};
-use std::fs::{File, OpenOptions, TryLockError};
+use std::fs::{File, Metadata, OpenOptions, TryLockError};
 use std::io::{self, Seek, SeekFrom};
 use std::os::fd::AsRawFd;
-use std::os::unix::fs::FileExt;
+use std::os::unix::fs::{FileExt, MetadataExt};
 use std::path::Path;
 
 use crate::Recorder;
@@ -46,11 +46,11 @@ impl Disk {
     /// Takes a file of at least so many blocks for this program alone, makes sure that what is read is on the disk, and maps it. `WouldBlock` where another program
     /// has it.
     pub fn open(path: impl AsRef<Path>, blocks: usize) -> io::Result<Disk> {
-        let mut file = OpenOptions::new().read(true).write(true).open(path)?;
-        file.try_lock().map_err(|error| match error {
-            TryLockError::Error(error) => error,
-            TryLockError::WouldBlock => io::ErrorKind::WouldBlock.into(),
-        })?;
+        Disk::take(OpenOptions::new().read(true).write(true).open(path)?, blocks)
+    }
+
+    fn take(mut file: File, blocks: usize) -> io::Result<Disk> {
+        lock(&file)?;
         let length = 512 * blocks;
         if length == 0 || file.seek(SeekFrom::End(0))? < length as u64 {
             return Err(io::Error::new(io::ErrorKind::InvalidInput, "the file has fewer blocks"));
@@ -66,7 +66,7 @@ impl Disk {
     }
 
     /// Makes a file of so many blocks, allocated whole and formatted by the script, under another name, and gives it its own only then. What is there already
-    /// stays: `AlreadyExists`. A call that failed leaves no file.
+    /// stays: `AlreadyExists`; so does what another program makes just now: `WouldBlock`. A call that failed leaves no file.
     pub fn make(path: impl AsRef<Path>, blocks: usize, script: &str) -> io::Result<()> {
         let path = path.as_ref();
         if path.symlink_metadata().is_ok() {
@@ -74,25 +74,48 @@ impl Disk {
         }
         let mut fresh = path.as_os_str().to_owned();
         fresh.push(".new");
-        let made = Disk::make_as(Path::new(&fresh), blocks, script).and_then(|()| std::fs::rename(&fresh, path));
-        if made.is_err() {
+        let file = OpenOptions::new().read(true).write(true).create(true).truncate(false).open(&fresh)?;
+        lock(&file)?;
+        let is_ours = is_at(&file, Path::new(&fresh));
+        let made = if is_ours && path.symlink_metadata().is_err() {
+            Disk::make_in(file.try_clone()?, blocks, script).and_then(|()| std::fs::rename(&fresh, path))
+        } else {
+            Err(io::ErrorKind::WouldBlock.into())
+        };
+        // (the file is locked until here)
+        if made.is_err() && is_ours {
             let _ = std::fs::remove_file(&fresh);
         }
+        drop(file);
         made?;
         let folder = path.parent().filter(|it| !it.as_os_str().is_empty()).unwrap_or(Path::new("."));
         File::open(folder)?.sync_all()
     }
 
-    fn make_as(path: &Path, blocks: usize, script: &str) -> io::Result<()> {
-        let file = OpenOptions::new().read(true).write(true).create(true).truncate(true).open(path)?;
+    fn make_in(file: File, blocks: usize, script: &str) -> io::Result<()> {
+        file.set_len(0)?;
         let refused = unsafe { posix_fallocate(file.as_raw_fd(), 0, 512 * blocks as i64) };
         if refused != 0 {
             return Err(io::Error::from_raw_os_error(refused));
         }
-        drop(file);
-        let mut recorder = Recorder::format(Disk::open(path, blocks)?.into(), 64, script).map_err(|(error, _)| io::Error::other(error))?;
+        let mut recorder = Recorder::format(Disk::take(file, blocks)?.into(), 64, script).map_err(|(error, _)| io::Error::other(error))?;
         recorder.settle()
     }
+}
+
+/// Locks a file for this program alone.
+fn lock(file: &File) -> io::Result<()> {
+    file.try_lock().map_err(|error| match error {
+        TryLockError::Error(error) => error,
+        TryLockError::WouldBlock => io::ErrorKind::WouldBlock.into(),
+    })
+}
+
+/// Whether an open file is the one at this path.
+fn is_at(file: &File, path: &Path) -> bool {
+    let of = |it: io::Result<Metadata>| it.ok().map(|it| (it.dev(), it.ino()));
+    let here = of(file.metadata());
+    here.is_some() && here == of(path.metadata())
 }
 
 impl Drop for Disk {

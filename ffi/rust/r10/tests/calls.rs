@@ -205,6 +205,34 @@ fn a_refused_opening_gives_the_region_back() {
     assert_eq!((error, region.bytes().len()), (Error::BLOCKS, 64 * 512));
 }
 
+/// Of three that make a file at the same time one does, and the others leave it to that one.
+#[test]
+fn a_file_is_made_once() -> Result<(), Box<dyn std::error::Error>> {
+    let path = std::env::temp_dir().join(format!("r10-crate-made-{}", std::process::id()));
+    for _ in 0..40 {
+        let all: Vec<_> = (0..3)
+            .map(|_| {
+                std::thread::spawn({
+                    let path = path.clone();
+                    move || Disk::make(&path, 64, SCRIPT)
+                })
+            })
+            .collect();
+        let (mut made, mut left) = (0, 0);
+        for it in all {
+            match it.join().map_err(|_| "a thread has ended")? {
+                Ok(()) => made += 1,
+                Err(error) if matches!(error.kind(), ErrorKind::AlreadyExists | ErrorKind::WouldBlock) => left += 1,
+                Err(error) => return Err(error.into()),
+            }
+        }
+        assert_eq!((made, left), (1, 2));
+        Disk::open(&path, 64)?;
+        std::fs::remove_file(&path)?;
+    }
+    Ok(())
+}
+
 #[test]
 fn a_file_has_one_program() -> Result<(), Box<dyn std::error::Error>> {
     let path = std::env::temp_dir().join(format!("r10-crate-{}", std::process::id()));
