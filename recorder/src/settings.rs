@@ -691,12 +691,6 @@ input = { udp = \"127.0.0.1:20005\" }
                 "line 9: group = \"ff02::1\": with a group of version 6 give udp = \"[::]:20005\"",
             ),
             (
-                "volume = \"VOL\"\n[control]\nsocket = \"c\"\n[[channel]]\nid = 5\nkind = \"message\"\ninput = { udp = \"127.0.0.1:20005\"",
-                "publish = \"239.0.0.1:20005\"\nvolume = \"VOL\"\n[control]\nsocket = \"c\"\n[[channel]]\nid = 5\nkind = \"message\"\n\
-                 input = { udp = \"127.0.0.1:20005\", group = \"239.0.0.1\"",
-                "line 3: publish = \"239.0.0.1:20005\": channel 5 listens there; give another address",
-            ),
-            (
                 "socket = \"c\"",
                 "socket = \"m\"",
                 "line 5: control.socket = \"/f/m\": medium has this path; give each a path of its own",
@@ -758,6 +752,9 @@ input = { udp = \"127.0.0.1:20005\" }
         assert!(faults(&socket(107)).is_empty());
         let found = faults(&socket(108));
         assert!(found[0].starts_with("line 5: control.socket") && found[0].contains("it has 108 bytes"), "{found:?}");
+        let to_its_group =
+            GOOD.replace("volume", "publish = \"239.0.0.1:20005\"\nvolume").replace("5\" }", "5\", group = \"239.0.0.1\" }");
+        assert_eq!(faults(&to_its_group), ["line 3: publish = \"239.0.0.1:20005\": channel 5 listens there; give another address"]);
         // one port of this machine, by another name
         assert_eq!(
             faults(&twice.replacen("127.0.0.1:20005", "0.0.0.0:20005", 1)),

@@ -184,7 +184,12 @@ def serial_lines(room: Room) -> str:
     service.end()
     found = {n: [bytes.fromhex(it.words[-1]) for it in entries((room.folder / 'medium').read_bytes(), 0, n)] for n in (10, 11, 12)}
     must(
-        found == {10: [b'$A,1\n', b'$B,2\n', b'$' * 3000 + b'\n'], 11: [b'1234', b'5678', b'\x03\x04\r\n'], 12: [b'first', b'second']},
+        found
+        == {
+            10: [b'$A,1\n', b'$B,2\n', b'$' * 3000 + b'\n'],
+            11: [b'1234', b'5678', b'\x03\x04\r\n'],
+            12: [b'first', b'second'],
+        },
         f'by serial lines came {found}',
     )
     for one, other in masters:
@@ -220,7 +225,8 @@ def settings_faults(room: Room) -> str:
     for medium, wanted in (('/tmp', 'is no file and no block device'), ('/dev/null', 'is no file and no block device'),
                            ('link', 'is a link that leads nowhere')):
         (room.folder / 'settings.toml').write_text(good.replace('"medium"', f'"{medium}"'))
-        ran = subprocess.run([room.programs / 'r10d', 'settings.toml'], cwd=room.folder, capture_output=True, text=True, timeout=LONG)
+        words = [room.programs / 'r10d', 'settings.toml']
+        ran = subprocess.run(words, cwd=room.folder, capture_output=True, text=True, timeout=LONG)
         must(ran.returncode == 3 and ran.stderr.count('\n') == 1 and wanted in ran.stderr, f'{medium} as the medium: {ran}')
     return '8 faults'
 
