@@ -114,7 +114,7 @@ pub fn over_image(alloc: Global, image: &[u8]) -> Result<Apparatus<Memory>, Tria
 }
 
 /// The bytes of a medium that was formatted for such a recorder.
-pub fn formatted_image(alloc: Global) -> Result<Vec<u8>, TrialFault> {
+pub fn apparatus_image(alloc: Global) -> Result<Vec<u8>, TrialFault> {
     let settings = settings_for(alloc, FIVE, ChannelSpec { id: 6, ..FIVE })?;
     formatted_image(alloc, &settings)
 }
@@ -125,6 +125,6 @@ pub fn over_formatted(alloc: Global) -> Result<Apparatus<Memory>, TrialFault>
     ensures named { IfOk result (λ a. AreNamed
         (record { channel = 5; ring = a.five.ring } ∷ record { channel = 6; ring = a.six.ring } ∷ []) a.recorder.lanes) }
 {
-    let image = formatted_image(alloc)?;
+    let image = apparatus_image(alloc)?;
     over_image(alloc, image.as_slice())
 }

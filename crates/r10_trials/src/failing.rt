@@ -6,7 +6,7 @@ ghost use Rattle.r10_held.specs.LockFact.{outlet_received, outlet_spec};
 ghost use Rattle.r10_held.specs.Naming.{AreNamed, ring_for};
 ghost use Rattle.r10_medium.specs.FaultyParts.{faulty_disk};
 
-use crate::apparatus::{Apparatus, Ready, formatted_image, over, over_image};
+use crate::apparatus::{Apparatus, Ready, apparatus_image, over, over_image};
 use crate::fault::{TrialFault, fault_of};
 use crate::list_source::{ListSource, MESSAGES, source};
 use crate::notes::Notes;
@@ -167,7 +167,7 @@ fn try_call<R: Threads + Wait + Sync>(
     plan: Plan,
     call: u64,
 ) -> Result<Option<Broken>, TrialFault> {
-    let image = formatted_image(alloc)?;
+    let image = apparatus_image(alloc)?;
     let medium = Faulty::new(medium_of(alloc, image.as_slice())?, call);
     let first = boxed_source(alloc)?;
     let second = boxed_source(alloc)?;
