@@ -80,10 +80,11 @@ impl Recorder {
     }
 
     fn send(&mut self, command: &str) -> Result<(), String> {
-        self.line
-            .get_mut()
-            .write_all(format!("{command}\n").as_bytes())
-            .map_err(|it| format!("the recorder went away: {it}; see its log"))
+        match self.line.get_mut().write_all(format!("{command}\n").as_bytes()) {
+            // one that has closed the connection may have said why
+            Err(error) if error.kind() == io::ErrorKind::BrokenPipe => Ok(()),
+            other => other.map_err(|it| format!("the recorder went away: {it}; see its log")),
+        }
     }
 
     /// The next line of an answer, or none at its end.

@@ -7,6 +7,7 @@ import signal
 import socket
 import subprocess
 import threading
+from typing import Optional
 
 from trying import HOST, LONG, Room, Service, channel, entries, files, load_numbers, must, settings, trial, udp_channels, until
 
@@ -95,6 +96,25 @@ def clients_that_go(room: Room) -> str:
     service.until(lambda it: it['readers'] == 0, 'those who are gone and did not read are readers still')
     with follow() as it:
         must(it.recv(100).startswith(b'entry '), 'the next one gets nothing')
+    # where all places are taken, who comes hears so, however fast the connection is closed
+
+    def place() -> Optional[socket.socket]:
+        it = socket.socket(socket.AF_UNIX)
+        it.settimeout(LONG)
+        it.connect(str(room.folder / 'control'))
+        try:
+            it.sendall(b'.STATUS\n')
+            return it if it.recv(100).startswith(b'S ') else None
+        except OSError:
+            return None
+
+    there = [until(place, 'those who are gone have their places still') for _ in range(32)]
+    words = [str(room.programs / 'r10ctl'), '--socket', str(room.folder / 'control'), 'status']
+    for _ in range(50):
+        ran = subprocess.run(words, capture_output=True, text=True)
+        must(ran.returncode == 1 and 'too many are connected' in ran.stderr, f'one too many: {ran}')
+    for it in there:
+        it.close()
     service.end()
     return '42 came and went'
 
