@@ -68,6 +68,12 @@ if command -v pkg-config >/dev/null; then
     check "and gives words that a shell takes apart right" is \
         "$(eval "printf '%s\n' $(PKG_CONFIG_PATH="$room/odd$odd/lib/pkgconfig" pkg-config --cflags --libs r10)" | head -n 2)" \
         "$(printf '%s\n' "-I$odd/include" "-L$odd/lib")"
+    if command -v cargo >/dev/null; then
+        PKG_CONFIG_PATH="$room/odd$odd/lib/pkgconfig" CARGO_TARGET_DIR=$room/crate cargo build --quiet --offline \
+            --manifest-path "$top/ffi/rust/r10-sys/Cargo.toml" 2>"$room/said"
+        check "the crate for Rust takes them apart right too" is \
+            "$(sed -n 's/^cargo::rustc-link-search=native=//p' "$room"/crate/debug/build/r10-sys-*/output)" "$odd/lib"
+    fi
 fi
 unit=$room/odd$odd/lib/systemd/system/r10d.service
 [ ! -f "$unit" ] || check "the unit names it" is "$(sed -n 's/^ExecStart=//p' "$unit")" \

@@ -3,6 +3,19 @@ use std::env;
 use std::path::Path;
 use std::process::Command;
 
+/// The words of what pkg-config prints: a backslash takes the next letter as it is, such as a space of a folder's name.
+fn words_of(said: &str) -> Vec<String> {
+    let (mut words, mut letters) = (vec![String::new()], said.chars());
+    while let Some(it) = letters.next() {
+        if it.is_whitespace() {
+            words.push(String::new());
+        } else if let Some(word) = words.last_mut() {
+            word.extend(if it == '\\' { letters.next() } else { Some(it) });
+        }
+    }
+    words
+}
+
 fn main() {
     println!("cargo::rerun-if-env-changed=R10_LIB_DIR");
     println!("cargo::rerun-if-env-changed=R10_STATIC");
@@ -16,14 +29,14 @@ fn main() {
     }
     let said = Command::new("pkg-config").args(["--libs", "r10"]).output();
     let words = match said {
-        Ok(said) if said.status.success() => String::from_utf8_lossy(&said.stdout).into_owned(),
+        Ok(said) if said.status.success() => words_of(&String::from_utf8_lossy(&said.stdout)),
         _ => {
             println!("cargo::error=libr10 is not found: install it, so that pkg-config knows r10, or set R10_LIB_DIR to the folder with libr10.a");
             return;
         }
     };
     println!("cargo::rustc-link-lib=dylib=r10");
-    for word in words.split_whitespace() {
+    for word in &words {
         if let Some(folder) = word.strip_prefix("-L") {
             println!("cargo::rustc-link-search=native={folder}");
         }
