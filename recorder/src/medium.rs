@@ -101,6 +101,11 @@ impl Medium {
         Ok(())
     }
 
+    /// Which file or device has the medium's path, if there is one.
+    pub fn place(&self) -> Option<(u64, u64)> {
+        fs::metadata(&self.path).ok().map(|it| (it.dev(), it.ino()))
+    }
+
     /// The file that is there while a recording is to go on: beside a medium that is a file.
     fn mark(&self) -> Option<PathBuf> {
         let mut name = self.path.clone().into_os_string();

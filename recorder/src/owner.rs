@@ -111,6 +111,9 @@ pub struct Owner {
     pub settings: Settings,
     pub(crate) counter: Counter,
     pub medium: Medium,
+    /// the file or device that was opened at the medium's path
+    pub(crate) place: Option<(u64, u64)>,
+    pub(crate) gone: Seldom,
     pub recorder: Option<Recorder>,
     pub state: State,
     pub lanes: Vec<Lane>,
@@ -179,6 +182,8 @@ impl Owner {
             settings,
             counter,
             recorder: None,
+            place: None,
+            gone: Seldom::default(),
             state: State::Failed(None),
             outlets: Vec::new(),
             taken: Taken::default(),

@@ -104,6 +104,15 @@ impl Owner {
         if self.state != State::Recording {
             self.settle()?;
         }
+        if self.medium.place() != self.place {
+            let (path, own) = (self.medium.path().display(), std::process::id());
+            self.gone.warn(|| {
+                format!(
+                    "the medium {path} was removed, or another file is there now: what is recorded goes when the service ends; \
+                     copy it before that, out of /proc/{own}/fd"
+                )
+            });
+        }
         Ok(())
     }
 

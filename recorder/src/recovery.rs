@@ -16,6 +16,7 @@ impl Owner {
     pub(crate) fn open(&mut self) -> Result<bool, Refusal> {
         let failed = |it: Error| Refusal::Failed(it.to_string());
         let mut recorder = self.medium.mount()?;
+        self.place = self.medium.place();
         recorder.tick(self.counter.count(), &clock::civil(OffsetDateTime::now_utc())).map_err(failed)?;
         let files = recorder.files().map_err(failed)?;
         let (start, cut) = (Instant::now(), files.last().filter(|it| !it.closed));

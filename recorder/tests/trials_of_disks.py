@@ -1,5 +1,6 @@
 """Trials of the disk: full, failing, unreadable, taken by another service, a block device; kills, and losses of power."""
 import os
+import pathlib
 import random
 import shutil
 import subprocess
@@ -25,6 +26,21 @@ def a_second_service(room: Room) -> str:
     must(ran.returncode == 3 and service.ask('.STATUS')[0].startswith('S 01'), f'the same service again: {ran}')
     service.end()
     return 'refused'
+
+
+@trial
+def a_medium_that_is_removed(room: Room) -> str:
+    """A medium that somebody removes, or puts another file in the place of, is a line of the log."""
+    service = Service(room, settings(channel(13, 'discrete', 'lines = "pipe"')))
+    service.wait_for(': recording')
+    (room.folder / 'medium').rename(room.folder / 'elsewhere')
+    service.wait_for('was removed, or another file is there now')
+    open_files = [os.readlink(it) for it in pathlib.Path(f'/proc/{service.child.pid}/fd').iterdir()]
+    must(str(room.folder / 'elsewhere') in open_files, 'the service has no such file')
+    (room.folder / 'elsewhere').rename(room.folder / 'medium')
+    service.end()
+    must(len(files((room.folder / 'medium').read_bytes())) == 1, 'it is not in the medium')
+    return 'moved, and moved back'
 
 
 @trial
