@@ -103,6 +103,8 @@ PY
 check "what a user runs is Python 3.7" python3 "$room/grammar.py" "$sources"/ch10/*.py \
     "$sources"/scripts/{ch10,quick_build,build,rt_once,tour,play_cases,check_cases,judge_recording,manual}.py
 
+check "what Python keeps beside them is no change of the repository" grep -qx '__pycache__/' "$sources/.gitignore"
+
 # ---- folders that take nothing
 
 if [ "$(id -u)" = 0 ] && mkdir "$room/shut" && mount -t tmpfs tmpfs "$room/shut" 2>/dev/null; then
