@@ -23,6 +23,7 @@ use crate::settings::Settings;
 pub enum Origin {
     Socket,
     Tcp,
+    Metrics,
 }
 
 pub struct Command {

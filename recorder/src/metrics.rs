@@ -20,7 +20,7 @@ pub fn start(address: SocketAddr, asking: Asking) -> io::Result<()> {
             // whatever is asked, the answer is the same: so the request is read, as far as it fits, and not looked at
             let mut request = [0; 4096];
             let _ = stream.read(&mut request);
-            let text = match asking.ask(".FIGURES", Origin::Tcp) {
+            let text = match asking.ask(".FIGURES", Origin::Metrics) {
                 Some(Reply::Text(text)) => serde_json::from_str(&text).map(|it| of(&it)).unwrap_or_default(),
                 _ => String::new(),
             };

@@ -9,6 +9,7 @@ use serde_json::json;
 
 use crate::clock::{self, COUNTS};
 use crate::control::{Command, Origin, Reply};
+use crate::figures::Times;
 use crate::owner::{Lane, Owner, State, Trouble};
 use crate::readers::{self, MOST};
 use crate::{entries, figures, info};
@@ -128,7 +129,7 @@ impl Owner {
                 Ok(text) => text,
                 Err(no) => return Ok(Err(no)),
             },
-            ".FIGURES" => self.figures()?,
+            ".FIGURES" => self.figures(origin)?,
             ".HELP" => WORDS.iter().fold(String::new(), |mut out, it| {
                 let _ = writeln!(out, "{:36} {}", format!("{} {}", it.0, it.1), it.2);
                 out
@@ -404,7 +405,7 @@ impl Owner {
     }
 
     /// All figures, as `r10ctl watch` and the metrics take them.
-    fn figures(&mut self) -> Result<String, Trouble> {
+    fn figures(&mut self, origin: Origin) -> Result<String, Trouble> {
         let files = self.recorder.as_mut().map_or(Ok(Vec::new()), r10::Recorder::files)?;
         let left = self.recorder.as_mut().map(r10::Recorder::status).transpose()?.map_or(0, |it| it.free);
         let free = (self.settings.blocks as u64).saturating_sub(self.medium.first_block(&files)) * 512;
@@ -443,7 +444,8 @@ impl Owner {
                 "last_count": count, "last_length": length, "last_bytes": hex,
             }));
         }
-        let times = std::mem::take(&mut self.times);
+        // times are those since the last question; the metrics have none, and leave them to who has
+        let times = if origin == Origin::Metrics { Times::default() } else { std::mem::take(&mut self.times) };
         let file = self.file.as_ref().map(
             |(number, name)| json!({ "number": number + 1, "name": name, "bytes": files.get(*number).map_or(0, |it| it.size) }),
         );

@@ -308,9 +308,13 @@ def chapter_6_words(room: Room) -> str:
         and len(ask('.FILES')) == 1,
         'an erase over TCP',
     )
-    with socket.create_connection((HOST, metrics)) as it:
-        it.sendall(b'GET /metrics HTTP/1.0\r\n\r\n')
-        text = b''.join(iter(lambda: it.recv(65536), b'')).decode()
+
+    def scrape() -> str:
+        with socket.create_connection((HOST, metrics)) as it:
+            it.sendall(b'GET /metrics HTTP/1.0\r\n\r\n')
+            return b''.join(iter(lambda: it.recv(65536), b'')).decode()
+
+    text = scrape()
     must('r10_durable_total{channel="5",name="CH5"} 100\n' in text and 'r10_recording 0\n' in text, f'metrics: {text}')
     must(ask('.PUBLISH START 127.0.0.1 9', '.PUBLISH LIST') == ['127.0.0.1 9 ALL'], 'a place to send to')
     must(ask('.PUBLISH START 127.0.0.1 9')[0].startswith('E 02') and ask('.PUBLISH STOP', '.PUBLISH') == [], 'none to send to')
@@ -325,6 +329,13 @@ def chapter_6_words(room: Room) -> str:
     ran = subprocess.run([*ctl, 'files\n.ERASE'], capture_output=True)
     must(ran.returncode == 1 and len(ask('.FILES')) == 1, f'two commands in a word: {ran}')
     must(ask('.MEDIUM') == [f"{room.folder / 'medium'} 65536 8"], 'the medium')
+    # the metrics leave the times of messages to who shows them
+    ask('.RECORD', '.FIGURES')
+    load = room.load([port], count=50, rate=100000)
+    until(lambda: 'r10_durable_total{channel="5",name="CH5"} 150\n' in scrape(), 'the metrics do not go on')
+    load.wait()
+    times = service.figures()['durable_after_us']
+    must(times['messages'] == 50 and ask('.STOP') == [], f'the times are {times}')
     must(ask('.ERASE', '.FILES') == [], 'an erase')
     must(ask('.SHUTDOWN') == [] and service.child.wait(LONG) == 0, 'a shutdown')
     return f'{15 + 29} commands'
