@@ -76,7 +76,7 @@ make_package() {
     mkdir -p "$root/DEBIAN"
     programs=("$root/usr/bin/r10" "$root"/usr/lib/libr10.so.*)
     depends=
-    if [ -x "$root/usr/bin/r10d" ]; then
+    if [ -e "$root/usr/bin/r10d" ]; then
         programs+=("$root/usr/bin/r10d" "$root/usr/bin/r10ctl")
         depends=", libgcc-s1, adduser"
         # where Debian 12 has units

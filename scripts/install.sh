@@ -102,8 +102,9 @@ install -m 644 "$top/VERSION" "$share/r10"
 ln -s ../share/r10/scripts/ch10.py "$whole$prefix/bin/ch10"
 
 "$top/scripts/recorder.sh" install "$prefix" "$whole" || exit 3
+# (nothing is run out of that folder: it may lie where nothing can be)
 service=()
-[ ! -x "$whole$prefix/bin/r10d" ] || service=("$whole$prefix/bin")
+[ ! -e "$whole$prefix/bin/r10d" ] || service=("$top/out/recorder/target/release")
 "$top/scripts/manual.py" "$program" "$top/scripts/ch10.py" "$made/manual" "${service[@]}" || exit 3
 cp -r "$made/manual/"man? "$share/man"
 cp "$made/manual/bash/"* "$share/bash-completion/completions"

@@ -21,6 +21,15 @@ check "the filters run" says "$("$root/usr/bin/ch10" summary <"$room/medium.img"
 check "the filters have the number too" is "$("$root/usr/bin/ch10" --version)" "ch10 $version"
 check "the filters leave nothing" is "$(find "$root" -name '__pycache__' | wc -l)" 0
 
+if [ "$(id -u)" = 0 ] && mkdir "$room/noexec" && mount -t tmpfs -o noexec tmpfs "$room/noexec" 2>/dev/null; then
+    TMPDIR=$room/noexec "$top/scripts/install.sh" /usr "$room/other" >"$room/said" 2>&1
+    umount "$room/noexec"
+    check "where nothing in TMPDIR may be run it installs the same" is "$(cd "$room/other" && find . | sort)" \
+        "$(cd "$root" && find . | sort)"
+else
+    echo "NOT TRIED: a TMPDIR where nothing may be run (no mount here)"
+fi
+
 # The service, where it can be built here.
 if why=$("$top/scripts/recorder.sh" ready); then
     example=$root/usr/share/doc/r10/examples/recorder.toml
