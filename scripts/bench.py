@@ -4,7 +4,7 @@
     scripts/bench.py [MESSAGES]                    three runs of each, in turn; of each measure the middle one
     scripts/bench.py [MESSAGES] --instructions     instructions a message too, by valgrind, of smaller runs
     scripts/bench.py [MESSAGES] --memory           the memory that a replay takes too, by bench/count_malloc.c
-    scripts/bench.py [MESSAGES] --lengths          recording alone, by the length of its messages
+    scripts/bench.py [MESSAGES] --lengths          recording alone, by the length of its messages; with --instructions those too
 
 MESSAGES is 1,000,000 where no number is given. The proved program is crates/r10_bench/out/r10_bench, or that of --proved. The plain
 one is built by cargo where it is not there or older than its source, without a registry; --plain names another. Both measure the
@@ -76,8 +76,9 @@ LINES = (
 # Messages of several lengths, in bytes, which both programs measure.
 LENGTH_LINE = r'recorder: (\d+) messages of (\d+) bytes, .* us +(\d+) messages/s'
 
-# The numbers of messages of which instructions are counted.
+# The numbers of messages of which instructions are counted; of long ones, of those with as many bytes as so many of 64.
 COUNTED = (65536, 131072)
+COUNTED_BY_LENGTH = (32768, 65536)
 
 
 def proved_figures(text):
@@ -251,6 +252,26 @@ def print_instructions(words):
         print('| %s | %.0f | %.0f | %.2f |' % (name, proved, plain, plain / proved))
 
 
+def instructions_by_length(program, words, folder):
+    """The instructions of a recording, by the length of its messages."""
+    return [sum(it[::2]) for it in spans(program, words, folder)]
+
+
+def print_length_instructions(words):
+    """Instructions a message by its length: those of a run with more messages, less those of one with fewer."""
+    few, many = COUNTED_BY_LENGTH
+    sent = [re.findall(LENGTH_LINE, output([words.proved, 'lengths', number])) for number in COUNTED_BY_LENGTH]
+    with tempfile.TemporaryDirectory() as folder:
+        ours = [instructions_by_length(words.proved, ['lengths', str(number)], folder) for number in (few, many)]
+        theirs = [instructions_by_length(words.plain, [str(number), 'lengths'], folder) for number in (few, many)]
+    print('\n| Instructions a message, by its bytes | Proved | Plain | Ratio |\n|---|---|---|---|')
+    for at, (less, more) in enumerate(zip(*sent)):
+        number = int(more[0]) - int(less[0])
+        if number > 0:  # (of the longest there are as many in both)
+            proved, plain = [(it[1][at] - it[0][at]) / number for it in (ours, theirs)]
+            print('| %s | %.0f | %.0f | %.2f |' % (more[1], proved, plain, plain / proved))
+
+
 def most_asked(program, number, parts, shim, line):
     """How many bytes a program asks for at most, beyond those that it has, until it prints a line that begins so; and the text that
     it prints."""
@@ -308,6 +329,8 @@ def main(words):
     print('The machine, a second: %s before, %s after.\n' % (first, state_of(words.plain)))
     if words.lengths:
         print_lengths(proved, plain)
+        if words.instructions:
+            print_length_instructions(words)
         return 0
     print_table(proved, plain)
     wrong = list(differing(proved, plain))
