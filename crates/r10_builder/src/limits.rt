@@ -1,7 +1,7 @@
 //! What a packet may have.
 
 ghost use Rattle.std.specs.Prelude.{◌≡◌, ◌↔◌, ◌+◌, ◌*◌, ◌/◌, ◌^◌, ◌<◌, ◌≤◌, IsTrue};
-ghost use Rattle.r10_builder.specs.Packing.{is_near as comes_near};
+ghost use Rattle.r10_builder.specs.Packing.{is_near as comes_near, tenth};
 
 use r10_body::Kind;
 use r10_count::Count;
@@ -14,7 +14,15 @@ pub(crate) const TENTH: u64 = 1_000_000;
 pub(crate) fn is_near(kind: Kind, before: Count, count: Count) -> bool
     ensures { result ≡ comes_near kind before count }
 {
-    kind != Kind::Arinc || count.get() <= before.get() + TENTH
+    kind != Kind::Arinc || comes_soon(before, count)
+}
+
+/// Whether a count is at most a tenth of a second after another. It is a call of its own, so that the other kinds don't ask it.
+#[inline(never)]
+fn comes_soon(before: Count, count: Count) -> bool
+    ensures { IsTrue result ↔ count ≤ before + tenth }
+{
+    count.get() <= before.get() + TENTH
 }
 
 /// How long a packet is with a data checksum and a body of so many bytes: with header and least
@@ -35,5 +43,8 @@ pub(crate) fn has_room(most: usize, checksum: usize, body: usize, more: usize) -
 {
     let most = most / 4 * 4 + 3;
     let rest = checksum + 27;
-    rest <= most && body <= most - rest && more <= most - rest - body
+    match body.checked_add(more) {
+        Some(size) => rest <= most && size <= most - rest,
+        None => false,
+    }
 }

@@ -16,6 +16,7 @@ pub mod Others
 mod Names
 mod Places
 mod Rooms
+mod Dearest
 mod Beginning
 mod Relisted
 mod Sorted

@@ -12,7 +12,8 @@ pub(crate) struct Number {
 }
 
 /// The place of a channel, or the length where it has none.
-fn place(numbers: &[Number], channel: u16) -> usize
+#[inline(always)]
+pub(crate) fn place(numbers: &[Number], channel: u16) -> usize
     ensures { IsPlace channel numbers.now result }
 {
     for (i, number) in numbers.iter().enumerate() {
@@ -23,11 +24,11 @@ fn place(numbers: &[Number], channel: u16) -> usize
     numbers.len()
 }
 
-/// The number of a channel's next packet: 0 where it has had none.
-pub(crate) fn next_number(numbers: &[Number], channel: u16) -> u8
-    ensures { result ≡ next_of channel numbers.now }
+/// The number of the next packet of the channel that has this place: 0 where it has had none.
+#[inline(always)]
+pub(crate) fn number_at(numbers: &[Number], i: usize) -> u8
+    ensures { (channel : ℕ) → IsPlace channel numbers.now i → result ≡ next_of channel numbers.now }
 {
-    let i = place(numbers, channel);
     if i < numbers.len() {
         numbers[i].next
     } else {
@@ -35,16 +36,23 @@ pub(crate) fn next_number(numbers: &[Number], channel: u16) -> u8
     }
 }
 
-/// Counts a packet of a channel: its next number is one more, and after 255 comes 0. There is
+/// The number of a channel's next packet: 0 where it has had none.
+pub(crate) fn next_number(numbers: &[Number], channel: u16) -> u8
+    ensures { result ≡ next_of channel numbers.now }
+{
+    number_at(numbers, place(numbers, channel))
+}
+
+/// Counts a packet of the channel that has this place: its next number is one more, and after 255 comes 0. There is
 /// memory for a channel more.
-pub(crate) fn count_packet(numbers: &mut Vec<Number>, channel: u16)
+#[inline(always)]
+pub(crate) fn count_at(numbers: &mut Vec<Number>, channel: u16, i: usize)
     requires { length numbers.old.items < vec_capacity numbers.old }
-    ensures next { (other : ℕ) → next_of other numbers.new.items
+    ensures next { IsPlace channel numbers.old.items i → (other : ℕ) → next_of other numbers.new.items
         ≡ cond (channel == other) ((next_of channel numbers.old.items + 1) % 256) (next_of other numbers.old.items) }
     ensures one { length numbers.new.items ≤ length numbers.old.items + 1 }
     ensures room { vec_capacity numbers.old ≤ vec_capacity numbers.new }
 {
-    let i = place(numbers.as_slice(), channel);
     if i < numbers.len() {
         let next = numbers[i].next.wrapping_add(1);
         numbers[i] = Number { channel, next };

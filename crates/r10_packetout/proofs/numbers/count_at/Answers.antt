@@ -2,10 +2,9 @@ use Rattle.std.proofs.Common.{◌≡◌, ◌+◌, ◌%◌, ◌<◌, ◌++◌, �
 use Rattle.std.specs.Prelude.{Result, Ok, Err, IsOk, is_ok, if◌then◌else◌}
 use Rattle.std.proofs.lemmas.List.{get_or_read}
 use Rattle.r10_packetout.specs.Numbers.{next_of}
-use Rattle.r10_packetout.specs.Places.{IsPlace}
 use Rattle.r10_packetout.specs.declared.numbers.Number.{Number}
 use Rattle.r10_packetout.proofs.Table.{counted_at, counted_behind}
-use Rattle.r10_packetout.proofs.numbers.count_packet.Goals as goal
+use Rattle.r10_packetout.proofs.numbers.count_at.Goals as goal
 
 abbrev none : Number
 none = record { channel = 0; next = 0 }
@@ -18,14 +17,12 @@ pushed (Err e) new more old ok is = absurd (cc)
 pub returns-then-i-len-clause-next : goal.returns-then-i-len-clause-next
 returns-then-i-len-clause-next c =
     let items = c.args.numbers.now.items in
-    let at : IsPlace c.args.channel items c.place-i.result = rw (← c.as_slice.ensures.value) c.place-i.ensures in
-    let lt : c.place-i.result < length items = omega arith in
-    λ other. counted_at c.args.channel items c.place-i.result ((c.index.result.now.next + 1) % 256) none at lt
-    (ap (λ (n : Number). (n.next + 1) % 256) (get_or_read items c.place-i.result c.index.result.now lt c.index.ensures none)) other
+    let lt : c.args.i < length items = omega arith in
+    λ at other. counted_at c.args.channel items c.args.i ((c.index.result.now.next + 1) % 256) none at lt
+    (ap (λ (n : Number). (n.next + 1) % 256) (get_or_read items c.args.i c.index.result.now lt c.index.ensures none)) other
 
 pub returns-else-i-len-clause-next : goal.returns-else-i-len-clause-next
 returns-else-i-len-clause-next c =
     let items = c.args.numbers.now.items in
-    let at : IsPlace c.args.channel items c.place-i.result = rw (← c.as_slice.ensures.value) c.place-i.ensures in
     let all : c.push.new.self.items ≡ items ++ record { channel = c.args.channel; next = 1 } ∷ [] = pushed c.push.result _ _ _ (c.push.ensures.succeeds (omega arith)) c.push.ensures.items in
-    λ other. ap (λ (ns : List Number). next_of other ns) all ∙ counted_behind c.args.channel items c.place-i.result at (omega arith) other
+    λ at other. ap (λ (ns : List Number). next_of other ns) all ∙ counted_behind c.args.channel items c.args.i at (omega arith) other
