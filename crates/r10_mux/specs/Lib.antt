@@ -3,3 +3,4 @@ pub mod Room
 pub mod Own
 pub mod Begun
 pub mod Parts
+pub mod Calls
