@@ -14,3 +14,4 @@ pub mod Pumping
 pub mod Machines
 pub mod Stopping
 pub mod AtOnce
+pub mod Calls
