@@ -15,3 +15,4 @@ pub mod Machines
 pub mod Stopping
 pub mod AtOnce
 pub mod Calls
+pub mod Moves
