@@ -16,3 +16,4 @@ pub mod Stopping
 pub mod AtOnce
 pub mod Calls
 pub mod Moves
+pub mod Laws
