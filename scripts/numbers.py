@@ -55,7 +55,6 @@ ALLOWED = [
     (('r10_count', 'r10_text', 'r10_timebody', 'r10_dirblock'), (100, 104), 'hundredths, centuries and offsets'),
     (('r10_count/specs/Names.antt',), (0x30,), 'a digit'),
     (('r10_index/specs/Lists.antt',), (0x00,), 'an entry where there is none'),
-    (('r10_control',), (104, 524_260), 'a cost and a size that have no name there yet'),
 ]
 TRIALS = re.compile(r'_tests$|_bench$|^r10_trials$|^r10_rows$')
 WORKED = re.compile(r'Vectors$|Cases$|^Losses$|^Recordings$|^Soundness$')
