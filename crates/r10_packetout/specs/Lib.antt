@@ -5,3 +5,4 @@ pub mod Packets
 pub mod Output
 pub mod Writes
 pub mod Carries
+pub mod Calls
