@@ -157,9 +157,9 @@ pub record Sized (ps : List Packet) : Type 0 where
 pub sized_within : (ps : List Packet) → Sized ps → (index_bytes ps ≤ 20 * count_by is_data ps + 88 * count_by is_node ps) × (100 * count_by is_node ps < count_by is_data ps + 100)
 sized_within ps s = (omega (arith, s.bytes, s.once, s.roots), s.whole)
 
-nodes-length : (offset : ℕ) (ps : List Packet) → length (node_entries offset ps) ≡ length ps
-nodes-length offset [] = refl
-nodes-length offset (p ∷ ps) = omega (arith, nodes-length (offset + length (packet_bytes p)) ps)
+pub entries_length : (offset : ℕ) (ps : List Packet) → length (node_entries offset ps) ≡ length ps
+entries_length offset [] = refl
+entries_length offset (p ∷ ps) = omega (arith, entries_length (offset + length (packet_bytes p)) ps)
 
 taken : (n a b : ℕ) → n ≡ min 100 (a - b) → 0 < n → (b < a) × (n ≤ 100) × (n + b ≤ a)
 taken n a b is some = (omega (arith, is, some), omega (arith, is, some), omega (arith, is, some))
@@ -169,7 +169,7 @@ next_named : (before : List Packet) (entries : List NodeEntry) → 0 < length en
     → (100 * count_by is_node before < count_by is_data before) × (length entries ≤ 100) × (length entries + 100 * count_by is_node before ≤ count_by is_data before)
 next_named before entries some next =
     let all = node_entries 0 (filter is_data before) in
-    let most : length all ≡ count_by is_data before = nodes-length 0 (filter is_data before) ∙ length-filter is_data before in
+    let most : length all ≡ count_by is_data before = entries_length 0 (filter is_data before) ∙ length-filter is_data before in
     let size : length entries ≡ min 100 (count_by is_data before - 100 * count_by is_node before) =
     ap (λ (es : List NodeEntry). length es) next ∙ length-take 100 (drop (100 * count_by is_node before) all) ∙ ap (min 100) (length-drop (100 * count_by is_node before) all ∙ ap (λ n. n - 100 * count_by is_node before) most) in
     taken (length entries) (count_by is_data before) (100 * count_by is_node before) size some

@@ -36,3 +36,10 @@ framed_is bits w hd body x0 x1 x2 x3 x4 n ew len e0 e1 e2 en e3 e4 small =
 -- it is a packet sentence
 pub framed_sentence : (h : Header) (body : List ℕ) → FitsHeader (framed h body) → IsPacket (framed_bytes h body) (framed h body) body
 framed_sentence h body fits = record { fits = fits; spelled = refl; packet_len = sym (framed_length h body); data_len = refl }
+
+-- the header that is written has the lengths of the packet
+pub is_framed : (h : Header) (body : List ℕ) (w n : ℕ) → w ≡ checksum_bits h.flags / 8 → n ≡ (length body + w + 27) / 4 * 4
+    → record h { packet_len = n; data_len = length body } ≡ framed h body
+is_framed h body w n ew en =
+    let same : n ≡ (framed h body).packet_len = omega (arith, en, ew, packet_len_is h body) in
+    ap (λ m. record h { packet_len = m; data_len = length body }) same

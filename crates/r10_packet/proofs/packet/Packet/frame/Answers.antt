@@ -1,18 +1,10 @@
-use Rattle.std.proofs.Common.{◌≡◌, ℕ, List, ◌+◌, ◌-◌, ◌*◌, ◌/◌, ◌++◌, length, take, drop, replicate, refl, sym, subst, ap, ◌∙◌, arith, rules, vec_len}
+use Rattle.std.proofs.Common.{◌≡◌, ◌+◌, ◌-◌, ◌*◌, ◌/◌, ◌++◌, length, take, drop, replicate, refl, sym, subst, ap, ◌∙◌, rules, vec_len}
 use Rattle.r10_packet.specs.Sums.{data_checksum}
 use Rattle.r10_packet.specs.Header.{FitsHeader, header_bytes, check_bits_of, checksum_bits}
 use Rattle.r10_packet.specs.Packet.{framed, framed_bytes, IsPacket}
-use Rattle.r10_packet.specs.declared.header.Header.{Header}
 use Rattle.r10_packet.proofs.Lengths.{header_length}
-use Rattle.r10_packet.proofs.Frames.{packet_len_is, framed_is, framed_sentence}
+use Rattle.r10_packet.proofs.Frames.{framed_is, framed_sentence, is_framed}
 use Rattle.r10_packet.proofs.packet.Packet.frame.Goals as goal
-
--- the header that is written has the lengths of the packet
-is_framed : (h : Header) (body : List ℕ) (w n : ℕ) → w ≡ checksum_bits h.flags / 8 → n ≡ (length body + w + 27) / 4 * 4
-    → record h { packet_len = n; data_len = length body } ≡ framed h body
-is_framed h body w n ew en =
-    let same : n ≡ (framed h body).packet_len = omega (arith, en, ew, packet_len_is h body) in
-    ap (λ m. record h { packet_len = m; data_len = length body }) same
 
 -- the items after the calls that may fail
 bytes_are : (c : goal.In_ok-push_checksum) → c.push_checksum.new.out.items ≡ framed_bytes c.args.header.now c.args.body.now
