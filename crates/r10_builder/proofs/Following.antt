@@ -3,10 +3,11 @@ use Rattle.std.proofs.Common.{◌≡◌, ℕ, ◌%◌, ◌^◌, ◌<◌, ◌≤�
 use Rattle.std.specs.Prelude.{count_by}
 use Rattle.std.proofs.lemmas.List.{append-nil}
 use Rattle.std.specs.List.{AllByRecursion}
-use Rattle.std.proofs.lemmas.Bool.{eqb-true, ne_eqb}
+use Rattle.std.proofs.lemmas.Bool.{eqb-true, false≢true, ne_eqb}
 use Rattle.r10_count.specs.Civil.{IsCivil}
 use Rattle.r10_count.specs.Count.{IsCount}
 use Rattle.r10_count.specs.declared.civil.Parts.{Parts}
+use Rattle.r10_count.proofs.Lists.{all_more}
 use Rattle.r10_body.proofs.Lone.{body_length}
 use Rattle.r10_body.specs.Content.{Content, setup, time, event, uart, bus, arinc, discrete, message, node, root, report, type_of}
 use Rattle.r10_body.specs.Files.{PacketsSay, on_channel}
@@ -32,15 +33,11 @@ use Rattle.r10_body.proofs.Sentences.{rest_length}
 use Rattle.r10_builder.specs.Packing.{IsClosedPacket, entry_on, first_count}
 use Rattle.r10_builder.specs.declared.closed.Closed.{Closed}
 use Rattle.r10_builder.specs.Next.{ChannelGoesOn, HasType, IsGrowing, event_packet, grown_by, report_packet, reporting, setup_packet, time_packet}
-use Rattle.r10_builder.proofs.Lists.{all_more}
 use Rattle.r10_builder.proofs.Rising.{rise_join}
-
-no : false ≡ true → ⊥
-no e = cc
 
 -- ---- what a channel of messages carries
 
-above_times : (k : Kind) → 0x11 < kind_type k
+pub above_times : (k : Kind) → 0x11 < kind_type k
 above_times kinds.Uart = omega arith
 above_times kinds.Bus1553 = omega arith
 above_times kinds.Arinc = omega arith
@@ -54,7 +51,7 @@ plain_at type false true c d z e f g h i above is = omega (arith, eqb-true type 
 plain_at type false false true d z e f g h i above is = omega (arith, eqb-true type 2 g)
 plain_at type false false false true z e f g h i above is = omega (arith, eqb-true type 3 h)
 plain_at type false false false false true e f g h i above is = omega (arith, eqb-true type 0 i)
-plain_at type false false false false false e f g h i above is = no is
+plain_at type false false false false false e f g h i above is = false≢true is
 
 not_plain : (type : ℕ) → 17 < type → IsTrue (type == 1 || type == 17 || type == 2 || type == 3 || type == 0) → ⊥
 not_plain type = plain_at type (type == 1) (type == 17) (type == 2) (type == 3) (type == 0) refl refl refl refl refl
@@ -63,7 +60,7 @@ either_at : (type : ℕ) (a d z : Bool) → type == 1 ≡ a → type == 3 ≡ d 
 either_at type true d z e h i above is = omega (arith, eqb-true type 1 e)
 either_at type false true z e h i above is = omega (arith, eqb-true type 3 h)
 either_at type false false true e h i above is = omega (arith, eqb-true type 0 i)
-either_at type false false false e h i above is = no is
+either_at type false false false e h i above is = false≢true is
 
 not_either : (type : ℕ) → 17 < type → IsTrue (type == 1 || type == 3 || type == 0) → ⊥
 not_either type = either_at type (type == 1) (type == 3) (type == 0) refl refl refl
@@ -71,7 +68,7 @@ not_either type = either_at type (type == 1) (type == 3) (type == 0) refl refl r
 own_at : (type : ℕ) (d z : Bool) → type == 3 ≡ d → type == 0 ≡ z → 17 < type → IsTrue (d || z) → ⊥
 own_at type true z h i above is = omega (arith, eqb-true type 3 h)
 own_at type false true h i above is = omega (arith, eqb-true type 0 i)
-own_at type false false h i above is = no is
+own_at type false false h i above is = false≢true is
 
 not_own : (type : ℕ) → 17 < type → IsTrue (type == 3 || type == 0) → ⊥
 not_own type = own_at type (type == 3) (type == 0) refl refl
@@ -129,7 +126,7 @@ report_follows packets channel lost growing small some few =
         short = omega (arith, rest_length p);
       };
       checksums = λ h. refl;
-      start = ((λ h. absurd (no h), λ z. absurd (omega arith)), λ o. absurd (omega arith));
+      start = ((λ h. absurd (false≢true h), λ z. absurd (omega arith)), λ o. absurd (omega arith));
       channels = ((λ h. refl, λ z. refl), λ lt. absurd (omega arith), λ h. refl);
       sequence = refl;
       counts = (tt, subst (λ (es : List Entry). Rise 0 es) (sym (append-nil (on_channel 0 (file_entries packets)))) (rises 0 packets growing.each), tt);
@@ -269,12 +266,12 @@ time_follows packets channel count civil growing goes small counts is =
         short = omega (arith, rest_length p, body_length 0 count (messages.Time civil));
       };
       checksums = λ h. refl;
-      start = ((λ h. absurd (no h), λ z. absurd (omega arith)), λ o. absurd (omega arith));
-      channels = ((λ h. absurd (no h), λ z. absurd (omega (arith, goes.above))), λ lt. goes.type_is, λ h. refl);
+      start = ((λ h. absurd (false≢true h), λ z. absurd (omega arith)), λ o. absurd (omega arith));
+      channels = ((λ h. absurd (false≢true h), λ z. absurd (omega (arith, goes.above))), λ lt. goes.type_is, λ h. refl);
       sequence = refl;
       counts = ((refl, tt), rise_join 0 count (on_channel channel (file_entries packets)) (packet_entries p) (rises channel packets growing.each) goes.later (omega arith, tt), (omega arith, tt));
       index = growing.unindexed;
-      counters = (λ o. absurd (omega arith), λ h. absurd (no h));
+      counters = (λ o. absurd (omega arith), λ h. absurd (false≢true h));
       events = tt;
       reports = (rw growing.quiet refl, tt);
     }
@@ -296,12 +293,12 @@ event_follows packets channel count number growing goes small counts few =
         short = omega (arith, rest_length p, body_length 0 count (messages.Event number occurrence));
       };
       checksums = λ h. refl;
-      start = ((λ h. absurd (no h), λ z. absurd (omega arith)), λ o. absurd (omega arith));
-      channels = ((λ h. absurd (no h), λ z. absurd (omega (arith, goes.above))), λ lt. goes.type_is, λ h. refl);
+      start = ((λ h. absurd (false≢true h), λ z. absurd (omega arith)), λ o. absurd (omega arith));
+      channels = ((λ h. absurd (false≢true h), λ z. absurd (omega (arith, goes.above))), λ lt. goes.type_is, λ h. refl);
       sequence = refl;
       counts = ((refl, tt), rise_join 0 count (on_channel channel (file_entries packets)) (packet_entries p) (rises channel packets growing.each) goes.later (omega arith, tt), (omega arith, tt));
       index = growing.unindexed;
-      counters = (λ o. absurd (omega arith), λ h. absurd (no h));
+      counters = (λ o. absurd (omega arith), λ h. absurd (false≢true h));
       events = refl;
       reports = (rw growing.quiet refl, tt);
     }
@@ -325,7 +322,7 @@ setup_first counter text fits short = record {
   sequence = refl;
   counts = (tt, tt, tt);
   index = refl;
-  counters = (λ o. absurd (omega arith), λ h. absurd (no h));
+  counters = (λ o. absurd (omega arith), λ h. absurd (false≢true h));
   events = tt;
   reports = (refl, tt);
 }
@@ -344,12 +341,12 @@ time_second text channel count civil above small counts is =
         short = omega (arith, rest_length (time_packet channel count civil), body_length 0 count (messages.Time civil));
       };
       checksums = λ h. refl;
-      start = ((λ h. absurd (no h), λ z. absurd (omega arith)), λ o. refl);
-      channels = ((λ h. absurd (no h), λ z. absurd (omega (arith, above))), λ lt. (λ h. absurd (omega (arith, above, h)), tt), λ h. refl);
+      start = ((λ h. absurd (false≢true h), λ z. absurd (omega arith)), λ o. refl);
+      channels = ((λ h. absurd (false≢true h), λ z. absurd (omega (arith, above))), λ lt. (λ h. absurd (omega (arith, above, h)), tt), λ h. refl);
       sequence = rw off refl;
       counts = ((refl, tt), (omega arith, tt), (omega arith, tt));
       index = refl;
-      counters = (λ o. (refl, tt), λ h. absurd (no h));
+      counters = (λ o. (refl, tt), λ h. absurd (false≢true h));
       events = tt;
       reports = (refl, tt);
     }

@@ -17,10 +17,11 @@ use Rattle.r10_body.proofs.Sums.{same_sum}
 use Rattle.r10_builder.specs.Packing.{entry_on}
 use Rattle.r10_builder.specs.State.{BuilderState}
 use Rattle.r10_builder.specs.Grows.{BuildersAreApart, Grows, HasNone, all_held, held, is_open_builder, taken_in}
+use Rattle.r10_builder.proofs.Places.{not_first}
 
 -- ---- samples of a channel
 
-all_on : (channel : ℕ) (samples : List Sample) → on_channel channel (map (entry_on channel) samples) ≡ map (entry_on channel) samples
+pub all_on : (channel : ℕ) (samples : List Sample) → on_channel channel (map (entry_on channel) samples) ≡ map (entry_on channel) samples
 all_on channel [] = refl
 all_on channel (s ∷ samples) = rw (eq-eqb channel channel refl) (ap (λ es. entry_on channel s ∷ es) (all_on channel samples))
 
@@ -34,7 +35,7 @@ two_of f (x ∷ xs) ys = ap (λ t. f x ∷ t) (two_of f xs ys)
 
 -- ---- builders
 
-split : (channel : ℕ) (b : BuilderState) (builders : List BuilderState) → on_channel channel (all_held (b ∷ builders)) ≡ on_channel channel (held b) ++ on_channel channel (all_held builders)
+pub split : (channel : ℕ) (b : BuilderState) (builders : List BuilderState) → on_channel channel (all_held (b ∷ builders)) ≡ on_channel channel (held b) ++ on_channel channel (all_held builders)
 split channel b builders = filter-append (is_entry_on channel) (held b) (all_held builders)
 
 pub none_held : (builders : List BuilderState) (channel : ℕ) → HasNone channel builders → on_channel channel (all_held builders) ≡ []
@@ -43,12 +44,6 @@ none_held (b ∷ builders) channel none =
     split channel b builders
     ∙ ap (λ (es : List Entry). es ++ on_channel channel (all_held builders)) (none_on channel b.spec.id b.samples (ne_eqb b.spec.id channel none.0))
     ∙ none_held builders channel none.1
-
--- at a place that isn't the first
-not_first : (b d : BuilderState) (builders : List BuilderState) (i : ℕ) → i < length builders → AllByRecursion (λ (c : BuilderState). c.spec.id ≡ b.spec.id → ⊥) builders → (get_or builders i d).spec.id ≡ b.spec.id → ⊥
-not_first b d [] i lt apart same = absurd (omega arith)
-not_first b d (c ∷ builders) zero lt apart same = apart.0 same
-not_first b d (c ∷ builders) (suc i) lt apart same = not_first b d builders i (omega arith) apart.1 same
 
 pub one_held : (builders : List BuilderState) (i : ℕ) (d : BuilderState) → i < length builders → BuildersAreApart builders → on_channel (get_or builders i d).spec.id (all_held builders) ≡ held (get_or builders i d)
 one_held [] i d lt apart = absurd (omega arith)

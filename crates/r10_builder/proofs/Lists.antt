@@ -1,17 +1,13 @@
 -- Lists of samples, one sample longer.
-use Rattle.std.proofs.Common.{◌≡◌, ℕ, ◌<◌, ◌≤◌, Bool, true, false, not, List, [], ◌∷◌, ◌++◌, length, drop, None, refl, sym, ap, ◌∙◌, arith, append_assoc}
+use Rattle.std.proofs.Common.{◌≡◌, ℕ, ◌<◌, ◌≤◌, true, List, [], ◌∷◌, ◌++◌, length, drop, refl, sym, ap, ◌∙◌, arith, append_assoc}
 use Rattle.std.proofs.lemmas.List.{append-nil}
 use Rattle.std.specs.List.{AllByRecursion}
-use Rattle.r10_count.specs.Checks.{first_broken}
+use Rattle.r10_count.proofs.Lists.{all_more}
 use Rattle.r10_body.specs.declared.entry.Sample.{Sample}
 use Rattle.r10_body.specs.declared.message.Kind.{Kind}
 use Rattle.r10_builder.specs.Packing.{first_count, is_near, last_sample_count}
 use Rattle.r10_builder.specs.Held.{NearFrom, RiseFrom}
 use Rattle.r10_builder.specs.Spelled.{all_bytes, sample_bytes}
-
-pub all_more : {A : Type 0} (P : A → Type 0) (xs : List A) (x : A) → AllByRecursion P xs → P x → AllByRecursion P (xs ++ x ∷ [])
-all_more P [] x all here = (here, tt)
-all_more P (y ∷ ys) x all here = (all.0, all_more P ys x all.1 here)
 
 pub first_more : (samples : List Sample) (s : Sample) → 0 < length samples → first_count (samples ++ s ∷ []) ≡ first_count samples
 first_more [] s lt = absurd (omega arith)
@@ -43,12 +39,3 @@ bytes_more before (f ∷ samples) s =
 pub plain_more : {A : Type 0} (P : A → Type 0) (xs : List A) (x : A) → 0 < length xs → AllByRecursion P (drop 1 xs) → P x → AllByRecursion P (drop 1 (xs ++ x ∷ []))
 plain_more P [] x lt all here = absurd (omega arith)
 plain_more P (y ∷ ys) x lt all here = all_more P ys x all here
-
--- checks in order
-pub none_broken : {F : Type 0} (b : Bool) (f : F) (checks : List (Bool × F)) → first_broken ((b, f) ∷ checks) ≡ None → (b ≡ true) × (first_broken checks ≡ None)
-none_broken true f checks e = (refl, e)
-none_broken false f checks e = absurd (cc)
-
-pub not_true : (b : Bool) → not b ≡ true → b ≡ false
-not_true true e = absurd (cc)
-not_true false e = refl

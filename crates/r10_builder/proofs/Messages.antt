@@ -2,8 +2,9 @@
 use Rattle.std.proofs.Common.{◌≡◌, ℕ, ◌+◌, ◌≤◌, true, false, List, [], ◌∷◌, length, None, refl, arith, length-append}
 use Rattle.std.specs.Prelude.{nat_le}
 use Rattle.std.specs.List.{AllByRecursion, sum_by}
-use Rattle.std.proofs.lemmas.Bool.{and_parts, leb-true, le-leb}
+use Rattle.std.proofs.lemmas.Bool.{and_parts, leb-true, le-leb, false≢true}
 use Rattle.std.proofs.lemmas.List.Sums.{sum_by-cons}
+use Rattle.r10_count.proofs.Rules.{none_broken}
 use Rattle.r10_uart.specs.Entry.{uart_entry-size}
 use Rattle.r10_uart.specs.Uart.{uart_of}
 use Rattle.r10_b1553.specs.Entry.{bus_entry-size}
@@ -19,10 +20,6 @@ use Rattle.r10_body.specs.declared.message.Message.TheVariants as messages
 use Rattle.r10_body.specs.declared.spec.ChannelSpec.{ChannelSpec}
 use Rattle.r10_builder.specs.Packing.{is_near, tenth}
 use Rattle.r10_builder.specs.Spelled.{Reaches, all_bytes, message_bytes, sample_bytes}
-use Rattle.r10_builder.proofs.Lists.{none_broken}
-
-pub no : false ≡ true → ⊥
-no e = cc
 
 pub record Taken (spec : ChannelSpec) (m : Message) : Type 0 where
   pub kind : is_kind spec.kind m ≡ true
@@ -46,7 +43,7 @@ message_length kinds.Bus1553 before count (messages.Bus1553 status gap words) is
 message_length kinds.Arinc before count (messages.Arinc bus format parity high word) is = refl
 message_length kinds.Discrete before count (messages.Discrete states) is = refl
 message_length kinds.Message before count (messages.Message data_error format sub bytes) is = message_entry-size (message_of count data_error format sub bytes)
-message_length kind before count m is = absurd (no is)
+message_length kind before count m is = absurd (false≢true is)
 
 pub sample_length : (kind : Kind) (before : ℕ) (s : Sample) → is_kind kind s.message ≡ true → length (sample_bytes before s) ≡ spelling_len s.message
 unfolding sample_bytes
@@ -68,7 +65,7 @@ all_length spec before (s ∷ samples) all =
 
 pub reaches : (kind : Kind) (before count : ℕ) (m : Message) → is_kind kind m ≡ true → before ≤ count → is_near kind before count ≡ true → Reaches before count m
 reaches kinds.Arinc before count (messages.Arinc bus format parity high word) is le near = (le, leb-true count (before + tenth) near)
-reaches kind before count (messages.Arinc bus format parity high word) is le near = absurd (no is)
+reaches kind before count (messages.Arinc bus format parity high word) is le near = absurd (false≢true is)
 reaches kind before count m is le near = tt
 
 -- a sample is near itself

@@ -46,7 +46,7 @@ keeps_nowhere least [] p zero_is are = tt
 keeps_nowhere least (spec ∷ specs) p zero_is are = (λ e. absurd (omega (arith, zero_is, e, are.0)), keeps_nowhere spec.id specs p zero_is are.2)
 
 -- where a packet is on one of the channels and keeps to its settings, it keeps to all
-none_other : (p : Packet) (builders : List BuilderState) → HasNone p.channel builders → KeepsSettings (specs_of builders) p
+pub none_other : (p : Packet) (builders : List BuilderState) → HasNone p.channel builders → KeepsSettings (specs_of builders) p
 none_other p [] none = tt
 none_other p (b ∷ builders) none = (λ e. absurd (none.0 (sym e)), none_other p builders none.1)
 

@@ -1,17 +1,9 @@
 -- A message more of a channel, by the channel's place.
-use Rattle.std.proofs.Common.{◌≡◌, ℕ, ◌+◌, ◌<◌, ◌≤◌, zero, suc, Bool, true, false, not, cond, nat_lt, List, [], ◌∷◌, length, get_or, set, Option, None, Some, refl, ap, sym, ◌∙◌, arith}
+use Rattle.std.proofs.Common.{◌≡◌, ℕ, ◌+◌, ◌<◌, ◌≤◌, zero, suc, Bool, true, false, not, cond, List, [], ◌∷◌, length, get_or, set, None, Some, refl, ap, sym, ◌∙◌, arith}
 use Rattle.std.specs.List.{position, position_or_len}
-use Rattle.std.proofs.lemmas.Bool.{ltb-false, ltb-true}
+use Rattle.r10_body.proofs.Places.{no_place, place_is}
 use Rattle.r10_calls.specs.Accounts.{is_on, more_on, one_more}
 use Rattle.r10_calls.specs.declared.accounts.Accepted.{Accepted}
-
-some_at : (m n i : ℕ) (b : Bool) → nat_lt m n ≡ b → cond b (Some m) None ≡ Some i → (m < n) × (m ≡ i)
-some_at m n i true h e = (ltb-true m n h, cc)
-some_at m n i false h e = absurd (cc)
-
-none_at : (m n : ℕ) (b : Bool) → nat_lt m n ≡ b → cond b (Some m) None ≡ None → n ≤ m
-none_at m n true h e = absurd (cc)
-none_at m n false h e = ltb-false m n h
 
 module _ (channel : ℕ) where
   abbrev place : List Accepted → ℕ
@@ -39,9 +31,9 @@ module _ (channel : ℕ) where
 
   pub more_there : (xs : List Accepted) (i : ℕ) (old new : Accepted) → position (is_on channel) xs ≡ Some i → old ≡ get_or xs i old → new ≡ one_more old → set xs i new ≡ more_on channel xs
   more_there xs i old new is here made =
-      let at = some_at (place xs) (length xs) i (nat_lt (place xs) (length xs)) refl is in
+      let at = place_is (is_on channel) xs i is in
       let within : i < length xs = omega (arith, at.0, at.1) in
       ap (λ (x : Accepted). set xs i x) (made ∙ ap one_more here) ∙ there xs i old at.1 within
 
   pub none_there : (xs : List Accepted) → position (is_on channel) xs ≡ None → xs ≡ more_on channel xs
-  none_there xs is = sym (nowhere xs (none_at (place xs) (length xs) (nat_lt (place xs) (length xs)) refl is))
+  none_there xs is = sym (nowhere xs (no_place (is_on channel) xs is))

@@ -12,6 +12,7 @@ use Rattle.r10_body.specs.declared.refusal.Refusal.{Refusal}
 use Rattle.r10_body.specs.declared.refusal.Refusal.TheVariants.{Medium}
 use Rattle.r10_body.specs.declared.spec.ChannelSpec.{ChannelSpec}
 use Rattle.r10_lane.specs.Lanes.{Gives, counts_of}
+use Rattle.r10_lane.proofs.Waiting.{raised}
 use Rattle.r10_machine.specs.Calls.{without}
 use Rattle.r10_machine.specs.Checks.{message_checks}
 use Rattle.r10_machine.specs.Config.{Config}
@@ -44,12 +45,8 @@ climbs_front low [] [] high climbs = climbs
 climbs_front low [] (y ∷ ys) high (first, climbs) = omega (arith, first, climbs_front y [] ys high climbs)
 climbs_front low (x ∷ xs) ys high (first, climbs) = (first, climbs_front x xs ys high climbs)
 
-climbs_from : (low lower : ℕ) (ys : List ℕ) (high : ℕ) → lower ≤ low → Climbs low ys high → Climbs lower ys high
-climbs_from low lower [] high less climbs = omega (arith, less, climbs)
-climbs_from low lower (y ∷ ys) high less (first, climbs) = (omega (arith, less, first), climbs)
-
 climbs_joined : (low mid high : ℕ) (xs ys : List ℕ) → Climbs low xs mid → Climbs mid ys high → Climbs low (xs ++ ys) high
-climbs_joined low mid high [] ys first second = climbs_from mid low ys high first second
+climbs_joined low mid high [] ys first second = raised mid low ys high first second
 climbs_joined low mid high (x ∷ xs) ys (here, first) second = (here, climbs_joined x mid high xs ys first second)
 
 climbs_behind : (last : Option ℕ) (low : ℕ) (xs : List Sample) (high : ℕ) → count_or_0 last ≤ low → Climbs low (counts_of xs) high → Climbs (count_or_0 last) (counts_of xs) (count_or_0 (last_behind last xs))

@@ -29,7 +29,7 @@ mod Commits
 mod Entered
 mod Ticks
 mod Closes
-mod Stops
+pub mod Stops
 mod Leaves
 mod Moments
 mod StopPoints

@@ -1,8 +1,7 @@
 -- Offers to the lanes of one thread, and losses, by their places and as steps of the machine.
-use Rattle.std.proofs.Common.{◌≡◌, ◌≤◌, ◌<◌, ◌+◌, ℕ, zero, suc, Bool, true, false, cond, List, [], ◌∷◌, ◌++◌, length, map, find, get_or, set, is_none, if◌then◌else◌, nat_lt, Option, None, Some, Result, Ok, Err, refl, sym, ap, ◌∙◌, subst, arith}
+use Rattle.std.proofs.Common.{◌≡◌, ◌≤◌, ◌<◌, ◌+◌, ℕ, zero, suc, Bool, true, false, cond, List, [], ◌∷◌, ◌++◌, length, map, find, get_or, set, is_none, if◌then◌else◌, Option, None, Some, Result, Ok, Err, refl, sym, ap, ◌∙◌, subst, arith}
 use Rattle.std.specs.Prelude.{not, option_map}
 use Rattle.std.specs.List.{position, position_or_len}
-use Rattle.std.proofs.lemmas.Bool.{ltb-false, ltb-true}
 use Rattle.std.proofs.lemmas.List.{set-get_or}
 use Rattle.r10_body.specs.declared.entry.Entry.{Entry}
 use Rattle.r10_body.specs.declared.message.Message.{Message}
@@ -12,6 +11,7 @@ use Rattle.r10_body.specs.declared.spec.ChannelSpec.{ChannelSpec}
 use Rattle.r10_count.specs.Checks.{first_broken}
 use Rattle.r10_body.specs.Files.{on_channel}
 use Rattle.r10_body.specs.Sequence.{last_count}
+use Rattle.r10_body.proofs.Places.{no_place, place_is}
 use Rattle.r10_lane.specs.Lanes.{Offers, reached}
 use Rattle.r10_lane.proofs.Waiting.{refused_before_room}
 use Rattle.r10_machine.specs.Calls.{accepted, losing, overflowed}
@@ -36,14 +36,6 @@ use Rattle.r10_machine.specs.declared.reply.Reply.TheVariants as replies
 
 -- ---- places
 
-some_at : (m n i : ℕ) (b : Bool) → nat_lt m n ≡ b → cond b (Some m) None ≡ Some i → (m < n) × (m ≡ i)
-some_at m n i true h e = (ltb-true m n h, cc)
-some_at m n i false h e = absurd (cc)
-
-none_at : (m n : ℕ) (b : Bool) → nat_lt m n ≡ b → cond b (Some m) None ≡ None → n ≤ m
-none_at m n true h e = absurd (cc)
-none_at m n false h e = ltb-false m n h
-
 -- a lane that stands first of those that pass a test
 pub record IsAt (test : Lane → Bool) (lanes : List Lane) (i : ℕ) (lane : Lane) : Type 0 where
   pub found : find test lanes ≡ Some lane
@@ -51,7 +43,7 @@ pub record IsAt (test : Lane → Bool) (lanes : List Lane) (i : ℕ) (lane : Lan
 
 pub is_at : (test : Lane → Bool) (lanes : List Lane) (i : ℕ) (lane : Lane) → position test lanes ≡ Some i → lane ≡ get_or lanes i lane → IsAt test lanes i lane
 is_at test lanes i lane is here =
-    let at = some_at (position_or_len test lanes) (length lanes) i (nat_lt (position_or_len test lanes) (length lanes)) refl is in
+    let at = place_is test lanes i is in
     let within : i < length lanes = omega (arith, at.0, at.1) in record {
       found = found_at test lanes i lane at.1 within ∙ ap (λ (l : Lane). Some l) (sym here);
       changed = λ change. changed_at test change lanes i lane at.1 within ∙ ap (λ (l : Lane). set lanes i (change l)) (sym here);
@@ -67,7 +59,7 @@ below_or_len test (l ∷ lanes) = by (test l) (below_or_len test lanes)
 
 pub is_nowhere : (test : Lane → Bool) (lanes : List Lane) → position test lanes ≡ None → find test lanes ≡ None
 is_nowhere test lanes is =
-    found_nowhere test lanes (omega (arith, below_or_len test lanes, none_at (position_or_len test lanes) (length lanes) (nat_lt (position_or_len test lanes) (length lanes)) refl is))
+    found_nowhere test lanes (omega (arith, below_or_len test lanes, no_place test lanes is))
 
 -- ---- all lanes
 

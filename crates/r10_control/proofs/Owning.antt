@@ -35,6 +35,7 @@ use Rattle.r10_volume.specs.Mounting.{IsUsable}
 use Rattle.r10_volume.proofs.Listed.{placed_at}
 use Rattle.std.proofs.lemmas.List.Elements.{All-cons, All-nil}
 use Rattle.r10_body.specs.Packets.{Packet}
+use Rattle.r10_body.proofs.ChannelLists.{none_on_any}
 use Rattle.r10_dirchain.proofs.Usable.{place_rules_hold, placed}
 use Rattle.r10_medium.proofs.Stops.{below_puts}
 use Rattle.r10_seal.specs.Sealing.{ListsSealed, SealsFile, sealed_entry}
@@ -140,12 +141,8 @@ last_split P (e ∷ d ∷ listed) last =
 pub grow_none : (k : Kept) (image : Image) → OwnGrow k image k image []
 grow_none k image = inr (λ own has. subst (λ (l : List Entry). AreOwn k image l) (sym (append-nil own)) has)
 
-none_on : (specs : List ChannelSpec) → AllByRecursion (λ (spec : ChannelSpec). on_channel spec.id [] ≡ []) specs
-none_on [] = tt
-none_on (spec ∷ specs) = (refl, none_on specs)
-
 pub stay_by : (k later : Kept) (old new : Image) → OwnGrow k old later new [] → OwnStay k old later new
-stay_by k later old new own = record { more = []; own = own; others = none_on k.config.channels }
+stay_by k later old new own = record { more = []; own = own; others = none_on_any k.config.channels }
 
 pub stay_same : (k : Kept) (image : Image) → OwnStay k image k image
 stay_same k image = stay_by k k image image (grow_none k image)

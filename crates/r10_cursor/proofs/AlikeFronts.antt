@@ -8,9 +8,8 @@ use Rattle.r10_blockout.specs.Blocks.{bytes_from}
 use Rattle.r10_indexbody.specs.declared.entry.NodeEntry.{NodeEntry}
 use Rattle.r10_body.specs.Packets.{Packet, file_bytes, packet_bytes}
 use Rattle.r10_body.specs.Rules.{EachFollows, is_data, is_index, node_entry_of, node_entries}
-use Rattle.r10_body.proofs.Indexes.{counted_first, counted_yes}
+use Rattle.r10_body.proofs.Indexes.{counted_first, counted_yes, entries_length}
 use Rattle.r10_body.proofs.Injective.{one_beginning, one_file}
-use Rattle.r10_index.proofs.Counting.{named_length}
 use Rattle.r10_cursor.specs.Shown.{ShowsPackets}
 use Rattle.r10_cursor.specs.Files.{HasDataPackets}
 
@@ -35,7 +34,7 @@ no_more ps qs more is long =
     sym (is ∙ ap (λ (l : List Packet). ps ++ l) none ∙ append-nil ps)
 
 named_long : (image : Image) (first : ℕ) (named : List NodeEntry) (ps : List Packet) → ShowsPackets image first named ps → length ps ≡ length named
-named_long image first named ps shown = omega (arith, named_length 0 ps, ap (λ (l : List NodeEntry). length l) shown.named_as)
+named_long image first named ps shown = omega (arith, entries_length 0 ps, ap (λ (l : List NodeEntry). length l) shown.named_as)
 
 one_of : (image : Image) (first : ℕ) (named : List NodeEntry) (ps qs : List Packet) → ShowsPackets image first named ps → ShowsPackets image first named qs → length (file_bytes ps) ≤ length (file_bytes qs) → ps ≡ qs
 one_of image first named ps qs p q shorter =

@@ -8,12 +8,9 @@ use Rattle.r10_indexbody.specs.Index.{root_entry, root_body}
 use Rattle.r10_indexbody.specs.declared.entry.RootEntry.{RootEntry}
 use Rattle.r10_body.proofs.Rules.{flat_map_more}
 use Rattle.r10_index.specs.Written.{names}
+use Rattle.r10_index.proofs.Roots.{names_length}
 use Rattle.r10_file_rules.specs.Names.{root_at}
 use Rattle.r10_file_rules.proofs.Fronts.{Missing, found_then, missing_then}
-
-pub names_length : (counter end n : ℕ) → length (names counter end n) ≡ n
-names_length counter end zero = refl
-names_length counter end (suc n) = omega (arith, names_length counter end n, length-append (names counter end n) (root_at counter (end + 2028 * n) ∷ []))
 
 pub names_more : (counter end n : ℕ) → names counter end (n + 1) ≡ names counter end n ++ root_at counter (end + 2028 * n) ∷ []
 names_more counter end n = let more : n + 1 ≡ suc n = omega arith in ap (names counter end) more

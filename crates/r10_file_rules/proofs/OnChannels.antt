@@ -1,6 +1,6 @@
 -- What is kept of a channel, with and without a packet more.
 use Rattle.std.proofs.Common.{◌≡◌, ℕ, ◌+◌, ◌%◌, ◌<◌, ◌≤◌, Bool, true, false, ◌==◌, IsTrue, List, [], ◌∷◌, ◌++◌, length, take, refl, sym, ap, subst, ◌∙◌, arith}
-use Rattle.std.specs.Prelude.{count_by, ◌↔◌, Option, Some, None, Result, Ok, Err, IsOk, OnOk, cond, nat_eq}
+use Rattle.std.specs.Prelude.{count_by, ◌↔◌, Option, Some, None, cond, nat_eq}
 use Rattle.std.specs.HashMap.{HashMap, get}
 use Rattle.std.specs.List.{AllByRecursion}
 use Rattle.std.proofs.lemmas.List.{append-nil}
@@ -196,7 +196,3 @@ pub are_kept : {S : Type 0} (packets : List Packet) (p : Packet) (f : Facts) (tr
     → AreKept old packets → AreFactsOf f p → KeptOf (packets ++ p ∷ []) f.channel track → AreKept new (packets ++ p ∷ [])
 are_kept packets p f track old new puts kept tells here =
     λ channel. subst (λ (o : Option ChannelTrack). IsKeptOfChannel (packets ++ p ∷ []) channel o) (sym (puts channel)) (kept_at packets p f track channel (nat_eq f.channel channel) (get nat_eq old channel) refl tells (kept channel) here)
-
-pub on_ok : {T E : Type 0} (P : Type 0) (r : Result T E) → IsOk r → OnOk r P → P
-on_ok P (Ok x) is p = p
-on_ok P (Err e) is p = absurd (false≢true is)

@@ -14,22 +14,24 @@ use Rattle.r10_indexbody.proofs.Nodes.{one_node_body}
 use Rattle.r10_indexbody.proofs.Roots.{one_root_body}
 use Rattle.r10_body.specs.Content.{Content, FitsContent, setup, time, event, uart, bus, arinc, discrete, message, node, root, report, body_of}
 use Rattle.r10_body.specs.Packets.{Packet, FitsPacket, packet_body, packet_bytes, packet_entries, file_bytes}
-use Rattle.r10_body.specs.Rules.{MayFollow, EachFollows, HasPlace, KeepsIndex, IsNextNode, IsNextRoot, is_time, is_index, is_report_packet, is_data, is_node, is_root, is_closed_file, all_named, has_whole_index, closed_from, group_size, last_root, node_entry_of, node_entries, root_entry_of, last_time, unnamed}
+use Rattle.r10_body.specs.Rules.{MayFollow, EachFollows, HasPlace, KeepsIndex, IsNextNode, IsNextRoot, is_time, is_index, is_report_packet, is_data, is_node, is_root, is_closed_file, all_named, has_whole_index, group_size, last_root, node_entry_of, node_entries, root_entry_of, last_time, unnamed}
 use Rattle.r10_body.proofs.Groups.{none_unnamed, root_before, root_with, size_grows, size_of_node, size_of_root, size_stays, unnamed_with}
-use Rattle.r10_body.proofs.Indexes.{Part, datum, node_here, root_here, part_of, counted, counted_first, counted_yes, counted_no, index_len, index_long, no_nodes, no_roots, not_closed, datas_yes, datas_no}
+use Rattle.r10_body.proofs.Indexes.{Part, datum, node_here, root_here, part_of, counted, counted_first, counted_yes, counted_no, index_len, index_long, no_nodes, no_roots, not_closed, datas_yes, datas_no, entries_length}
 use Rattle.r10_body.proofs.Rules.{bytes_more, follows_fit}
 use Rattle.r10_index.specs.Book.{Book}
 use Rattle.r10_index.specs.Counted.{IsBookOf, CountsEntriesUpTo}
 use Rattle.r10_index.specs.Written.{names}
-pub use Rattle.r10_index.proofs.Behind.{entries_fit, entries_length}
-use Rattle.r10_index.proofs.Behind.{part_fits, last_more, no_names, no_link_here}
+pub use Rattle.r10_index.proofs.Behind.{entries_fit}
+use Rattle.r10_index.proofs.Behind.{part_fits, last_more, no_names, no_link_here, closed_last}
+use Rattle.r10_index.proofs.Roots.{names_length}
+use Rattle.r10_index.proofs.Sought.{entries_joined}
 use Rattle.r10_packet_rules.specs.Facts.{AreFactsOf, kind_of}
 use Rattle.r10_packet_rules.specs.declared.facts.Facts.{Facts}
 use Rattle.r10_packet_rules.specs.declared.facts.PacketKind.TheVariants.{Node, Root}
 use Rattle.r10_file_rules.specs.Index.{HasPlaceIn, IsIndexed, IsLastRoot, IsRootHere, link_at}
 use Rattle.r10_file_rules.specs.Names.{root_at}
 use Rattle.r10_file_rules.specs.declared.index.IndexTracks.{IndexTracks}
-use Rattle.r10_file_rules.proofs.Named.{names_length, names_more}
+use Rattle.r10_file_rules.proofs.Named.{names_more}
 use Rattle.r10_file_rules.proofs.Least.{index_packets}
 use Rattle.r10_count.proofs.Lists.{all_more}
 use Rattle.r10_body.proofs.Lengths.{packets_few}
@@ -78,12 +80,6 @@ as_root (root es) e = record { entries = es; is = refl }
 as_root (report loss) e = absurd (cc)
 
 -- ---- entries
-
-pub entries_more : (offset : ℕ) (ps : List Packet) (p : Packet) → node_entries offset (ps ++ p ∷ []) ≡ node_entries offset ps ++ node_entry_of (offset + length (file_bytes ps)) p ∷ []
-entries_more offset [] p = let same : offset ≡ offset + 0 = omega arith in ap (λ n. node_entry_of n p ∷ []) same
-entries_more offset (q ∷ ps) p =
-    let sum : offset + length (packet_bytes q) + length (file_bytes ps) ≡ offset + length (packet_bytes q ++ file_bytes ps) = omega (arith, length-append (packet_bytes q) (file_bytes ps)) in
-    ap (λ (es : List NodeEntry). node_entry_of offset q ∷ es) (entries_more (offset + length (packet_bytes q)) ps p ∙ ap (λ n. node_entries (offset + length (packet_bytes q)) ps ++ node_entry_of n p ∷ []) sum)
 
 less_at : (test : Packet → Bool) (p : Packet) (ps : List Packet) (b : Bool) → test p ≡ b → length (file_bytes (filter test ps)) ≤ length (file_bytes ps) → length (file_bytes (filter test (p ∷ ps))) ≤ length (file_bytes (p ∷ ps))
 less_at test p ps true is rest = rw is (omega (arith, rest, length-append (packet_bytes p) (file_bytes ps), length-append (packet_bytes p) (file_bytes (filter test ps))))
@@ -241,10 +237,6 @@ keeps_root t ps p clock counter body b ix each short clock_is count counter_is k
 
 -- ---- a packet more
 
-last_closed : (b : Bool) (ps : List Packet) (p : Packet) → closed_from b (ps ++ p ∷ []) ≡ is_root p
-last_closed b [] p = refl
-last_closed b (q ∷ ps) p = last_closed (is_root q) ps p
-
 bytes_grown : (t : IndexTracks) (ps : List Packet) (p : Packet) (f : Facts) (bytes : ℕ) → IsIndexed t ps → AreFactsOf f p → length (file_bytes (ps ++ p ∷ [])) < 2 ^ 63 → bytes ≡ min (t.bytes + f.length) (2 ^ 64 - 1) → bytes ≡ length (file_bytes (ps ++ p ∷ []))
 bytes_grown t ps p f bytes ix tells short is =
     let whole : length (file_bytes (ps ++ p ∷ [])) ≡ length (file_bytes ps) + length (packet_bytes p) = ap (λ (b : List ℕ). length b) (bytes_more ps p) ∙ length-append (file_bytes ps) (packet_bytes p) in
@@ -347,7 +339,7 @@ node_added t u ps p f ix tells may short kind bytes_is start_at group_at pending
       few = omega (arith, sums.1, nodes, entries);
       low = omega (arith, sums.2, pending, ix.bytes, whole, short);
       link = subst (λ (o : Option ℕ). IsLastRoot o (ps ++ p ∷ [])) (sym same.2) (node_link t.root ps p r untimed ix.link);
-      closed = closed_is ∙ sym (last_closed false ps p ∙ r);
+      closed = closed_is ∙ sym (closed_last false ps p ∙ r);
     }
 
 root_group : (root : Option ℕ) (ps : List Packet) (p : Packet) → is_root p ≡ true → IsLastRoot root ps → group_size (ps ++ p ∷ []) ≡ group_size ps
@@ -381,7 +373,7 @@ root_added t u ps p f bytes ix tells may short kind bytes_is is =
         omega (arith, ix.bytes, whole, short),
         λ own. root_with own ps p r ∙ ap (λ m. root_at p.counter m) (sym ix.bytes) ∙ ap (λ m. root_at m t.bytes) (may.counters.1 (index_or_report p i) ∙ sym (last_more 0 ps p untimed)),
       );
-      closed = sym (last_closed false ps p ∙ r);
+      closed = sym (closed_last false ps p ∙ r);
     } in
     subst (λ (v : IndexTracks). IsIndexed v (ps ++ p ∷ [])) (sym is) so
 
@@ -439,7 +431,7 @@ datum_added t u ps p f bytes ix tells may short not_node not_root named_is count
     let new : IndexTracks = record t { book = u.book; end = u.end; bytes = bytes } in
     let so : IsIndexed new (ps ++ p ∷ []) = record {
       named = named_is ∙ ap (λ (es : List NodeEntry). es ++ record { counter = f.counter; data_type = f.data_type; channel = f.channel; offset = t.end } ∷ []) ix.named
-          ∙ ap (λ (e : NodeEntry). node_entries 0 datas ++ e ∷ []) entry ∙ sym (ap (node_entries 0) more ∙ entries_more 0 datas p ∙ ap (λ n. node_entries 0 datas ++ node_entry_of n p ∷ []) none_first);
+          ∙ ap (λ (e : NodeEntry). node_entries 0 datas ++ e ∷ []) entry ∙ sym (ap (node_entries 0) more ∙ entries_joined 0 datas (p ∷ []) ∙ ap (λ n. node_entries 0 datas ++ node_entry_of n p ∷ []) none_first);
       counted = subst (λ (qs : List Packet). CountsEntriesUpTo u.book.counted qs) (sym more) (counts datas p (record { named = ix.named; counted = ix.counted }) entry tells.entries);
       end = omega (arith, end_is, ix.end, tells.length_is, all, fewer is_data (ps ++ p ∷ []), short);
       bytes = bytes_grown t ps p f bytes ix tells short bytes_is;
@@ -450,7 +442,7 @@ datum_added t u ps p f bytes ix tells may short not_node not_root named_is count
       few = omega (arith, ix.nodes, nodes);
       low = ix.low;
       link = datum_link t.root ps p roots parts.2 ix.link;
-      closed = ix.closed ∙ not_closed ps none ∙ sym (last_closed false ps p ∙ parts.2);
+      closed = ix.closed ∙ not_closed ps none ∙ sym (closed_last false ps p ∙ parts.2);
     } in
     subst (λ (v : IndexTracks). IsIndexed v (ps ++ p ∷ [])) (sym is) so
   where

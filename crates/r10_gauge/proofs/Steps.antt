@@ -1,6 +1,7 @@
 -- Each step keeps the rule.
-use Rattle.std.proofs.Common.{◌≡◌, ◌≢◌, ◌⊎◌, ℕ, zero, suc, ◌+◌, ◌-◌, ◌^◌, ◌<◌, min, List, [], ◌∷◌, ◌++◌, length, set, Some, slice_get, true, false, true≢false, refl, sym, ap, ◌∙◌, subst, ⊎_elim, inl, inr, arith, length-append, append_assoc}
+use Rattle.std.proofs.Common.{◌≡◌, ◌≢◌, ◌⊎◌, ℕ, zero, suc, ◌+◌, ◌-◌, ◌^◌, ◌<◌, min, List, [], ◌∷◌, ◌++◌, length, set, Some, slice_get, true, refl, sym, ap, ◌∙◌, subst, ⊎_elim, inl, inr, arith, length-append, append_assoc}
 use Rattle.std.proofs.lemmas.List.{append-nil}
+use Rattle.std.proofs.lemmas.Bool.{false≢true}
 use mathlib.Core.Option.{some, some-ne-none, some-injective}
 use mathlib.Core.List.{IsPrefix}
 use lib.ListN.{get_elem?}
@@ -36,9 +37,6 @@ prefix_longer xs ys zs (rest, is) = (rest ++ zs, sym (append_assoc xs rest zs) �
 
 prefix_self : (xs : List Glance) → IsPrefix xs xs
 prefix_self xs = ([], append-nil xs)
-
-off : false ≡ true → ⊥
-off e = true≢false (sym e)
 
 fits_set : (seat : ℕ) (log now : List Glance) (views : List SeatKnows) (by : ℕ) (w : SeatKnows) → ((j : ℕ) (u : SeatKnows) → j ≢ by → get_elem? views j ≡ some u → SeesFront seat now j u) → SeesFront seat now by w → (j : ℕ) (u : SeatKnows) → get_elem? (set views by w) j ≡ some u → SeesFront seat now j u
 fits_set seat log now views by w others mine j u e =
@@ -97,7 +95,7 @@ halves keeps by v words views (seat, log, near, last, num, fits) here =
       num,
       λ j u e. ⊎_elim
           (λ was. fits j u (subst (λ l. get_elem? l j ≡ some u) (set_again views by v here) was))
-          (λ (same : reading_seat v.seen ≡ u). subst (SeesFront seat log j) same (mine.0, prefix_none log, (λ k. absurd (off k))))
+          (λ (same : reading_seat v.seen ≡ u). subst (SeesFront seat log j) same (mine.0, prefix_none log, (λ k. absurd (false≢true k))))
           (at_snoc (set views by v) (reading_seat v.seen) u j e),
     )
 
@@ -118,7 +116,7 @@ meets keeps by v other w words views (seat, log, near, last, num, fits) here apa
       num,
       fits_set seat log log (set views by (having_met v w.seen)) other spent_seat
           (λ j u not_other e. fits_set seat log log views by (having_met v w.seen) (λ i s not_by is. fits i s is) (mine.0, theirs.0, mine.2) j u e)
-          (prefix_none log, prefix_none log, (λ k. absurd (off k))),
+          (prefix_none log, prefix_none log, (λ k. absurd (false≢true k))),
     )
 
 -- the one that publishes has seen all, and so no less than one that it met

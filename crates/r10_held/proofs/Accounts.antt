@@ -195,7 +195,3 @@ module _ {L : Type 0} (spec_of : L → ChannelSpec) (received_of : L → List Sa
   all_new (o ∷ lanes) none = (one_new (spec_of o) o refl none.0, all_new lanes none.1)
 
 -- ---- parts without samples
-
-pub nothing_in : (parts : List Part) → AllByRecursion (λ (p : Part). p.samples ≡ []) parts → entries_of parts ≡ []
-nothing_in [] none = refl
-nothing_in (p ∷ parts) none = ap (λ (l : List Sample). entries_on p.channel l ++ entries_of parts) none.0 ∙ nothing_in parts none.1

@@ -1,14 +1,13 @@
 -- Calls keep what is known of what a lock keeps.
-use Rattle.std.proofs.Common.{◌≡◌, ℕ, ◌+◌, ◌-◌, ◌^◌, List, [], ◌∷◌, ◌++◌, length, min, Option, None, Some, Result, Ok, Err, refl, sym, ap, subst, ◌∙◌, inl, inr, ⊎_elim, length-append, arith}
+use Rattle.std.proofs.Common.{◌≡◌, ℕ, ◌+◌, ◌-◌, ◌^◌, List, [], ◌∷◌, ◌++◌, length, min, Option, None, Some, Result, Ok, Err, sym, ap, subst, ◌∙◌, inl, inr, ⊎_elim, length-append, arith}
 use Rattle.std.specs.Prelude.{IfErr, OnOk, MatchResult}
-use Rattle.std.specs.List.{AllByRecursion}
 use Rattle.std.proofs.lemmas.List.{append-nil}
-use Rattle.r10_body.specs.Files.{on_channel}
 use Rattle.r10_body.specs.declared.entry.Entry.{Entry}
 use Rattle.r10_body.specs.declared.entry.Sample.{Sample}
 use Rattle.r10_body.specs.declared.refusal.Glance.{Glance}
 use Rattle.r10_body.specs.declared.refusal.Refusal.{Refusal}
 use Rattle.r10_body.specs.declared.spec.ChannelSpec.{ChannelSpec}
+use Rattle.r10_body.proofs.ChannelLists.{none_on_any}
 use Rattle.r10_control.specs.Checks.{recorder_refusal}
 use Rattle.r10_control.specs.Effects.{CommitEffect, EraseEffect, PumpEffect, StartEffect}
 use Rattle.r10_control.specs.Own.{AreOwn, OwnGrow, OwnStay}
@@ -16,6 +15,7 @@ use Rattle.r10_control.specs.Refused.{RefusesCall, RefusesOpen}
 use Rattle.r10_control.specs.State.{RecorderState}
 use Rattle.r10_control.specs.Taking.{RefusesReadied, StepsByTaking, Part, TookAll, entries_of}
 use Rattle.r10_control.specs.Told.{last_shown}
+use Rattle.r10_control.proofs.Stops.{none_of}
 use Rattle.r10_gauge.specs.Published.{commits_of}
 use Rattle.r10_machine.specs.declared.event.Event.{Event as EventValue}
 use Rattle.r10_machine.specs.declared.event.Event.TheVariants as events
@@ -29,7 +29,7 @@ use Rattle.r10_held.specs.Account.{Accounted, ChannelAccounts, ChannelBounds, Is
 use Rattle.r10_held.specs.LockFact.{LanesAccounted, LockFact, outlet_received, outlet_spec}
 use Rattle.r10_held.specs.Naming.{AreNamed, ChannelRing, ring_for}
 use Rattle.r10_held.specs.Publishing.{LastIsShown, next_triple, triple_of}
-use Rattle.r10_held.proofs.Accounts.{all_erased, all_stay, all_stay_within, all_take, all_within, none_grown, nothing_in}
+use Rattle.r10_held.proofs.Accounts.{all_erased, all_stay, all_stay_within, all_take, all_within, none_grown}
 use Rattle.r10_held.proofs.Leavings.{FailedOrSettles, KeepsNumbers, SameOrFailed, Settles, TellsStill, answered, call_tells, commit_left, erase_turns, open_tells, pump_refused, pump_tells, refused_left, settles_so, start_left, stop_refused, tells_after, where_done, where_refused, works}
 use Rattle.r10_gauge.proofs.Steps.{last_triple_push as last_behind}
 
@@ -114,7 +114,7 @@ module _ {M L : Type 0} (disk : M → Disk) (spec_of : L → ChannelSpec) (recei
         (λ settles. let same = settles.0.numbers.numbers in
         ⊎_elim (λ failing. absurd (settles.1 failing))
         (λ none. taken_accounted takes.parts takes.taken same.1 takes.own config
-        (λ own each. rw (nothing_in takes.parts none, same.0) (none_grown spec_of received_of own old.kept.config.channels old.kept.taken old.kept.erased old.lanes each)) (λ fails. (settles.0.numbers.fails fails, same.0)) was)
+        (λ own each. rw (none_of takes.parts none, same.0) (none_grown spec_of received_of own old.kept.config.channels old.kept.taken old.kept.erased old.lanes each)) (λ fails. (settles.0.numbers.fails fails, same.0)) was)
         takes.none)
         left
 
@@ -126,15 +126,11 @@ module _ {M L : Type 0} (disk : M → Disk) (spec_of : L → ChannelSpec) (recei
 
 -- ---- a call that only read
 
-none_behind : (specs : List ChannelSpec) → AllByRecursion (λ (spec : ChannelSpec). on_channel spec.id [] ≡ []) specs
-none_behind [] = tt
-none_behind (spec ∷ specs) = (refl, none_behind specs)
-
 pub reads_own : (k later : Kept) (old new : Image) → SameOrFailed k later → new ≡ old → OwnStay k old later new
 reads_own k later old new left same = record {
   more = [];
   own = ⊎_elim (λ kept. inr (λ own is. subst (λ (x : Kept). AreOwn x new (own ++ [])) (sym kept) (rw (same, append-nil own) is))) (λ fails. inl (ap (λ (x : Kept). x.work) fails)) left;
-  others = none_behind k.config.channels;
+  others = none_on_any k.config.channels;
 }
 
 -- ---- over outlets

@@ -2,6 +2,7 @@
 use Rattle.std.proofs.Common.{◌≡◌, ◌≤◌, ◌<◌, ◌+◌, ℕ, List, [], ◌∷◌, ◌++◌, length, take, drop, get_or, sym, ap, ◌∙◌, subst}
 use Rattle.std.specs.List.{AllByRecursion}
 use Rattle.std.proofs.lemmas.List.{append-nil, drop_more, take-append-drop, take_all, take_more}
+use Rattle.r10_count.proofs.Lists.{all_more}
 use Rattle.r10_body.specs.declared.refusal.Refusal.{Refusal}
 use Rattle.r10_refinement.specs.Kept.{Work}
 use Rattle.r10_medium.specs.Disk.{Image}
@@ -9,17 +10,13 @@ use Rattle.r10_held.specs.Auditing.{AreAbsentOrRead, IsAbsentOrRead, IsAuditRefu
 use Rattle.r10_held.specs.Transcripts.{Agrees, AllAgree}
 use Rattle.r10_held.specs.declared.transcript.Transcript.{Transcript}
 
-one_more : {X : Type 0} (P : X → Type 0) (front : List X) (x : X) → AllByRecursion P front → P x → AllByRecursion P (front ++ x ∷ [])
-one_more P [] x all is = (is, tt)
-one_more P (y ∷ front) x all is = (all.0, one_more P front x all.1 is)
-
 split_at : {X : Type 0} (xs : List X) (i : ℕ) (d : X) → i < length xs → xs ≡ take i xs ++ get_or xs i d ∷ drop (i + 1) xs
 split_at xs i d lt = sym (take-append-drop i xs) ∙ ap (λ (l : List _). take i xs ++ l) (drop_more xs i d lt)
 
 -- one transcript more agrees
 pub agree_further : (work : Work) (image : Image) (ts : List Transcript) (i : ℕ) (t : Transcript) → i < length ts → t ≡ get_or ts i t → AllAgree work image (take i ts) → Agrees work image t → AllAgree work image (take (i + 1) ts)
 agree_further work image ts i t lt is all agrees =
-    subst (AllAgree work image) (sym (take_more ts i t lt)) (one_more (Agrees work image) (take i ts) (get_or ts i t) all (subst (Agrees work image) is agrees))
+    subst (AllAgree work image) (sym (take_more ts i t lt)) (all_more (Agrees work image) (take i ts) (get_or ts i t) all (subst (Agrees work image) is agrees))
 
 -- the first that is refused
 pub first_refused : (work : Work) (image : Image) (ts : List Transcript) (i : ℕ) (t : Transcript) (r : Refusal) → i < length ts → t ≡ get_or ts i t → AllAgree work image (take i ts) → IsAuditRefusal work image t.file r
@@ -47,7 +44,7 @@ in_front work image (t ∷ front) rest all is = (all.0, λ agrees. in_front work
 pub asked_further : (work : Work) (image : Image) (ts : List Transcript) (i : ℕ) (t : Transcript) → i < length ts → t ≡ get_or ts i t → AllAbsentOrRead work image (take i ts) → IsAbsentOrRead work image t.file → AllAbsentOrRead work image (take (i + 1) ts)
 asked_further work image ts i t lt is all there =
     subst (AllAbsentOrRead work image) (sym (take_more ts i t lt))
-    (one_more (λ (x : Transcript). IsAbsentOrRead work image x.file) (take i ts) (get_or ts i t) all (subst (λ (x : Transcript). IsAbsentOrRead work image x.file) is there))
+    (all_more (λ (x : Transcript). IsAbsentOrRead work image x.file) (take i ts) (get_or ts i t) all (subst (λ (x : Transcript). IsAbsentOrRead work image x.file) is there))
 
 -- up to one that doesn't agree
 pub asked_until : (work : Work) (image : Image) (ts : List Transcript) (i : ℕ) (t : Transcript) → i < length ts → t ≡ get_or ts i t → AllAbsentOrRead work image (take i ts) → IsAbsentOrRead work image t.file → (Agrees work image t → ⊥) → AreAbsentOrRead work image ts

@@ -2,11 +2,12 @@
 use Rattle.std.proofs.Common.{◌≡◌, ℕ, zero, suc, ◌+◌, ◌-◌, ◌*◌, ◌/◌, ◌%◌, ◌^◌, ◌<◌, ◌≤◌, ◌⊎◌, inl, inr, Bool, true, false, cond, ◌&&◌, List, [], ◌∷◌, ◌++◌, length, take, drop, refl, sym, ap, subst, ◌∙◌, arith, append_assoc, Option, None, Some}
 use Rattle.std.specs.Prelude.{count_by, filter, min, nat_lt}
 use Rattle.std.specs.List.{AllByRecursion}
-use Rattle.std.proofs.lemmas.Bool.{le-leb, ltb-false, ltb-true}
+use Rattle.std.proofs.lemmas.Bool.{false≢true, le-leb, lt-ltb, ltb-false, ltb-true}
 use Rattle.std.proofs.lemmas.List.{append-nil, length-append, length-drop, length-take}
 use Rattle.std.proofs.lemmas.List.Elements.{filter-append, recursion_from_All, All-from_recursion, All-drop, All-take}
 use Rattle.std.proofs.lemmas.List.Sums.{length-filter}
 use Rattle.r10_count.specs.Count.{IsCount}
+use Rattle.r10_count.proofs.Lists.{all_more}
 use Rattle.r10_indexbody.specs.Index.{FitsNode, FitsRoot}
 use Rattle.r10_indexbody.specs.declared.entry.NodeEntry.{NodeEntry}
 use Rattle.r10_indexbody.specs.declared.entry.RootEntry.{RootEntry}
@@ -18,16 +19,13 @@ use Rattle.r10_body.specs.Rules.{MayFollow, EachFollows, IsFile, Rise, is_time, 
 use Rattle.r10_body.specs.Sequence.{next_sequence}
 use Rattle.r10_body.proofs.ChannelLists.{rises}
 use Rattle.r10_body.proofs.Groups.{unnamed_with, none_unnamed, root_with, root_before, size_stays, size_grows, size_of_node, size_of_root}
-use Rattle.r10_body.proofs.Indexes.{counted, counted_first, counted_yes, counted_no, index_long, no_nodes, no_roots, none_at, not_whole, part_of}
+use Rattle.r10_body.proofs.Indexes.{counted, counted_first, counted_yes, counted_no, index_long, no_nodes, no_roots, none_at, not_whole, part_of, entries_length}
 use Rattle.r10_body.proofs.Lengths.{last_with}
 use Rattle.r10_body.proofs.Lone.{packet-length}
 use Rattle.r10_body.proofs.Reporting.{time_fits}
 use Rattle.r10_body.proofs.Rules.{follows_more, follows_fit, bytes_more}
 use Rattle.r10_body.proofs.Sentences.{type_fits, rest_length}
 use Rattle.r10_index.specs.Written.{node_packet, group_nodes, node_count, root_entries, link_of, root_packet, groups, index_of, IsGroup}
-
-no : false ≡ true → ⊥
-no e = cc
 
 -- ---- what the packets of data are
 
@@ -70,10 +68,6 @@ no_link_here offset own [] none = refl
 no_link_here offset own (p ∷ ps) none = no_link_at offset own p ps (is_root p) refl none (λ left. no_link_here (offset + length (packet_bytes p)) own ps left)
 
 -- ---- the entries
-
-pub entries_length : (offset : ℕ) (ps : List Packet) → length (node_entries offset ps) ≡ length ps
-entries_length offset [] = refl
-entries_length offset (p ∷ ps) = omega (arith, entries_length (offset + length (packet_bytes p)) ps)
 
 -- the entries of packets that fit have their fields in range
 pub entries_fit : (offset : ℕ) (ps : List Packet) → AllByRecursion FitsPacket ps → offset + length (file_bytes ps) < 2 ^ 64 → AllByRecursion FitsNode (node_entries offset ps)
@@ -177,7 +171,7 @@ node_follows ps per n number start link nodes before fits short s less left =
         short = omega (arith, rest_length p, node_length part, size);
       };
       checksums = λ _. refl;
-      start = ((λ e. absurd (no e), λ e. absurd (omega (arith, e, s.some))), λ e. absurd (omega (arith, e, s.some)));
+      start = ((λ e. absurd (false≢true e), λ e. absurd (omega (arith, e, s.some))), λ e. absurd (omega (arith, e, s.some)));
       channels = ((λ _. refl, λ _. refl), λ lt. absurd (omega arith), λ _. refl);
       sequence = sym s.zeros;
       counts = (tt, nothing_more before s.each, tt);
@@ -192,10 +186,6 @@ grouped_more : (link : Option ℕ) (per n m : ℕ) (before : List Packet) (p : P
 grouped_more None per n m before p node other g =
     (omega (arith, g.0, counted is_root before p, counted_no is_root p other), g.1, omega (arith, size_grows before p g.0, size_of_node p node other, g.2))
 grouped_more (Some at) per n m before p node other g = (omega (arith, g.0, counted is_root before p), size_stays before p g.0 ∙ g.1)
-
-all_push : {A : Type 0} (P : A → Type 0) (xs : List A) (x : A) → AllByRecursion P xs → P x → AllByRecursion P (xs ++ x ∷ [])
-all_push P [] x all here = (here, tt)
-all_push P (y ∷ ys) x all here = (all.0, all_push P ys x all.1 here)
 
 -- all that stands before is short enough for offsets of 64 bits
 in_64 : (size count start n bytes m : ℕ) → size < 2 ^ 63 → 24 * count ≤ size → start ≤ size + 2088 * n → bytes ≤ 2028 * m → 100 * (n + m) < count + 100 → start + bytes < 2 ^ 64
@@ -226,7 +216,7 @@ node_stands ps per n number start link nodes before fits short s left may =
       low = s.low;
       short = omega (arith, s.short, long, one, node_bytes (last_time 0 ps) (number + length nodes) (node_entries 0 ps) (n + length nodes));
       fit = subst (λ (es : List RootEntry). AllByRecursion FitsRoot es) (sym names)
-          (all_push FitsRoot (root_entries start nodes) (root_entry_of (start + length (file_bytes nodes)) p) s.fit (record { counter = time_fits 0 ps (omega arith) fits; offset = within }));
+          (all_more FitsRoot (root_entries start nodes) (root_entry_of (start + length (file_bytes nodes)) p) s.fit (record { counter = time_fits 0 ps (omega arith) fits; offset = within }));
       grouped = subst (λ k. Grouped link per n k (before ++ p ∷ [])) (sym one) (grouped_more link per n (length nodes) before p refl refl s.grouped);
       root = λ own. root_before own before p refl ∙ s.root own;
       linked = s.linked;
@@ -292,12 +282,12 @@ root_follows ps per n number start link nodes before fits short s filled few lef
         content = record {
           some = omega (arith, size);
           counted = omega (arith, size, few);
-          fields = all_push FitsRoot (root_entries start nodes) last s.fit (s.linked own (record { counter = stamped; offset = within }));
+          fields = all_more FitsRoot (root_entries start nodes) last s.fit (s.linked own (record { counter = stamped; offset = within }));
         };
         short = omega (arith, rest_length p, root_length names, size, few);
       };
       checksums = λ _. refl;
-      start = ((λ e. absurd (no e), λ e. absurd (omega (arith, e, s.some))), λ e. absurd (omega (arith, e, s.some)));
+      start = ((λ e. absurd (false≢true e), λ e. absurd (omega (arith, e, s.some))), λ e. absurd (omega (arith, e, s.some)));
       channels = ((λ _. refl, λ _. refl), λ lt. absurd (omega arith), λ _. refl);
       sequence = sym s.zeros;
       counts = (tt, nothing_more before s.each, tt);
@@ -351,7 +341,7 @@ root_stands ps per n number start link nodes before fits short s filled left who
 
 -- ---- all groups
 
-closed_last : (b : Bool) (ps : List Packet) (p : Packet) → closed_from b (ps ++ p ∷ []) ≡ is_root p
+pub closed_last : (b : Bool) (ps : List Packet) (p : Packet) → closed_from b (ps ++ p ∷ []) ≡ is_root p
 closed_last b [] p = refl
 closed_last b (q ∷ ps) p = closed_last (is_root q) ps p
 
@@ -362,10 +352,6 @@ pub record IsWhole (packets : List Packet) : Type 0 where
   pub named : all_named packets ≡ true
   pub some : 2 ≤ length packets
   pub quiet : last_report packets ≡ None
-
-pub lt_is : (a b : ℕ) (c : Bool) → nat_lt a b ≡ c → a < b → nat_lt a b ≡ true
-lt_is a b true e lt = e
-lt_is a b false e lt = absurd (omega (arith, lt, ltb-false a b e))
 
 pub nlt_is : (a b : ℕ) (c : Bool) → nat_lt a b ≡ c → b ≤ a → nat_lt a b ≡ false
 nlt_is a b true e le = absurd (omega (arith, le, ltb-true a b e))
@@ -459,7 +445,7 @@ groups_follow (suc more) per ps n number start link before fits short is s left 
     let next = own + length (packet_bytes last) in
     let rest = groups more per counter (number + m + 1) next (Some own) entries (n + m) in
     let size = next_size per n count m is.0 left refl in
-    let step : groups (suc more) per counter number start link entries n ≡ (nodes ++ last ∷ []) ++ rest = ap (λ b. cond b ((nodes ++ last ∷ []) ++ rest) []) (lt_is n count (nat_lt n count) refl left) in
+    let step : groups (suc more) per counter number start link entries n ≡ (nodes ++ last ∷ []) ++ rest = ap (λ b. cond b ((nodes ++ last ∷ []) ++ rest) []) (lt-ltb n count left) in
     let joined : ended ++ rest ≡ before ++ groups (suc more) per counter number start link entries n =
     append_assoc (before ++ nodes) (last ∷ []) rest ∙ split_group before nodes last rest ∙ ap (λ (qs : List Packet). before ++ qs) (sym step) in
     subst (λ (qs : List Packet). IsWhole qs) joined (split_lt (n + m) count (nat_lt (n + m) count) refl
@@ -491,7 +477,7 @@ index_closes per ps is file unclosed short =
       quiet = file.reports;
     } in
     let whole = groups_follow count per ps 0 (next_sequence 0 ps) (length (file_bytes ps)) None ps fits short is stands (omega (arith, count_is ps, file.start)) (omega arith) in (
-      record { each = whole.each; start = whole.some; index = λ e. absurd (no (sym e ∙ both (is_closed_file (ps ++ index_of per ps)) (all_named (ps ++ index_of per ps)) whole.closed whole.named)); reports = whole.quiet },
+      record { each = whole.each; start = whole.some; index = λ e. absurd (false≢true (sym e ∙ both (is_closed_file (ps ++ index_of per ps)) (all_named (ps ++ index_of per ps)) whole.closed whole.named)); reports = whole.quiet },
       whole.closed,
     )
   where

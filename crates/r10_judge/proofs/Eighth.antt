@@ -18,11 +18,11 @@ use Rattle.r10_body.specs.Vectors.{data_packets, data-len, a_node_packet}
 use Rattle.r10_body.specs.declared.entry.Entry.{Entry}
 use Rattle.r10_body.specs.declared.fault.FileFault.TheVariants.{Rule}
 use Rattle.r10_packet_rules.proofs.Written.{packet_foreign}
-use Rattle.r10_body.proofs.Indexes.{counted, no_nodes}
+use Rattle.r10_body.proofs.Indexes.{counted, entries_length, no_nodes}
 use Rattle.r10_body.proofs.Lengths.{last_with}
 use Rattle.r10_body.proofs.Rules.{follows_more, follows_fit, bytes_more, entries_more}
 use Rattle.r10_body.proofs.Sentences.{rest_length}
-use Rattle.r10_file_rules.proofs.OnIndex.{entries_fit, entries_length}
+use Rattle.r10_file_rules.proofs.OnIndex.{entries_fit}
 use Rattle.r10_file_rules.specs.Broken as broken_later
 use Rattle.r10_judge.specs.Judged.{KeepRules, BreaksIn, broken_rule, in_open_file, stopped_at}
 use Rattle.r10_judge.specs.Copies.{copy, copies, node_of_99}

@@ -1,5 +1,5 @@
 -- Parts of a file's bytes, and what is known of them.
-use Rattle.std.proofs.Common.{◌≡◌, ℕ, zero, suc, ◌+◌, ◌-◌, ◌*◌, ◌^◌, ◌<◌, ◌≤◌, inl, inr, List, [], ◌++◌, length, take, drop, Bool, true, false, Option, Some, None, IfSome, Result, Ok, Err, IfOk, is_some, refl, sym, ap, ◌∙◌, subst, arith, append_assoc, take_all}
+use Rattle.std.proofs.Common.{◌≡◌, ℕ, zero, suc, ◌+◌, ◌-◌, ◌*◌, ◌^◌, ◌<◌, ◌≤◌, inl, inr, List, [], ◌++◌, length, take, drop, Bool, true, false, Option, Some, None, IfSome, Result, Ok, Err, IfOk, is_some, refl, sym, ap, ◌∙◌, subst, arith, append_assoc}
 use Rattle.std.specs.List.{concat}
 use Rattle.std.proofs.Math.Seq.{take-add}
 use Rattle.std.proofs.lemmas.Bool.{cases_lt}
@@ -21,9 +21,6 @@ use Rattle.r10_judge.specs.declared.extent.Extent.{Extent}
 use Rattle.r10_judge.proofs.Answering.{report_answered_faulty}
 
 -- ---- what is taken
-
-pub rest_is : (bytes : List ℕ) (at : ℕ) → take (length bytes - at) (drop at bytes) ≡ drop at bytes
-rest_is bytes at = take_all (length bytes - at) (drop at bytes) (omega (arith, length-drop at bytes))
 
 -- a packet further on
 pub taken_on : (before bytes rest : List ℕ) (done n : ℕ) → rest ≡ drop done bytes → (before ++ take done bytes) ++ take n rest ≡ before ++ take (done + n) bytes

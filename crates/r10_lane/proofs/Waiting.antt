@@ -29,7 +29,7 @@ refused_before_room lane count message r e = (
   ap (λ (first : Option Refusal). if is_none first then overflowed lane else lane) (sym e),
 )
 
-not_before : (last : Option ℕ) (count : ℕ) → is_not_before last count ≡ true → count_or_0 last ≤ count
+pub not_before : (last : Option ℕ) (count : ℕ) → is_not_before last count ≡ true → count_or_0 last ≤ count
 not_before None count fine = omega arith
 not_before (Some n) count fine = leb-true n count fine
 
@@ -68,7 +68,7 @@ reached_in_range last (x ∷ xs) climbs range = omega (arith, least x.count (cou
 
 -- ---- without the first
 
-raised : (low lower : ℕ) (ns : List ℕ) (high : ℕ) → lower ≤ low → Climbs low ns high → Climbs lower ns high
+pub raised : (low lower : ℕ) (ns : List ℕ) (high : ℕ) → lower ≤ low → Climbs low ns high → Climbs lower ns high
 raised low lower [] high less climbs = omega (arith, less, climbs)
 raised low lower (n ∷ ns) high less (first, climbs) = (omega (arith, less, first), climbs)
 

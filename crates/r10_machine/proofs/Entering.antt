@@ -1,5 +1,5 @@
 -- What its own files hold, and where channels stand apart.
-use Rattle.std.proofs.Common.{◌≡◌, ◌≤◌, ◌<◌, ℕ, true, false, List, [], ◌∷◌, ◌++◌, map, length, Option, Some, None, refl, sym, ◌∙◌, subst, arith, IsSomeAnd, true≢false, ◌==◌, nat_le, nat_lt, slice_get, count_by, lit<}
+use Rattle.std.proofs.Common.{◌≡◌, ◌≤◌, ◌<◌, ℕ, true, false, List, [], ◌∷◌, ◌++◌, map, length, Option, Some, None, refl, sym, ap, ◌∙◌, subst, arith, IsSomeAnd, true≢false, ◌==◌, nat_le, nat_lt, slice_get, count_by, lit<}
 use Rattle.std.specs.List.{AllByRecursion, IsDistinct}
 use Rattle.std.proofs.Math.Nat.{mod-lt}
 use Rattle.std.proofs.lemmas.List.{length-append}
@@ -19,7 +19,7 @@ use Rattle.r10_body.specs.declared.refusal.Refusal.TheVariants.{CountRange, Coun
 use Rattle.r10_body.specs.declared.spec.ChannelSpec.{ChannelSpec}
 use Rattle.r10_machine.specs.Config.{Config}
 use Rattle.r10_machine.specs.Limits.{IsConfig, channel_ids}
-use Rattle.r10_machine.specs.Machine.{Lane, File, with_entries}
+use Rattle.r10_machine.specs.Machine.{Lane, File, with_entries, fresh_lane}
 use Rattle.r10_machine.specs.Room.{cost_of, area}
 use Rattle.r10_machine.specs.Checks.{message_checks, count_checks, is_not_before}
 use Rattle.r10_machine.specs.Calls.{closed_whole, shown_whole}
@@ -172,3 +172,8 @@ pub events_climb : (s : Config) (e : Entry) (files : List File) (high : ℕ) →
 events_climb s e files high its order climbs =
     let one : on_channel s.event (e ∷ []) ≡ e ∷ [] = rw (eq-eqb e.channel s.event its) refl in
     subst (λ (l : List Entry). Climbs 0 (counts_on s.event files ++ entry_counts l) e.count) (sym one) (climbs_push 0 (counts_on s.event files) high e.count order climbs)
+
+-- lanes of which nothing has come are of these channels
+pub specs_of_fresh : (specs : List ChannelSpec) → map (λ (lane : Lane). lane.spec) (map fresh_lane specs) ≡ specs
+specs_of_fresh [] = refl
+specs_of_fresh (x ∷ specs) = ap (λ (xs : List ChannelSpec). x ∷ xs) (specs_of_fresh specs)

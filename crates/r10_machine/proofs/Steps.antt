@@ -122,7 +122,7 @@ lost_sound event (old ∷ olds) (end ∷ ends) (new ∷ news) ((n, most, is), af
 lost_sound event olds ends news after all = absurd after
 
 -- files that show the same
-same_heads : (new end : File) (news ends : List File) → map shown_part (new ∷ news) ≡ map shown_part (end ∷ ends) → (shown_part new ≡ shown_part end) × (map shown_part news ≡ map shown_part ends)
+pub same_heads : (new end : File) (news ends : List File) → map shown_part (new ∷ news) ≡ map shown_part (end ∷ ends) → (shown_part new ≡ shown_part end) × (map shown_part news ≡ map shown_part ends)
 same_heads new end news ends same = (cc, cc)
 
 parts_shown : (news ends : List File) → map shown_part news ≡ map shown_part ends → AllByRecursion (λ f. f.shown ≤ length f.entries) ends → AllByRecursion (λ f. f.shown ≤ length f.entries) news

@@ -48,7 +48,7 @@ first_of_two : (P : Entry → Type 0) (xs ys : List Entry) → IsSomeAnd (slice_
 first_of_two P [] ys is = absurd is
 first_of_two P (x ∷ xs) ys is = is
 
-none_of : (parts : List Part) → AllByRecursion (λ (q : Part). q.samples ≡ []) parts → entries_of parts ≡ []
+pub none_of : (parts : List Part) → AllByRecursion (λ (q : Part). q.samples ≡ []) parts → entries_of parts ≡ []
 none_of [] none = refl
 none_of (p ∷ parts) none = rw (none.0, none_of parts none.1) refl
 

@@ -16,9 +16,9 @@ use Rattle.r10_builder.specs.Grows.{HasNone, all_held, taken_in}
 use Rattle.r10_builder.specs.Next.{setup_packet, time_packet}
 use Rattle.r10_builder.proofs.Following.{begins}
 use Rattle.r10_builder.specs.Settings.{AreChannelSettings, specs_of}
+use Rattle.r10_builder.proofs.Places.{none_other}
 use Rattle.r10_packetout.specs.Output.{Has, Writing}
 use Rattle.r10_packetout.specs.Carries.{EventsAreCounted, Records, Recording, Says, StandApart, time_entry_at}
-use Rattle.r10_packetout.proofs.Own.{keeps_none}
 
 -- no builder has the setup's channel
 none_on_zero : (least : ℕ) (builders : List BuilderState) → AreChannelSettings least (specs_of builders) → HasNone 0 builders
@@ -42,7 +42,7 @@ begun_says r text count civil out apart are none counted short counts is =
     record {
       packed = record {
         growing = begins text r.time count civil short above apart.times.1 counts is;
-        kept = (keeps_none s r.builders (none_on_zero 0 r.builders are), (keeps_none t r.builders apart.time, tt));
+        kept = (none_other s r.builders (none_on_zero 0 r.builders are), (none_other t r.builders apart.time, tt));
         rise = λ channel. subst (λ (es : List Entry). Rise 0 (on_channel channel es)) (sym all) (rises_alone e channel (e.channel == channel) refl);
       };
       times = (λ same. absurd (omega (arith, above, same)), (λ same. refl, tt));

@@ -1,17 +1,17 @@
 -- What a file carries, with entries more.
 use Rattle.std.proofs.Common.{◌≡◌, ℕ, ◌+◌, ◌<◌, ◌≤◌, Bool, true, false, ◌==◌, List, [], ◌∷◌, ◌++◌, length, map, take, None, refl, sym, ap, subst, ◌∙◌, arith}
-use Rattle.std.specs.Prelude.{cond}
 use Rattle.std.specs.List.{sum_by}
 use Rattle.std.proofs.lemmas.Bool.{eqb-true}
 use Rattle.std.proofs.lemmas.List.{append-nil, length-append, take-append-le}
 use Rattle.std.proofs.lemmas.List.Elements.{filter-append}
 use Rattle.std.proofs.lemmas.List.Sums.{sum_by-append}
+use Rattle.r10_count.proofs.Lists.{all_more}
 use Rattle.r10_medium.specs.Disk.{Image}
 use Rattle.r10_body.specs.Content.{type_of}
 use Rattle.r10_body.specs.Cost.{entry_cost, file_cost}
 use Rattle.r10_body.specs.Files.{PacketsSay, on_channel}
 use Rattle.r10_body.specs.Packets.{Packet, file_bytes, file_entries}
-use Rattle.r10_body.specs.Rules.{is_entry_on, is_time, last_time}
+use Rattle.r10_body.specs.Rules.{is_entry_on, last_time}
 use Rattle.r10_body.specs.declared.entry.Entry.{Entry}
 use Rattle.r10_body.specs.declared.gap.Gap.{Gap}
 use Rattle.r10_body.specs.declared.gap.Gap.TheVariants.{Whole, Lost, Unknown}
@@ -22,10 +22,10 @@ use Rattle.r10_builder.specs.declared.closed.Closed.{Closed}
 use Rattle.r10_builder.specs.Grows.{Grows, HasNone, all_held, taken_in}
 use Rattle.r10_builder.specs.Next.{HasType, grown_by, report_packet, reporting}
 use Rattle.r10_body.specs.Sequence.{numbered}
+use Rattle.r10_index.proofs.Behind.{last_more}
 use Rattle.r10_builder.proofs.Following.{says_so}
 use Rattle.r10_builder.proofs.Growing.{cost_more}
 use Rattle.r10_builder.specs.Packed.{HandsOn, TakesInSamples}
-use Rattle.r10_builder.proofs.Lists.{all_more}
 use Rattle.r10_builder.proofs.Taking.{entries_same}
 use Rattle.r10_packetout.specs.Output.{Has, Writing}
 use Rattle.r10_packetout.specs.Carries.{Records, HasNoEvents, Recording, Says, StandApart}
@@ -44,10 +44,6 @@ costs_more text packets packets' builders builders' more cost is grows =
     ap (λ n. n + sum_by entry_cost more) is ∙ sym (cost_more text packets builders more packets' builders' grows)
 
 -- ---- one packet more
-
-pub last_same : (counter : ℕ) (packets : List Packet) (p : Packet) → is_time p ≡ false → last_time counter (packets ++ p ∷ []) ≡ last_time counter packets
-last_same counter [] p off = rw off refl
-last_same counter (q ∷ packets) p off = last_same (cond (is_time q) q.counter counter) packets p off
 
 not_at : (type n : ℕ) (b : Bool) → type == n ≡ b → n + 1 ≤ type → type == n ≡ false
 not_at type n true e lt = absurd (omega (arith, lt, eqb-true type n e))
@@ -75,7 +71,7 @@ front_of packets p (Lost n) e two =
     let front : IsFront packets (packets ++ r ∷ []) = record {
       some = omega (arith, two, length-append packets (r ∷ []));
       first = take-append-le 1 packets (r ∷ []) (omega (arith, two));
-      time = last_same 0 packets r refl;
+      time = last_more 0 packets r refl;
       types = λ channel type above has. all_more (λ (q : Packet). q.channel ≡ channel → type_of q.content ≡ type) packets r has (λ is. absurd (omega (arith, above, is)));
     } in
     rw e front
@@ -118,7 +114,7 @@ packet_said r packets text entries more builders says apart plain closed hands o
       events = type_more r.event 0x02 before p r.builders (front.types r.event 0x02 apart.events.0 says.events) apart.event hands.on;
       setup_is = ap (λ (ps : List Packet). map (λ (q : Packet). q.content) ps) (take-append-le 1 before (p ∷ []) front.some ∙ front.first) ∙ says.setup_is;
       entries_are = entries_more packets now r.builders builders entries more says.entries_are hands.grows;
-      clock_is = last_same 0 before p (not_at (type_of hands.packet.content) 0x11 (type_of hands.packet.content == 0x11) refl (omega (arith, hands.data_type))) ∙ front.time ∙ says.clock_is;
+      clock_is = last_more 0 before p (not_at (type_of hands.packet.content) 0x11 (type_of hands.packet.content == 0x11) refl (omega (arith, hands.data_type))) ∙ front.time ∙ says.clock_is;
       messages = held_closed packets now r.builders builders more p says.messages plain (no_events p (not_at (type_of hands.packet.content) 2 (type_of hands.packet.content == 2) refl (omega (arith, hands.data_type))))
           (entries_same packets hands.packet ∙ packet_entries_more packets p) hands.grows;
       counts_are = counted_on r.counts entries more says.counts_are plain;

@@ -1,7 +1,7 @@
 -- How many events there are, where entries are taken in.
-use Rattle.std.proofs.Common.{◌≡◌, ℕ, ◌+◌, ◌%◌, ◌<◌, Bool, true, false, cond, ◌==◌, List, [], ◌∷◌, ◌++◌, length, map, find, get_or, set, Option, Some, None, ◌≤◌, refl, sym, ap, ◌∙◌, arith}
+use Rattle.std.proofs.Common.{◌≡◌, ℕ, ◌+◌, ◌%◌, ◌<◌, Bool, true, false, cond, ◌==◌, List, [], ◌∷◌, ◌++◌, length, find, get_or, set, Option, Some, None, ◌≤◌, refl, sym, ap, ◌∙◌, arith}
 use Rattle.std.specs.Prelude.{count_by, IsSomeAnd}
-use Rattle.std.proofs.lemmas.Bool.{eqb-true, eq-eqb}
+use Rattle.std.proofs.lemmas.Bool.{eqb-true, eq-eqb, false≢true}
 use Rattle.std.proofs.lemmas.List.{get_or-set_same, get_or-set_other}
 use Rattle.std.proofs.lemmas.List.Elements.{filter-append}
 use Rattle.std.proofs.lemmas.List.Sums.{sum_by-append}
@@ -9,18 +9,16 @@ use Rattle.r10_body.specs.Content.{Content, setup, time, event, uart, bus, arinc
 use Rattle.r10_body.specs.Files.{on_channel}
 use Rattle.r10_body.specs.Gaps.{IsSoundGap}
 use Rattle.r10_body.specs.Messages.{channel_refusal, is_kind}
-use Rattle.r10_body.specs.Packets.{Packet, with_gaps, packet_entries, file_entries}
+use Rattle.r10_body.specs.Packets.{Packet, packet_entries, file_entries}
 use Rattle.r10_body.specs.Rules.{is_entry_on, is_event_of}
 use Rattle.r10_body.specs.declared.entry.Entry.{Entry}
 use Rattle.r10_body.specs.declared.entry.Sample.{Sample}
-use Rattle.r10_body.specs.declared.entry.Timed.{Timed}
-use Rattle.r10_body.specs.declared.gap.Gap.{Gap}
-use Rattle.r10_body.specs.declared.gap.Gap.TheVariants.{Whole}
 use Rattle.r10_body.specs.declared.message.Kind.{Kind}
 use Rattle.r10_body.specs.declared.message.Kind.TheVariants as kinds
 use Rattle.r10_body.specs.declared.message.Message.{Message}
 use Rattle.r10_body.specs.declared.message.Message.TheVariants as messages
 use Rattle.r10_body.proofs.Sums.{same_sum}
+use Rattle.r10_body.proofs.Events.{none_of, one_event}
 use Rattle.r10_builder.specs.Packing.{entry_on, last_sample_count}
 use Rattle.r10_builder.specs.State.{BuilderState}
 use Rattle.r10_builder.proofs.Messages.{taken}
@@ -29,19 +27,6 @@ use Rattle.r10_builder.specs.Settings.{BuilderTakes, is_of}
 use Rattle.r10_packetout.specs.Carries.{EventsAreCounted, HasNoEvents, occurrences}
 
 -- ---- a packet of another type has none
-
-one_event : (q : ℕ) (e : Entry) (b : Bool) → is_event_of q e ≡ b → count_by (is_event_of q) (e ∷ []) ≡ cond b 1 0
-one_event q e true is = rw is refl
-one_event q e false is = rw is refl
-
-none_of : {E : Type 0} (f : E → Timed) (q channel : ℕ) (gap : Gap) (es : List E) → ((e : E) (g : Gap) → is_event_of q (record { channel = channel; count = (f e).count; message = (f e).message; gap = g }) ≡ false)
-    → count_by (is_event_of q) (with_gaps channel gap (map f es)) ≡ 0
-none_of f q channel gap [] is = refl
-none_of f q channel gap (e ∷ es) is =
-    let first : Entry = record { channel = channel; count = (f e).count; message = (f e).message; gap = gap } in
-    let rest : List Entry = with_gaps channel Whole (map f es) in
-    let split : count_by (is_event_of q) (first ∷ rest) ≡ count_by (is_event_of q) (first ∷ []) + count_by (is_event_of q) rest = sum_by-append _ (first ∷ []) rest in
-    omega (arith, split, one_event q first false (is e gap), none_of f q channel Whole es is)
 
 none_at : (q : ℕ) (p : Packet) (c : Content) → type_of c == 2 ≡ false → count_by (is_event_of q) (packet_entries (record p { content = c })) ≡ 0
 none_at q p (setup text) e = refl
@@ -128,9 +113,6 @@ in_packets packets builders entries q same none = omega (arith, same_events (tak
 
 -- ---- a sample that its channel takes is none
 
-no : false ≡ true → ⊥
-no e = cc
-
 plain_at : (kind : Kind) (q : ℕ) (e : Entry) (m : Message) → e.message ≡ m → is_kind kind m ≡ true → count_by (is_event_of q) (e ∷ []) ≡ 0
 plain_at kind q e (messages.Uart parity sub bytes) same is = rw same refl
 plain_at kind q e (messages.Bus1553 status gap words) same is = rw same refl
@@ -138,11 +120,11 @@ plain_at kind q e (messages.Arinc line format parity high word) same is = rw sam
 plain_at kind q e (messages.Discrete states) same is = rw same refl
 plain_at kind q e (messages.Message data_error format sub bytes) same is = rw same refl
 plain_at kind q e (messages.Time civil) same is = rw same refl
-plain_at kinds.Uart q e (messages.Event n o) same is = absurd (no is)
-plain_at kinds.Bus1553 q e (messages.Event n o) same is = absurd (no is)
-plain_at kinds.Arinc q e (messages.Event n o) same is = absurd (no is)
-plain_at kinds.Discrete q e (messages.Event n o) same is = absurd (no is)
-plain_at kinds.Message q e (messages.Event n o) same is = absurd (no is)
+plain_at kinds.Uart q e (messages.Event n o) same is = absurd (false≢true is)
+plain_at kinds.Bus1553 q e (messages.Event n o) same is = absurd (false≢true is)
+plain_at kinds.Arinc q e (messages.Event n o) same is = absurd (false≢true is)
+plain_at kinds.Discrete q e (messages.Event n o) same is = absurd (false≢true is)
+plain_at kinds.Message q e (messages.Event n o) same is = absurd (false≢true is)
 
 found_plain : (channel : ℕ) (s : Sample) (builder : Option BuilderState) → IsSomeAnd builder (λ b. (channel_refusal b.spec s.message ≡ None) × (last_sample_count 0 b.samples ≤ s.count) × IsSoundGap s.gap) → HasNoEvents (entry_on channel s ∷ [])
 found_plain channel s None takes = absurd takes

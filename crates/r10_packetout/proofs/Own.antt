@@ -7,6 +7,7 @@ use Rattle.std.proofs.lemmas.List.Sums.{sum_by-cons}
 use Rattle.r10_count.specs.Civil.{IsCivil}
 use Rattle.r10_count.specs.Count.{IsCount}
 use Rattle.r10_count.specs.declared.civil.Parts.{Parts}
+use Rattle.r10_count.proofs.Lists.{all_more}
 use Rattle.r10_medium.specs.Disk.{Image}
 use Rattle.r10_body.specs.Content.{type_of}
 use Rattle.r10_body.specs.Cost.{entry_cost}
@@ -18,6 +19,7 @@ use Rattle.r10_body.specs.declared.gap.Gap.TheVariants.{Whole}
 use Rattle.r10_body.specs.declared.message.Message.TheVariants as messages
 use Rattle.r10_body.specs.Sequence.{last_count, numbered}
 use Rattle.r10_body.proofs.ChannelLists.{packet_off_channel, rises}
+use Rattle.r10_index.proofs.Behind.{last_more}
 use Rattle.r10_builder.specs.State.{BuilderState}
 use Rattle.r10_builder.specs.Grows.{Grows, HasNone, taken_in}
 use Rattle.r10_builder.specs.Next.{ChannelGoesOn, IsGrowing, event_packet, time_packet}
@@ -25,10 +27,10 @@ use Rattle.r10_builder.proofs.Following.{event_follows, grows_on, time_follows}
 use Rattle.r10_builder.proofs.Growing.{between, both, none_held}
 use Rattle.r10_builder.specs.Packed.{Packed}
 use Rattle.r10_builder.specs.Settings.{KeepsSettings, specs_of}
-use Rattle.r10_builder.proofs.Lists.{all_more}
+use Rattle.r10_builder.proofs.Places.{none_other}
 use Rattle.r10_packetout.specs.Output.{Has, Writing}
 use Rattle.r10_packetout.specs.Carries.{EventsAreCounted, Records, Recording, Says, StandApart, next_event_entry, occurrences, time_entry_at}
-use Rattle.r10_packetout.proofs.Carrying.{costs_more, entries_more, last_same}
+use Rattle.r10_packetout.proofs.Carrying.{costs_more, entries_more}
 use Rattle.r10_packetout.proofs.Events.{counted_more, counted_on, in_packets}
 
 -- ---- a channel that no builder has
@@ -37,11 +39,6 @@ use Rattle.r10_packetout.proofs.Events.{counted_more, counted_on, in_packets}
 pub own_entries : (channel : ℕ) (packets : List Packet) (builders : List BuilderState) → HasNone channel builders → on_channel channel (taken_in packets builders) ≡ on_channel channel (file_entries packets)
 own_entries channel packets builders none =
     both channel packets builders ∙ ap (λ (es : List Entry). on_channel channel (file_entries packets) ++ es) (none_held builders channel none) ∙ append-nil (on_channel channel (file_entries packets))
-
--- a packet on it keeps to no builder's settings
-pub keeps_none : (p : Packet) (builders : List BuilderState) → HasNone p.channel builders → KeepsSettings (specs_of builders) p
-keeps_none p [] none = tt
-keeps_none p (b ∷ builders) none = (λ e. absurd (none.0 (sym e)), keeps_none p builders none.1)
 
 own_rise : (packets : List Packet) (p : Packet) (builders : List BuilderState) (channel : ℕ) (b : Bool) → p.channel == channel ≡ b → HasNone p.channel builders → EachFollows [] (packets ++ p ∷ [])
     → Rise 0 (on_channel channel (taken_in packets builders)) → Rise 0 (on_channel channel (taken_in (packets ++ p ∷ []) builders))
@@ -60,7 +57,7 @@ own_packed packets p builders packed none may other plain =
     let growing : IsGrowing (packets ++ p ∷ []) = grows_on packets p packed.growing may other plain in
     record {
       growing = growing;
-      kept = all_more (KeepsSettings (specs_of builders)) packets p packed.kept (keeps_none p builders none);
+      kept = all_more (KeepsSettings (specs_of builders)) packets p packed.kept (none_other p builders none);
       rise = λ channel. own_rise packets p builders channel (p.channel == channel) refl none growing.each (packed.rise channel);
     }
 
@@ -134,7 +131,7 @@ event_said r packets text entries count number out says apart later counts few l
     let entry : packet_entries p ≡ e ∷ [] =
     ap (λ n. record { channel = r.event; count = count; message = messages.Event number (n % 65536); gap = Whole } ∷ []) (in_packets packets r.builders entries number says.entries_are says.messages) in
     own_said r packets text entries p e out r.clock (set r.counts number ((get_or r.counts number 0 + 1) % 65536)) says apart.event may refl refl entry (λ same. absurd (apart.differ (sym same))) (λ same. refl)
-    (last_same 0 packets p refl ∙ says.clock_is) (counted_more r.counts entries number e (λ q. refl) lt says.counts_are)
+    (last_more 0 packets p refl ∙ says.clock_is) (counted_more r.counts entries number e (λ q. refl) lt says.counts_are)
 
 pub events_carried : (r : Recording) (image : Image) (text : List ℕ) (entries : List Entry) (carried : Records r image text entries) → StandApart r → (count number : ℕ)
     → last_count 0 (on_channel r.event entries) ≤ count → IsCount count → number < 2 ^ 12 → number < length r.counts → (out : Writing) (later : Image)

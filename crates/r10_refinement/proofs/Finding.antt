@@ -12,6 +12,7 @@ use Rattle.r10_machine.specs.Room.{blocks_of}
 use Rattle.r10_machine.specs.Needs.{shown_part}
 use Rattle.r10_medium.specs.Disk.{Image}
 use Rattle.r10_machine.specs.Says.{DirectoryEntry, AreFound, IsFound, Lists, MediumSays, SaysEach, SaysFile}
+use Rattle.r10_machine.proofs.Steps.{same_heads}
 use Rattle.r10_refinement.specs.Again.{AreAgain, FindsAgain, IsAgain}
 
 abbrev found_of : (f : File) → List Entry → File
@@ -127,15 +128,12 @@ same_said image e f g same (lists, said) = (
   },
 )
 
-heads : (f g : File) (files others : List File) → map shown_part (f ∷ files) ≡ map shown_part (g ∷ others) → (shown_part f ≡ shown_part g) × (map shown_part files ≡ map shown_part others)
-heads f g files others same = (cc, cc)
-
 each_said : (image : Image) (entries : List DirectoryEntry) (files others : List File) → map shown_part files ≡ map shown_part others → SaysEach image entries files → SaysEach image entries others
 each_said image [] [] [] same says = tt
 each_said image [] [] (g ∷ others) same says = cc
 each_said image (e ∷ entries) (f ∷ files) [] same says = cc
 each_said image (e ∷ entries) (f ∷ files) (g ∷ others) same (lists, said, rest) =
-    let parts = heads f g files others same in
+    let parts = same_heads f g files others same in
     let one = same_said image e f g parts.0 (lists, said) in
     (one.0, one.1, each_said image entries files others parts.1 rest)
 each_said image entries files others same says = absurd says

@@ -7,8 +7,8 @@ use Rattle.r10_body.specs.Files.{PacketsSay, on_channel}
 use Rattle.r10_body.specs.Packets.{Packet, file_bytes, file_entries, packet_bytes}
 use Rattle.r10_body.specs.Rules.{is_data, last_time, node_entries}
 use Rattle.r10_body.specs.Sequence.{next_sequence}
-use Rattle.r10_packetout.proofs.Closing.{index_says, named_length}
-use Rattle.r10_body.proofs.Indexes.{not_whole}
+use Rattle.r10_packetout.proofs.Closing.{index_says}
+use Rattle.r10_body.proofs.Indexes.{entries_length, not_whole}
 use Rattle.r10_index.proofs.Behind.{all_data, index_closes}
 use Rattle.r10_index.proofs.Leaving.{one_by_one}
 use Rattle.r10_index.specs.Written.{IsGroup, index_behind, index_of, index_size}
@@ -34,7 +34,7 @@ pub all_named : (bytes text : List ℕ) (packets : List Packet) → IsUnsealed b
 all_named bytes text packets is = ap (node_entries 0) (all_data packets (is.say.file.index (not_whole packets is.say.closed_is)))
 
 pub named_count : (bytes text : List ℕ) (packets : List Packet) → IsUnsealed bytes text packets → length (node_entries 0 (filter is_data packets)) ≡ length packets
-named_count bytes text packets is = ap (λ (es : List NodeEntry). length es) (all_named bytes text packets is) ∙ named_length 0 packets
+named_count bytes text packets is = ap (λ (es : List NodeEntry). length es) (all_named bytes text packets is) ∙ entries_length 0 packets
 
 -- ---- with the index
 
@@ -57,7 +57,7 @@ sealed_longer nodes packets = omega (arith, sealed_both nodes packets)
 -- in groups of one node an index is as long as it may be
 pub ones_length : (packets : List Packet) → length (sealed_bytes 1 packets) ≡ length (file_bytes packets) + index_size (length packets)
 ones_length packets =
-    sealed_both 1 packets ∙ ap (λ n. length (file_bytes packets) + n) (one_by_one (last_time 0 packets) (next_sequence 0 packets) (length (file_bytes packets)) (node_entries 0 packets) ∙ ap index_size (named_length 0 packets))
+    sealed_both 1 packets ∙ ap (λ n. length (file_bytes packets) + n) (one_by_one (last_time 0 packets) (next_sequence 0 packets) (length (file_bytes packets)) (node_entries 0 packets) ∙ ap index_size (entries_length 0 packets))
 
 -- the file with its index says the same, and is closed
 pub sealed_say : (nodes : ℕ) (bytes text : List ℕ) (packets : List Packet) → IsUnsealed bytes text packets → IsGroup nodes → length (file_bytes packets) < 2 ^ 63

@@ -38,10 +38,6 @@ worked_so answers true answered is asks watched = record { answer = true; answer
     all_noted (ask ∷ some) = (tt, all_noted some)
 worked_so answers false answered is asks watched = absurd (cc)
 
-pub off_of : (b : Bool) → not b ≡ true → b ≡ false
-off_of true is = absurd (cc)
-off_of false is = refl
-
 pub on_of : (b : Bool) → not b ≡ false → b ≡ true
 on_of true is = refl
 on_of false is = absurd (cc)

@@ -5,11 +5,10 @@ use Rattle.std.specs.List.{AllByRecursion}
 use Rattle.std.proofs.Math.Seq.{drop-append_seam}
 use Rattle.std.proofs.lemmas.List.{append-nil}
 use Rattle.r10_count.specs.Checks.{first_broken}
-use Rattle.r10_body.specs.Files.{on_channel}
 use Rattle.r10_body.specs.declared.entry.Entry.{Entry}
 use Rattle.r10_body.specs.declared.entry.Sample.{Sample}
-use Rattle.r10_body.specs.declared.spec.ChannelSpec.{ChannelSpec}
 use Rattle.r10_body.specs.declared.refusal.Refusal.{Refusal}
+use Rattle.r10_body.proofs.ChannelLists.{none_on_any}
 use Rattle.r10_body.specs.declared.refusal.Refusal.TheVariants as refusals
 use Rattle.r10_medium.proofs.Stops.{unchanged}
 use Rattle.r10_medium.specs.Disk.{Disk, Image, Unchanged}
@@ -83,13 +82,8 @@ pub refused_check : {M : Type 0} (disk : M → Disk) (first : Option Refusal) (o
 refused_check disk (Some f) old new slots later event r is kept medium lanes same = let same_is : r ≡ f = cc in record { first_is = same_is; kept = kept; medium = medium; lanes = lanes; cursors = same }
 refused_check disk None old new slots later event r is kept medium lanes same = cc
 
--- the recorder's own files, where nothing changes
-all_none : (specs : List ChannelSpec) → AllByRecursion (λ (spec : ChannelSpec). on_channel spec.id [] ≡ []) specs
-all_none [] = tt
-all_none (spec ∷ specs) = (refl, all_none specs)
-
 own_on : (k later : Kept) (old new : Image) (more : List Entry) → more ≡ [] → OwnGrow k old later new more → OwnStay k old later new
-own_on k later old new more none grows = record { more = []; own = subst (OwnGrow k old later new) none grows; others = all_none k.config.channels }
+own_on k later old new more none grows = record { more = []; own = subst (OwnGrow k old later new) none grows; others = none_on_any k.config.channels }
 
 pub own_same : (k later : Kept) (old new : Image) → later ≡ k → new ≡ old → OwnStay k old later new
 own_same k later old new kept reads = own_on k later old new [] refl (inr (λ own are.

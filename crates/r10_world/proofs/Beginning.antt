@@ -17,11 +17,6 @@ use Rattle.r10_machine.specs.Says.{MediumHas, MediumSays}
 use Rattle.r10_medium.specs.Stop.{Settled}
 use Rattle.r10_refinement.specs.Safe.{IsSafe}
 
--- lanes of which nothing has come are of these channels, and of them nothing was erased
-pub specs_of_fresh : (specs : List ChannelSpec) → map (λ (lane : Lane). lane.spec) (map fresh_lane specs) ≡ specs
-specs_of_fresh [] = refl
-specs_of_fresh (x ∷ specs) = ap (λ (xs : List ChannelSpec). x ∷ xs) (specs_of_fresh specs)
-
 none_erased : (specs : List ChannelSpec) → map unerased (map fresh_lane specs) ≡ map fresh_lane specs
 none_erased [] = refl
 none_erased (x ∷ specs) = ap (λ (xs : List Lane). fresh_lane x ∷ xs) (none_erased specs)

@@ -3,7 +3,7 @@ use Rattle.std.proofs.Common.{◌≡◌, ℕ, List, [], ◌∷◌, map, Option, 
 use Rattle.r10_body.specs.declared.refusal.Refusal.{Refusal}
 use Rattle.r10_cursor.specs.Read.{KeepsBytes}
 use Rattle.r10_world.specs.Joined.{KeptAndSlotsStandFor, KeptAndSlotsStepTo}
-use Rattle.r10_machine.specs.Machine.{File, Lane, Machine}
+use Rattle.r10_machine.specs.Machine.{Lane, Machine}
 use Rattle.r10_refinement.specs.Kept.{Kept}
 use Rattle.r10_refinement.specs.Means.{KeptStepsTo}
 use Rattle.r10_medium.specs.Disk.{Disk, Image}
@@ -17,6 +17,7 @@ use Rattle.r10_world.specs.Telling.{RecorderStandsFor, RecorderStepsAlone}
 use Rattle.r10_machine.specs.Bytes.{KeepBytes}
 use Rattle.r10_machine.specs.declared.event.Event.{Event as EventValue}
 use Rattle.r10_machine.specs.declared.reply.Reply.{Reply as ReplyValue}
+use Rattle.r10_volume.proofs.Turning.{own_bytes}
 use Rattle.r10_machine.specs.declared.reply.Reply.TheVariants as replies
 
 -- the law of a recorder's calls
@@ -74,12 +75,8 @@ telling disk old new law event reply result said answers keeps same config is = 
 
 -- ---- bytes that stay
 
-bytes_stay : (image : Image) (files : List File) → KeepBytes image image files
-bytes_stay image [] = tt
-bytes_stay image (f ∷ files) = (refl, bytes_stay image files)
-
 pub keeps_same : (k : Kept) (image : Image) (failures : ℕ) → MachinesKeepShown k image failures image
-keeps_same k image failures = λ m means. bytes_stay image m.files
+keeps_same k image failures = λ m means. own_bytes image m.files
 
 pub keeps_read : (k : Kept) (old new : Image) (before : ℕ) → new ≡ old → MachinesKeepShown k old before new
 keeps_read k old new before same = subst (MachinesKeepShown k old before) (sym same) (keeps_same k old before)

@@ -1,6 +1,6 @@
 use Rattle.std.proofs.Common.{List, ap, map, ◌∙◌}
 use Rattle.r10_machine.specs.Machine.{Lane}
-use Rattle.r10_bench.proofs.Fresh.{specs_of_fresh}
+use Rattle.r10_machine.proofs.Entering.{specs_of_fresh}
 use Rattle.r10_bench.proofs.mounted.make_recorder.Goals as goal
 
 pub new-requires-clause-lanes : goal.new-requires-clause-lanes

@@ -1,7 +1,8 @@
 use Rattle.std.proofs.Common.{List, ap, map, ◌∙◌}
 use Rattle.r10_body.specs.declared.spec.ChannelSpec.{ChannelSpec}
 use Rattle.r10_machine.specs.Machine.{Lane, fresh_lane}
-use Rattle.r10_world.proofs.Beginning.{is_begun_world, new_safe, new_world, specs_of_fresh}
+use Rattle.r10_machine.proofs.Entering.{specs_of_fresh}
+use Rattle.r10_world.proofs.Beginning.{is_begun_world, new_safe, new_world}
 use Rattle.r10_refinement.proofs.Finding.{again_said, found_again}
 use Rattle.r10_world.proofs.world.World.new.Goals as goal
 
