@@ -23,7 +23,7 @@ use Rattle.r10_body.specs.Packets.{Packet, FitsPacket, packet_body, packet_bytes
 use Rattle.r10_body.specs.Rules.{MayFollow, EachFollows, IsGapTold, EndsReports, is_setup_packet, is_time, is_event, is_index, is_report_packet, is_data, report_of, report_from, last_report}
 use Rattle.r10_body.specs.declared.entry.Entry.{Entry}
 use Rattle.r10_body.specs.declared.gap.Gap.{Gap}
-use Rattle.r10_body.specs.declared.gap.Gap.TheVariants.{Whole, Lost, Unknown}
+use Rattle.r10_body.specs.declared.gap.Gap.TheVariants.{Whole, Lost}
 use Rattle.r10_body.specs.declared.entry.Timed.{Timed}
 use Rattle.r10_body.specs.declared.message.Message.TheVariants as messages
 use Rattle.r10_body.proofs.Sentences.{rest_length}
@@ -96,6 +96,22 @@ content_covered (discrete bits es) counter channel gap other plain said fits =
 content_covered (message es) counter channel gap other plain said fits =
     omega (arith, message_length es, entries_lost message_entry_size (λ e. timed e.count (messages.Message e.data_error e.format e.sub e.bytes)) (λ e. omega arith) es channel gap fits.some, fits.some)
 
+-- there is a message where the packet is none of setup, index or report
+pub some_messages : (counter : ℕ) (c : Content) → FitsContent counter c → (IsTrue (type_of c == 1 || type_of c == 3 || type_of c == 0) → ⊥) → 0 < length (messages_of counter c)
+some_messages counter (time civil) fits other = omega arith
+some_messages counter (event one) fits other = omega arith
+some_messages counter (uart []) fits other = absurd (omega (arith, fits.0))
+some_messages counter (uart (e ∷ es)) fits other = omega arith
+some_messages counter (bus []) fits other = absurd (omega (arith, fits.some))
+some_messages counter (bus (e ∷ es)) fits other = omega arith
+some_messages counter (arinc []) fits other = absurd (omega (arith, fits.some))
+some_messages counter (arinc (e ∷ es)) fits other = omega arith
+some_messages counter (discrete bits []) fits other = absurd (omega (arith, fits.some))
+some_messages counter (discrete bits (e ∷ es)) fits other = omega arith
+some_messages counter (message []) fits other = absurd (omega (arith, fits.some))
+some_messages counter (message (e ∷ es)) fits other = omega arith
+some_messages counter c fits other = absurd (other refl)
+
 -- a packet of messages leaves 64 bytes of its entries' cost to the index, and what a report before it costs
 data_covered : (p : Packet) → FitsPacket p → is_setup_packet p ≡ false → is_index p ≡ false → is_report_packet p ≡ false → length (packet_bytes p) + 64 + lost_cost p.gap ≤ sum_by entry_cost (packet_entries p)
 data_covered p fits other plain said = omega (arith, packet_short p, content_covered p.content p.counter p.channel p.gap other plain said fits.content)
@@ -111,16 +127,7 @@ owed_none (Some loss) p told whole = absurd (let no : Lost loss.lost ≡ Whole =
 -- a packet reports where it is a report
 pub report_at : (p : Packet) (c : Content) → p.content ≡ c → (b : Bool) → (type_of c == 0) ≡ b → (owed (report_of p) ≡ cond b 68 0) × ((type_of c == 0) ≡ true → length (body_of p.counter c) ≡ 20)
 report_at p (report loss) e b is = (rw (e, sym is) refl, λ _. refl)
-report_at p (setup text) e b is = (rw (e, sym is) refl, λ yes. absurd (false≢true yes))
-report_at p (time civil) e b is = (rw (e, sym is) refl, λ yes. absurd (false≢true yes))
-report_at p (event one) e b is = (rw (e, sym is) refl, λ yes. absurd (false≢true yes))
-report_at p (uart es) e b is = (rw (e, sym is) refl, λ yes. absurd (false≢true yes))
-report_at p (bus es) e b is = (rw (e, sym is) refl, λ yes. absurd (false≢true yes))
-report_at p (arinc es) e b is = (rw (e, sym is) refl, λ yes. absurd (false≢true yes))
-report_at p (discrete bits es) e b is = (rw (e, sym is) refl, λ yes. absurd (false≢true yes))
-report_at p (message es) e b is = (rw (e, sym is) refl, λ yes. absurd (false≢true yes))
-report_at p (node es) e b is = (rw (e, sym is) refl, λ yes. absurd (false≢true yes))
-report_at p (root es) e b is = (rw (e, sym is) refl, λ yes. absurd (false≢true yes))
+report_at p c e b is = (rw (e, sym is) refl, λ yes. absurd (false≢true yes))
 
 pub own_whole : (p : Packet) (before : List Packet) → MayFollow before p → (is_index p ≡ true) ⊎ (is_report_packet p ≡ true) → (p.gap ≡ Whole) × (p.check ≡ 0)
 own_whole p before may (inl is) = let own : IsTrue (is_setup_packet p || is_time p || is_event p || is_index p || is_report_packet p) = last_of (is_setup_packet p) (is_time p) (is_event p) (is_index p) (is_report_packet p) (inl is) in (may.channels.2 own, may.checksums own)

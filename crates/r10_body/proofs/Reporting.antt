@@ -1,11 +1,11 @@
 -- Reports among packets: what one is, and one that stands last.
-use Rattle.std.proofs.Common.{◌≡◌, ℕ, ◌<◌, ◌^◌, ◌==◌, ◌⊎◌, inr, Bool, true, false, List, [], ◌∷◌, ◌++◌, length, Option, Some, None, IfSome, refl, sym, ap, subst, ◌∙◌, arith, append_assoc}
+use Rattle.std.proofs.Common.{◌≡◌, ℕ, ◌==◌, ◌⊎◌, inr, Bool, true, false, List, [], ◌∷◌, ◌++◌, length, Option, Some, None, IfSome, refl, sym, ap, subst, ◌∙◌, arith, append_assoc}
 use Rattle.std.specs.Prelude.{cond}
 use Rattle.std.specs.List.{AllByRecursion}
 use Rattle.std.proofs.lemmas.List.{append-nil}
 use Rattle.r10_count.specs.Count.{IsCount}
 use Rattle.r10_indexbody.specs.declared.loss.LossBody.{LossBody}
-use Rattle.r10_body.specs.Content.{Content, FitsContent, setup, time, event, uart, bus, arinc, discrete, message, node, root, report, type_of}
+use Rattle.r10_body.specs.Content.{Content, FitsContent, report, type_of}
 use Rattle.r10_body.specs.Gaps.{IsSoundGap}
 use Rattle.r10_body.specs.Packets.{FitsPacket, Packet, packet_bytes}
 use Rattle.r10_body.specs.Rules.{EachFollows, EndsReports, IsGapTold, IsSoundReport, MayFollow, is_index, is_report_packet, is_time, last_report, last_time, report_of}
@@ -21,17 +21,8 @@ no_loss : {loss : LossBody} → None ≡ Some loss → ⊥
 no_loss e = cc
 
 content_at : (p : Packet) (c : Content) (loss : LossBody) → report_of (record p { content = c }) ≡ Some loss → c ≡ report loss
-content_at p (setup text) loss e = absurd (no_loss e)
-content_at p (time civil) loss e = absurd (no_loss e)
-content_at p (event one) loss e = absurd (no_loss e)
-content_at p (uart es) loss e = absurd (no_loss e)
-content_at p (bus es) loss e = absurd (no_loss e)
-content_at p (arinc es) loss e = absurd (no_loss e)
-content_at p (discrete bits es) loss e = absurd (no_loss e)
-content_at p (message es) loss e = absurd (no_loss e)
-content_at p (node es) loss e = absurd (no_loss e)
-content_at p (root es) loss e = absurd (no_loss e)
 content_at p (report other) loss e = let is : Some other ≡ Some loss = e in let same : other ≡ loss = cc in ap (λ (l : LossBody). report l) same
+content_at p c loss e = absurd (no_loss e)
 
 pub report_is : (p : Packet) (loss : LossBody) → report_of p ≡ Some loss → p.content ≡ report loss
 report_is p loss e = content_at p p.content loss e
@@ -65,17 +56,8 @@ quiet_before before p may own = untold (last_report before) p may.reports.0 (own
 -- ---- no report
 
 no_report_at : (p : Packet) (c : Content) → (type_of c == 0) ≡ false → report_of (record p { content = c }) ≡ None
-no_report_at p (setup text) other = refl
-no_report_at p (time civil) other = refl
-no_report_at p (event one) other = refl
-no_report_at p (uart es) other = refl
-no_report_at p (bus es) other = refl
-no_report_at p (arinc es) other = refl
-no_report_at p (discrete bits es) other = refl
-no_report_at p (message es) other = refl
-no_report_at p (node es) other = refl
-no_report_at p (root es) other = refl
 no_report_at p (report loss) other = absurd (let no : true ≡ false = other in cc)
+no_report_at p c other = refl
 
 pub no_report : (p : Packet) → is_report_packet p ≡ false → report_of p ≡ None
 no_report p other = no_report_at p p.content other

@@ -1,5 +1,5 @@
 -- A packet with another number reported of what was lost before it keeps the same rules, but for the one of reports.
-use Rattle.std.proofs.Common.{◌≡◌, ℕ, ◌+◌, ◌≤◌, Bool, true, false, List, [], ◌∷◌, ◌++◌, take, filter, refl, sym, ap, subst, ◌∙◌}
+use Rattle.std.proofs.Common.{◌≡◌, ℕ, ◌+◌, ◌≤◌, true, false, List, [], ◌∷◌, ◌++◌, take, filter, refl, sym, ap, subst, ◌∙◌}
 use Rattle.std.specs.List.{AllByRecursion}
 use Rattle.r10_body.specs.Content.{Timed, messages_of}
 use Rattle.r10_body.specs.Gaps.{is_gap, IsSoundGap}

@@ -1,5 +1,5 @@
 -- Packets that break rule 8, each at fault at its own place.
-use Rattle.std.proofs.Common.{◌≡◌, ℕ, ◌≤◌, true, false, List, [], ◌∷◌, ◌++◌, length, lit<, lit≤, refl, sym, ap, ◌∙◌, subst, arith}
+use Rattle.std.proofs.Common.{ℕ, ◌≤◌, true, false, List, [], ◌∷◌, ◌++◌, length, lit<, lit≤, refl, sym, ap, ◌∙◌, arith}
 use Rattle.std.specs.Prelude.{IfSome}
 use Rattle.r10_packet.specs.Header.{header_bytes}
 use Rattle.r10_indexbody.specs.Index.{FitsRootBody}

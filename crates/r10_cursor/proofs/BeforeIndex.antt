@@ -6,7 +6,7 @@ use Rattle.std.proofs.lemmas.List.{append-nil, length-append, length-take, take-
 use Rattle.std.proofs.lemmas.List.Concat.{flat_map-append}
 use Rattle.r10_medium.specs.Disk.{Image}
 use Rattle.r10_blockout.specs.Blocks.{Shows, bytes_from}
-use Rattle.r10_body.specs.Content.{Content, setup, time, event, uart, bus, arinc, discrete, message, node, root, report}
+use Rattle.r10_body.specs.Content.{Content, node, root}
 use Rattle.r10_body.specs.Packets.{Packet, packet_bytes, file_bytes}
 use Rattle.r10_body.specs.Rules.{MayFollow, EachFollows, KeepsIndex, is_data, is_index, is_node, is_root}
 use Rattle.r10_body.proofs.Indexes.{Part, datum, node_here, root_here, part_of, counted, counted_yes, counted_no, no_nodes, no_roots, datas_yes, datas_no}
@@ -24,17 +24,9 @@ no_index : (ps : List Packet) (p : Packet) → is_index p ≡ false → KeepsInd
 no_index ps p i keeps = by p.content refl
   where
     by : (c : Content) → p.content ≡ c → count_by is_index ps ≡ 0
-    by (setup text) e = rw e at keeps
-    by (time civil) e = rw e at keeps
-    by (event one) e = rw e at keeps
-    by (uart es) e = rw e at keeps
-    by (bus es) e = rw e at keeps
-    by (arinc es) e = rw e at keeps
-    by (discrete bits es) e = rw e at keeps
-    by (message es) e = rw e at keeps
-    by (report loss) e = rw e at keeps
     by (node es) e = let yes : is_index p ≡ true = rw e refl in absurd (true≢false (sym yes ∙ i))
     by (root es) e = let yes : is_index p ≡ true = rw e refl in absurd (true≢false (sym yes ∙ i))
+    by c e = rw e at keeps
 
 -- an index packet after others
 behind : (ps : List Packet) (p : Packet) → is_index p ≡ true → Fronted ps → (index : List Packet) × (ps ++ p ∷ [] ≡ filter is_data (ps ++ p ∷ []) ++ index)

@@ -10,7 +10,7 @@ use Rattle.r10_dirblock.specs.declared.entry.Entry.{Entry as DirectoryEntry}
 use Rattle.r10_dirchain.specs.Chain.{IsDirectory, listed_files}
 use Rattle.r10_dirchain.specs.declared.chain.ChainBlock.{ChainBlock}
 use Rattle.r10_dirchain.proofs.Unique.{one_directory}
-use Rattle.r10_body.specs.Content.{Content, setup, time, event, uart, bus, arinc, discrete, message, node, root, report}
+use Rattle.r10_body.specs.Content.{Content, node, root, report}
 use Rattle.r10_body.specs.Faults.{IsAtFault}
 use Rattle.r10_body.specs.Files.{on_channel}
 use Rattle.r10_body.specs.Packets.{Packet, packet_entries, file_entries}
@@ -80,17 +80,10 @@ no_entries p i = by p.content refl
     unlike e = cc
 
     by : (c : Content) → p.content ≡ c → packet_entries p ≡ []
-    by (setup text) e = (let bad : is_index p ≡ false = rw e refl in absurd (unlike (sym bad ∙ i)))
-    by (time civil) e = (let bad : is_index p ≡ false = rw e refl in absurd (unlike (sym bad ∙ i)))
-    by (event one) e = (let bad : is_index p ≡ false = rw e refl in absurd (unlike (sym bad ∙ i)))
-    by (uart es) e = (let bad : is_index p ≡ false = rw e refl in absurd (unlike (sym bad ∙ i)))
-    by (bus es) e = (let bad : is_index p ≡ false = rw e refl in absurd (unlike (sym bad ∙ i)))
-    by (arinc es) e = (let bad : is_index p ≡ false = rw e refl in absurd (unlike (sym bad ∙ i)))
-    by (discrete bits es) e = (let bad : is_index p ≡ false = rw e refl in absurd (unlike (sym bad ∙ i)))
-    by (message es) e = (let bad : is_index p ≡ false = rw e refl in absurd (unlike (sym bad ∙ i)))
     by (report loss) e = rw e refl
     by (node es) e = rw e refl
     by (root es) e = rw e refl
+    by c e = (let bad : is_index p ≡ false = rw e refl in absurd (unlike (sym bad ∙ i)))
 
 pub data_entries : (ps : List Packet) → file_entries (filter is_data ps) ≡ file_entries ps
 data_entries [] = refl

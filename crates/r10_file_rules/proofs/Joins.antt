@@ -2,7 +2,7 @@
 use Rattle.std.proofs.Common.{◌≡◌, ℕ, ◌≤◌, ◌⊎◌, inl, inr, Bool, true, IsTrue, List, [], ◌++◌, refl, sym, ap, subst, ◌∙◌, arith}
 use Rattle.r10_body.specs.Faults.{ReadsPacket, BreaksRule, version, filler, body, start, channels, sequence, counts, index, unclosed, counters, events, reports}
 use Rattle.r10_body.specs.Packets.{Packet}
-use Rattle.r10_body.specs.Content.{Content, setup, time, event, uart, bus, arinc, discrete, message, node, root, report}
+use Rattle.r10_body.specs.Content.{Content, report}
 use Rattle.r10_body.specs.Rules.{is_index}
 use Rattle.r10_body.proofs.Injective.{one_packet}
 use Rattle.r10_body.proofs.Retold.{IsRetold, retold_start, retold_channels, retold_sequence, retold_counts, retold_index, retold_counters, retold_events}
@@ -22,16 +22,7 @@ of_bytes before bytes closed p n reads (broken_later.reports not) = a_report p.c
   where
     a_report : (c : Content) → p.content ≡ c → BreaksRule before bytes closed 11
     a_report (report loss) e = reports p loss reads e (λ (sound, answered). not (rw e sound))
-    a_report (setup text) e = absurd (not (rw e tt))
-    a_report (time civil) e = absurd (not (rw e tt))
-    a_report (event one) e = absurd (not (rw e tt))
-    a_report (uart es) e = absurd (not (rw e tt))
-    a_report (bus es) e = absurd (not (rw e tt))
-    a_report (arinc es) e = absurd (not (rw e tt))
-    a_report (discrete bits es) e = absurd (not (rw e tt))
-    a_report (message es) e = absurd (not (rw e tt))
-    a_report (node es) e = absurd (not (rw e tt))
-    a_report (root es) e = absurd (not (rw e tt))
+    a_report c e = absurd (not (rw e tt))
 
 -- two packets that are read from the same bytes are one, but for the number that is reported of what was lost
 pub retold : (bytes : List ℕ) (p q : Packet) → ReadsPacket bytes p → ReadsPacket bytes q → IsRetold p q

@@ -1,10 +1,10 @@
 -- What a packet reports, and what its entries cost after a report.
-use Rattle.std.proofs.Common.{◌≡◌, ℕ, ◌+◌, ◌<◌, ◌==◌, ◌||◌, IsTrue, List, [], ◌∷◌, length, refl, sym, ap, ◌∙◌, arith}
+use Rattle.std.proofs.Common.{◌≡◌, ℕ, ◌+◌, ◌<◌, ◌==◌, ◌||◌, Bool, true, false, IsTrue, List, [], ◌∷◌, length, refl, sym, ap, ◌∙◌, arith}
 use Rattle.std.specs.Prelude.{Option, Some, None}
 use Rattle.std.specs.List.{sum_by}
 use Rattle.std.proofs.lemmas.List.Sums.{sum_by-cons}
 use Rattle.r10_indexbody.specs.declared.loss.LossBody.{LossBody}
-use Rattle.r10_body.specs.Content.{Content, FitsContent, setup, time, event, uart, bus, arinc, discrete, message, node, root, report, type_of, messages_of}
+use Rattle.r10_body.specs.Content.{Content, FitsContent, report, type_of, messages_of}
 use Rattle.r10_body.specs.Cost.{entry_cost, plain_cost, lost_cost, owed}
 use Rattle.r10_body.specs.Gaps.{told_lost, IsSoundGap}
 use Rattle.r10_body.specs.Packets.{Packet, packet_entries, with_gaps}
@@ -13,6 +13,7 @@ use Rattle.r10_body.specs.declared.entry.Entry.{Entry}
 use Rattle.r10_body.specs.declared.entry.Timed.{Timed}
 use Rattle.r10_body.specs.declared.gap.Gap.{Gap}
 use Rattle.r10_body.specs.declared.gap.Gap.TheVariants.{Whole, Lost, Unknown}
+use Rattle.r10_body.proofs.Lengths.{some_messages}
 use Rattle.r10_packet_rules.specs.Facts.{kind_of}
 use Rattle.r10_packet_rules.specs.declared.facts.PacketKind.{PacketKind}
 use Rattle.r10_packet_rules.specs.declared.facts.PacketKind.TheVariants.{Report}
@@ -20,33 +21,15 @@ use Rattle.r10_packet_rules.specs.declared.facts.PacketKind.TheVariants.{Report}
 -- ---- what a packet reports
 
 report_at : (p : Packet) (c : Content) (loss : LossBody) → Report loss ≡ kind_of c → Some loss ≡ report_of (record p { content = c })
-report_at p (setup text) loss e = absurd (cc)
-report_at p (time civil) loss e = absurd (cc)
-report_at p (event one) loss e = absurd (cc)
-report_at p (uart es) loss e = absurd (cc)
-report_at p (bus es) loss e = absurd (cc)
-report_at p (arinc es) loss e = absurd (cc)
-report_at p (discrete bits es) loss e = absurd (cc)
-report_at p (message es) loss e = absurd (cc)
-report_at p (node es) loss e = absurd (cc)
-report_at p (root es) loss e = absurd (cc)
 report_at p (report other) loss e = let same : loss ≡ other = cc in ap (λ (l : LossBody). Some l) same
+report_at p c loss e = absurd (cc)
 
 pub is_reported : (p : Packet) (loss : LossBody) → Report loss ≡ kind_of p.content → Some loss ≡ report_of p
 is_reported p loss e = report_at p p.content loss e
 
 none_at : (p : Packet) (c : Content) (k : PacketKind) → k ≡ kind_of c → ((loss : LossBody) → k ≡ Report loss → ⊥) → None ≡ report_of (record p { content = c })
-none_at p (setup text) k e none = refl
-none_at p (time civil) k e none = refl
-none_at p (event one) k e none = refl
-none_at p (uart es) k e none = refl
-none_at p (bus es) k e none = refl
-none_at p (arinc es) k e none = refl
-none_at p (discrete bits es) k e none = refl
-none_at p (message es) k e none = refl
-none_at p (node es) k e none = refl
-none_at p (root es) k e none = refl
 none_at p (report loss) k e none = absurd (none loss e)
+none_at p c k e none = refl
 
 pub none_reported : (p : Packet) (k : PacketKind) → k ≡ kind_of p.content → ((loss : LossBody) → k ≡ Report loss → ⊥) → None ≡ report_of p
 none_reported p k e none = none_at p p.content k e none
@@ -70,23 +53,15 @@ without_loss channel gap [] none = refl
 without_loss channel gap (t ∷ ts) none = omega (arith, with_loss channel gap (t ∷ ts) (omega arith), none)
 
 -- only a packet of messages follows a report
+or_more : (a b c d e : Bool) → IsTrue (a || d || e) → IsTrue (a || b || c || d || e)
+or_more true b c d e is = is
+or_more false true c d e is = refl
+or_more false false true d e is = refl
+or_more false false false d e is = is
+
 has_messages : (counter : ℕ) (c : Content) → FitsContent counter c → (IsTrue (type_of c == 1 || type_of c == 0x11 || type_of c == 2 || type_of c == 3 || type_of c == 0) → ⊥) → 0 < length (messages_of counter c)
-has_messages counter (setup text) fits other = absurd (other refl)
-has_messages counter (time civil) fits other = absurd (other refl)
-has_messages counter (event one) fits other = absurd (other refl)
-has_messages counter (uart []) fits other = absurd (omega (arith, fits.0))
-has_messages counter (uart (e ∷ es)) fits other = omega arith
-has_messages counter (bus []) fits other = absurd (omega (arith, fits.some))
-has_messages counter (bus (e ∷ es)) fits other = omega arith
-has_messages counter (arinc []) fits other = absurd (omega (arith, fits.some))
-has_messages counter (arinc (e ∷ es)) fits other = omega arith
-has_messages counter (discrete bits []) fits other = absurd (omega (arith, fits.some))
-has_messages counter (discrete bits (e ∷ es)) fits other = omega arith
-has_messages counter (message []) fits other = absurd (omega (arith, fits.some))
-has_messages counter (message (e ∷ es)) fits other = omega arith
-has_messages counter (node es) fits other = absurd (other refl)
-has_messages counter (root es) fits other = absurd (other refl)
-has_messages counter (report loss) fits other = absurd (other refl)
+has_messages counter c fits other =
+    some_messages counter c fits (λ is. other (or_more (type_of c == 1) (type_of c == 0x11) (type_of c == 2) (type_of c == 3) (type_of c == 0) is))
 
 untold : (g : Gap) → told_lost g ≡ 0 → IsSoundGap g → lost_cost g ≡ 0
 untold Whole none sound = refl

@@ -5,7 +5,7 @@ use Rattle.std.proofs.lemmas.Bool.{cases_lt}
 use Rattle.std.proofs.lemmas.List.{append-nil, length-append}
 use Rattle.r10_indexbody.specs.declared.loss.LossBody.{LossBody}
 use Rattle.r10_packet.specs.Framing.{header_at}
-use Rattle.r10_body.specs.Content.{Content, setup, time, event, uart, bus, arinc, discrete, message, node, root, report, type_of}
+use Rattle.r10_body.specs.Content.{Content, setup, report, type_of}
 use Rattle.r10_body.specs.Files.{IsStrict}
 use Rattle.r10_body.specs.Foreign.{IsForeignPacket}
 use Rattle.r10_body.specs.Packets.{Packet, FitsPacket, packet_bytes, file_bytes, file_entries}
@@ -316,16 +316,7 @@ last_behind told (p ∷ ps) qs some = last_behind (report_of p) ps qs some
 
 setup_of : (c : Content) → (type_of c == 1) ≡ true → (text : List ℕ) × (c ≡ setup text)
 setup_of (setup text) is = (text, refl)
-setup_of (time civil) is = cc
-setup_of (event e) is = cc
-setup_of (uart entries) is = cc
-setup_of (bus entries) is = cc
-setup_of (arinc entries) is = cc
-setup_of (discrete bits entries) is = cc
-setup_of (message entries) is = cc
-setup_of (node entries) is = cc
-setup_of (root entries) is = cc
-setup_of (report loss) is = cc
+setup_of c is = cc
 
 -- packets that keep the rules begin with a setup packet
 pub begins : (packets : List Packet) → EachFollows [] packets → 0 < length packets → (text : List ℕ) × (map (λ p. p.content) (take 1 packets) ≡ setup text ∷ [])

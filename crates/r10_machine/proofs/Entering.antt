@@ -42,10 +42,7 @@ all_each P Q each (x ∷ xs) (here, all) = (each x here, all_each P Q each xs al
 -- no channel takes events
 no_event : (spec : ChannelSpec) (number before : ℕ) (kind : kinds.the_data) → spec.kind ≡ kind → first_broken (message_checks spec (Event number before)) ≡ None → ⊥
 no_event spec number before kinds.Uart is fine = wrong_kind (rw is at fine)
-no_event spec number before kinds.Bus1553 is fine = wrong_kind (rw is at fine)
-no_event spec number before kinds.Arinc is fine = wrong_kind (rw is at fine)
-no_event spec number before kinds.Discrete is fine = wrong_kind (rw is at fine)
-no_event spec number before kinds.Message is fine = wrong_kind (rw is at fine)
+no_event spec number before kind is fine = wrong_kind (rw is at fine)
 
 none_takes : (o : Option ChannelSpec) (number before : ℕ) → IsSomeAnd o (λ spec. first_broken (message_checks spec (Event number before)) ≡ None) → ⊥
 none_takes None number before there = there

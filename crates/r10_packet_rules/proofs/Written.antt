@@ -17,7 +17,7 @@ use Rattle.r10_indexbody.specs.Index as index_bodies
 use Rattle.r10_message.specs.Message as message_bodies
 use Rattle.r10_uart.specs.Uart as uart_bodies
 use Rattle.r10_body.proofs.Lenient.{strict-lenient}
-use Rattle.r10_body.specs.Content.{Content, setup, time, event, uart, bus, arinc, discrete, message, node, root, report, type_of, body_of, messages_of, FitsContent}
+use Rattle.r10_body.specs.Content.{Content, setup, time, event, uart, message, node, root, type_of, body_of, messages_of, FitsContent}
 use Rattle.r10_body.specs.Files.{IsStrict}
 use Rattle.r10_body.specs.Foreign.{known_types, is_loss_report, selects_other, is_opaque_packet, opaque_at, IsForeignBody, IsForeignPacket, IsForeignFile}
 use Rattle.r10_body.specs.Packets.{Packet, FitsPacket, flagged, packet_body, packet_bytes, header_of}
@@ -75,29 +75,17 @@ unselected counter (time civil) fits =
     none_of _ _ _ _ _ _ refl refl refl (and_right (type_of (time civil) == 17) _ (and_right (nat_le 4 (length (body_of counter (time civil)))) _ (ap (λ w. not (bit_of 9 w)) word ∙ ap not (time_present leap)))) refl refl
 unselected counter (uart entries) fits =
     none_of _ _ _ _ _ _ refl refl refl refl refl (and_right (type_of (uart entries) == 80) _ (and_right (nat_le 4 (length (body_of counter (uart entries)))) _ (ap (λ w. not (bit_of 31 w)) (word_at 0x80000000 (flat_map uart_bodies.uart_entry entries) (lit< tt)))))
-unselected counter (bus entries) fits = refl
-unselected counter (arinc entries) fits = refl
-unselected counter (discrete bits entries) fits = refl
-unselected counter (report loss) fits = refl
 unselected counter (message entries) fits =
     none_of _ _ _ _ _ _ refl refl refl refl (and_right (type_of (message entries) == 48) _ (message_clear (length entries) (flat_map message_bodies.message_entry entries) fits.counted)) refl
 unselected counter (node entries) fits =
     none_of _ _ _ _ _ _ refl refl (and_right (type_of (node entries) == 3) _ (node_clear (length entries) (flat_map index_bodies.node_entry entries) fits.counted)) refl refl refl
 unselected counter (root entries) fits =
     none_of _ _ _ _ _ _ refl refl (and_right (type_of (root entries) == 3) _ (root_clear (length entries) (flat_map index_bodies.root_entry entries) fits.counted)) refl refl refl
+unselected counter content fits = refl
 
 known : (counter : ℕ) (content : Content) → not (list_any (λ type. type == type_of content) known_types || is_loss_report (type_of content) (body_of counter content)) ≡ false
 known counter (setup text) = refl
-known counter (time civil) = refl
-known counter (event e) = refl
-known counter (uart entries) = refl
-known counter (bus entries) = refl
-known counter (arinc entries) = refl
-known counter (discrete bits entries) = refl
-known counter (message entries) = refl
-known counter (node entries) = refl
-known counter (root entries) = refl
-known counter (report loss) = refl
+known counter content = refl
 
 four : (a b c d : Bool) → a ≡ false → b ≡ false → c ≡ false → d ≡ false → (a || b || c || d) ≡ false
 four a b c d p q r s = rw (p, q, r, s) refl
