@@ -30,6 +30,7 @@ INDEX = ('r10_body/src/limits.rt', 'r10_body/specs/Limits.antt')
 COST = ('r10_body/src/costs.rt', 'r10_body/specs/Cost.antt')
 TYPES = ('r10_packet/src/types.rt', 'r10_packet/specs/Types.antt')
 TEXT = ('r10_setup/src/body.rt', 'r10_setup/specs/Setup.antt')
+BUS = ('r10_b1553/src/entry.rt', 'r10_b1553/specs/Bus.antt')
 
 # Where a limit is computed from another, the other is above it. One without a definition is used in code alone.
 LIMITS = [
@@ -43,6 +44,7 @@ LIMITS = [
     Limit('ENTRY_COST', 'each_entry', *COST),
     Limit('FILE_COST', 'each_file', *COST),
     Limit('LOSS_COST', 'each_report', *COST),
+    Limit('NAMED_BITS', 'named_bits', *BUS),
 ]
 
 NUMBER = r'(?<![\w.])(0x[0-9A-Fa-f_]+|[0-9][0-9_]*)(?![\w.]*\w)'

@@ -27,9 +27,13 @@ pub record FitsArinc (e : ArincEntry) : Type 0 where
   pub bus : e.bus < 2 ^ 8
   pub word : e.word < 2 ^ 32
 
--- no earlier than a count, and at most a tenth of a second later
+-- the longest gap in a packet: a tenth of a second, in units of 100 ns
+abbrev pub longest_gap : ℕ
+longest_gap = 1000000
+
+-- no earlier than a count, and no more than the longest gap later
 abbrev pub FollowsSoon : ℕ → ArincEntry → Type 0
-FollowsSoon before e = (before ≤ e.count) × (e.count ≤ before + 1000000)
+FollowsSoon before e = (before ≤ e.count) × (e.count ≤ before + longest_gap)
 
 -- counts don't fall, and no gap is over a tenth of a second
 abbrev pub HasShortGaps : ℕ → List ArincEntry → Type 0

@@ -1,11 +1,14 @@
 //! ARINC 429 words as entries of a body.
 
 ghost use Rattle.std.specs.Prelude.{◌≡◌, ◌≤◌, ◌↔◌, IsTrue};
-ghost use Rattle.r10_a429.specs.Arinc.{arinc_header};
+ghost use Rattle.r10_a429.specs.Arinc.{arinc_header, longest_gap};
 ghost use Rattle.r10_a429.specs.Entry.{FitsBehind};
 
 use r10_count::{BodyEntry, Count, append_all, split_u32};
 use std::alloc::{AllocError, Global};
+
+/// The longest gap between a word and the one before it in a packet: a tenth of a second, in units of 100 ns.
+pub const LONGEST_GAP: u32 = 1_000_000;
 
 /// A word of an ARINC 429 bus with its time.
 #[derive(Clone, Copy, Debug, PartialEq, Eq)]
@@ -31,12 +34,12 @@ impl ArincEntry {
     {
         let (_bus, _word) = (self.bus, self.word);
         let count = self.count.get();
-        before <= count && count - before <= 1_000_000
+        before <= count && count - before <= u64::from(LONGEST_GAP)
     }
 
     /// The bus, the flags and the gap since the word before.
     fn header(&self, gap: u32) -> u32
-        requires { gap ≤ 1000000 }
+        requires { gap ≤ longest_gap }
         ensures { result ≡ arinc_header gap self.now }
     {
         let format = if self.format { 0x80_0000 } else { 0 };
@@ -103,7 +106,7 @@ impl BodyEntry for ArincEntry {
             return Ok(None);
         };
         let gap = header % 0x20_0000;
-        if gap > 1_000_000 || !rest.is_empty() {
+        if gap > LONGEST_GAP || !rest.is_empty() {
             return Ok(None);
         }
         let Some(count) = Count::of(before.saturating_add(u64::from(gap))) else {

@@ -6,4 +6,4 @@ mod body;
 mod entry;
 
 pub use body::ArincBody;
-pub use entry::ArincEntry;
+pub use entry::{ArincEntry, LONGEST_GAP};

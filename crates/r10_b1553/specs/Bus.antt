@@ -32,12 +32,16 @@ bus_of count status gap words = record { count = count; status = status; gap = g
 abbrev pub named_bits : ℕ
 named_bits = 0x3E38
 
--- the ranges of the fields; two commands, two statuses and 32 data words are 36 words
+-- two commands, two statuses and 32 data words
+abbrev pub most_words : ℕ
+most_words = 36
+
+-- the ranges of the fields
 pub record FitsBus (e : BusEntry) : Type 0 where
   pub count : IsCount e.count
   pub status : bit_and e.status named_bits ≡ e.status
   pub gap : e.gap < 2 ^ 16
-  pub few : length e.words ≤ 36
+  pub few : length e.words ≤ most_words
   pub words : AllByRecursion (λ w. w < 2 ^ 16) e.words
 
 -- the messages of one packet: there is one, and there are no more than the word's 24 bits count

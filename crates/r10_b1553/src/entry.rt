@@ -3,14 +3,20 @@
 ghost use Rattle.std.specs.Prelude.{◌≡◌, ◌↔◌, ◌*◌, ◌^◌, ◌<◌, ◌≤◌, ◌++◌, IsTrue, IfSome, IfNone, length};
 ghost use Rattle.r10_count.specs.Bytes.{le_bytes};
 ghost use Rattle.r10_count.specs.Append.{Appends};
-ghost use Rattle.r10_b1553.specs.Bus.{FitsBus, bus_entry, bus_of, bus_word};
+ghost use Rattle.r10_b1553.specs.Bus.{FitsBus, bus_entry, bus_of, bus_word, most_words};
 
 use crate::words::{append_words, words_of};
 use r10_count::{BodyEntry, Count, Items, append_all, split_u16};
 use std::alloc::{AllocError, Global};
 
 /// The bits of the block status that have a name. Their places are this recorder's own choice.
-const NAMED_BITS: u16 = 0x3E38;
+pub const NAMED_BITS: u16 = 0x3E38;
+
+/// How many words a message has at most: two commands, two statuses and 32 data words.
+pub const MOST_WORDS: usize = 36;
+
+/// How many bytes these are.
+pub const MOST_BYTES: u16 = 2 * MOST_WORDS as u16;
 
 /// A message of the bus with its time.
 #[derive(Debug, Drop, PartialEq, Eq)]
@@ -34,7 +40,7 @@ impl BusEntry {
         let _ = self.count.get();
         let _gap = self.gap;
         let words = self.words.as_slice();
-        self.status & NAMED_BITS == self.status && words.len() <= 36
+        self.status & NAMED_BITS == self.status && words.len() <= MOST_WORDS
     }
 }
 
@@ -58,7 +64,7 @@ pub fn push_entry(
     gap: u16,
     words: &[u16],
 ) -> Result<(), AllocError>
-    requires { length words.now ≤ 36 }
+    requires { length words.now ≤ most_words }
     ensures { Appends (bus_entry (bus_of count status gap words.now)) out.old out.new result }
 {
     let before = out.len();
@@ -152,7 +158,7 @@ impl BodyEntry for BusEntry {
         };
         if status & NAMED_BITS != status
             || size % 2 == 1
-            || size > 72
+            || size > MOST_BYTES
             || rest.len() != usize::from(size)
         {
             return Ok(None);

@@ -7,4 +7,4 @@ mod entry;
 mod words;
 
 pub use body::BusBody;
-pub use entry::{BusEntry, channel_word, push_entry};
+pub use entry::{BusEntry, MOST_BYTES, MOST_WORDS, NAMED_BITS, channel_word, push_entry};

@@ -4,6 +4,7 @@
 //! the rules of a file where it may follow.
 #![tactic(auto)]
 
+mod channel_entry;
 mod channels;
 mod costs;
 mod entry;
@@ -22,6 +23,7 @@ mod same;
 mod spec;
 mod spelling;
 
+pub use channel_entry::ChannelEntry;
 pub use costs::{ENTRY_COST, FILE_COST, LOSS_COST, cost};
 pub use entry::{Entry, Sample, Timed};
 pub use fault::FileFault;

@@ -1,5 +1,5 @@
-//! Whether entries are the same. The derived `==` goes by the definitions of equality of an entry's parts; of these a contract says
-//! that they answer yes for the same entries and for no others.
+//! Whether entries are the same. The derived `==` ensures an equality of its own, part by part. That this is to be the same would
+//! be a lemma with the cases of the table here, so the table stands in the code, where a contract says so.
 
 ghost use Rattle.std.specs.Prelude.{◌≡◌, ◌↔◌, IsTrue, take};
 

@@ -24,4 +24,4 @@ mod Lower
 mod Moving
 mod Adding
 mod FirstEntries
-mod KindBodies
+mod Counted

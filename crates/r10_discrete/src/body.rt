@@ -23,7 +23,7 @@ pub struct DiscreteBody {
 }
 
 /// The number of discretes that a body's word tells.
-fn bits_in(body: &[u8]) -> u32
+pub fn bits_in(body: &[u8]) -> u32
     ensures range { result < 32 }
     ensures value { (bits : ℕ) (rest : List ℕ) → bits < 32 → body.now ≡ le_bytes 4 (8 * bits) ++ rest → result ≡ bits }
 {

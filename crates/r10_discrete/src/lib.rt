@@ -6,6 +6,6 @@ mod body;
 mod entry;
 mod states;
 
-pub use body::DiscreteBody;
+pub use body::{DiscreteBody, bits_in};
 pub use entry::DiscreteEntry;
 pub use states::has_only;

@@ -19,19 +19,12 @@ fn behind<'a>(bytes: &'a [u8], front: &[u8]) -> Option<&'a [u8]>
     bytes.strip_prefix(front)
 }
 
-/// A data type, and a channel below it.
-fn packet_word(data_type: u8, channel: u16) -> u32
-    ensures { result ≡ 2 ^ 16 * data_type + channel }
-{
-    0x1_0000 * u32::from(data_type) + u32::from(channel)
-}
-
 /// The bytes after what a node says of a packet.
 fn behind_packet<'a>(bytes: &'a [u8], entry: &NodeEntry) -> Option<&'a [u8]>
     ensures found { IfSome result (λ rest. bytes.now ≡ node_entry entry.now ++ rest.now) }
     ensures none { IfNone result ((rest : List ℕ) → bytes.now ≡ node_entry entry.now ++ rest → ⊥) }
 {
-    let packet = packet_word(entry.data_type, entry.channel);
+    let packet = entry.packet_word();
     let rest = behind(bytes, &entry.counter.stamp())?;
     let rest = behind(rest, &packet.to_le_bytes())?;
     behind(rest, &entry.offset.to_le_bytes())

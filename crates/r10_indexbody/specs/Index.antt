@@ -8,9 +8,13 @@ use Rattle.r10_indexbody.specs.declared.entry.RootEntry.{RootEntry}
 
 -- ---- nodes
 
+-- the word that names a packet: its data type above its channel ID
+abbrev pub packet_word : NodeEntry → ℕ
+packet_word e = 2 ^ 16 * e.data_type + e.channel
+
 -- the packet's counter, data type and channel, and its offset in the file
 abbrev pub node_entry : NodeEntry → List ℕ
-node_entry e = stamp e.counter ++ le_bytes 4 (2 ^ 16 * e.data_type + e.channel) ++ le_bytes 8 e.offset
+node_entry e = stamp e.counter ++ le_bytes 4 (packet_word e) ++ le_bytes 8 e.offset
 
 -- the word says that this is a node, without the file's size and without data headers, and has the number of entries
 abbrev pub node_body : List NodeEntry → List ℕ

@@ -1,8 +1,8 @@
 //! Entries of index packets.
 
-ghost use Rattle.std.specs.Prelude.{◌≡◌, ◌+◌, ◌-◌, ◌*◌, ◌^◌, ◌≤◌, ◌++◌, length, take};
+ghost use Rattle.std.specs.Prelude.{◌≡◌, ◌-◌, ◌≤◌, ◌++◌, length, take};
 ghost use Rattle.r10_count.specs.Append.{Appends};
-ghost use Rattle.r10_indexbody.specs.Index.{node_entry};
+ghost use Rattle.r10_indexbody.specs.Index.{node_entry, packet_word};
 
 use r10_count::{BodyEntry, Count, append_all, split_u32, split_u64};
 use std::alloc::{AllocError, Global};
@@ -29,13 +29,6 @@ pub struct RootEntry {
     pub offset: u64,
 }
 
-/// A data type, and a channel below it.
-fn packet_word(data_type: u8, channel: u16) -> u32
-    ensures { result ≡ 2 ^ 16 * data_type + channel }
-{
-    0x1_0000 * u32::from(data_type) + u32::from(channel)
-}
-
 /// Puts twenty bytes in place of the last twenty.
 #[inline(always)]
 fn put_last(bytes: &mut [u8], row: [u8; 20])
@@ -58,13 +51,22 @@ fn append_row(out: &mut Vec<u8>, row: [u8; 20]) -> Result<(), AllocError>
 }
 
 impl NodeEntry {
+    /// The word that names the packet: its data type above its channel ID.
+    #[inline(always)]
+    pub fn packet_word(&self) -> u32
+        ensures { result ≡ packet_word self.now }
+    {
+        let (data_type, channel) = (self.data_type, self.channel);
+        0x1_0000 * u32::from(data_type) + u32::from(channel)
+    }
+
     /// Its 20 bytes.
     #[inline(always)]
     fn row(&self) -> [u8; 20]
         ensures { result ≡ node_entry self.now }
     {
         let [s0, s1, s2, s3, s4, s5, s6, s7] = self.counter.stamp();
-        let [p0, p1, p2, p3] = packet_word(self.data_type, self.channel).to_le_bytes();
+        let [p0, p1, p2, p3] = self.packet_word().to_le_bytes();
         let [o0, o1, o2, o3, o4, o5, o6, o7] = self.offset.to_le_bytes();
         [
             s0, s1, s2, s3, s4, s5, s6, s7, p0, p1, p2, p3, o0, o1, o2, o3, o4, o5, o6, o7,

@@ -7,14 +7,28 @@ use Rattle.r10_count.specs.Form.{IsEntryBytes}
 use Rattle.r10_count.specs.Padding.{padded}
 use Rattle.r10_count.specs.Texts.{told_size}
 use Rattle.r10_message.specs.declared.entry.MessageEntry.{MessageEntry}
+use Rattle.r10_message.specs.declared.header.MessageHeader.{MessageHeader}
 
 -- the word has the number of messages, and says that each of them is whole
 abbrev pub message_word : ℕ → List ℕ
 message_word count = le_bytes 4 count
 
--- data error, format error, subchannel and length
+-- the 32 bits of a header: data error, format error, subchannel and length
+abbrev pub header_bits : MessageHeader → ℕ
+header_bits h = flag_at 31 h.data_error + flag_at 30 h.format + 2 ^ 16 * h.sub + h.length
+
+-- the ranges of its parts
+pub record FitsHeader (h : MessageHeader) : Type 0 where
+  pub sub : h.sub < 2 ^ 14
+  pub length : h.length < 2 ^ 16
+
+-- the header of an entry
+abbrev pub header_of : MessageEntry → MessageHeader
+header_of e = record { data_error = e.data_error; format = e.format; sub = e.sub; length = length e.bytes }
+
+-- and its bits
 abbrev pub message_header : MessageEntry → ℕ
-message_header e = flag_at 31 e.data_error + flag_at 30 e.format + 2 ^ 16 * e.sub + length e.bytes
+message_header e = header_bits (header_of e)
 
 -- a zero byte stands after an odd number of bytes
 abbrev pub message_entry : MessageEntry → List ℕ

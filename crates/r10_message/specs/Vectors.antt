@@ -2,7 +2,8 @@
 use Rattle.std.specs.Prelude.{◌≡◌, ℕ, true, false, List, [], ◌∷◌, ◌++◌, refl}
 use Rattle.std.proofs.Common.{arith, lit<, lit≤}
 use Rattle.r10_message.specs.declared.entry.MessageEntry.{MessageEntry}
-use Rattle.r10_message.specs.Message.{FitsMessage, IsForeignMessage, message_body, message_entry, message_of, is_opaque_message}
+use Rattle.r10_message.specs.declared.header.MessageHeader.{MessageHeader}
+use Rattle.r10_message.specs.Message.{FitsHeader, FitsMessage, IsForeignMessage, header_bits, message_body, message_entry, message_of, is_opaque_message}
 
 -- ABC at 1000 and an empty message at 1010
 abbrev pub two_messages : List MessageEntry
@@ -43,6 +44,16 @@ greatest-fits = record { count = lit< tt; sub = lit< tt; bytes = lit< tt }
 
 pub subchannel-16384 : FitsMessage (message_of 0 false false 16384 []) → ⊥
 subchannel-16384 fits = omega (arith, fits.sub)
+
+-- both errors, the last subchannel and the most bytes: all bits
+abbrev pub full_header : MessageHeader
+full_header = record { data_error = true; format = true; sub = 16383; length = 65535 }
+
+pub full_header-bits : header_bits full_header ≡ 0xFFFFFFFF
+full_header-bits = refl
+
+pub full_header-fits : FitsHeader full_header
+full_header-fits = record { sub = lit< tt; length = lit< tt }
 
 -- a front with any stamp, any upper half of the header, and this length
 abbrev pub message_front : ℕ → List ℕ

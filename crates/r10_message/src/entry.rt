@@ -1,10 +1,10 @@
 //! Messages as entries of a body.
 
-ghost use Rattle.std.specs.Prelude.{◌≡◌, ◌↔◌, ◌+◌, ◌*◌, ◌^◌, ◌<◌, IsTrue, length};
-ghost use Rattle.r10_count.specs.Bytes.{flag_at};
+ghost use Rattle.std.specs.Prelude.{◌≡◌, ◌↔◌, ◌^◌, ◌<◌, IsTrue, length};
 ghost use Rattle.r10_count.specs.Append.{Appends};
 ghost use Rattle.r10_message.specs.Message.{FitsMessage, message_entry, message_of, message_word};
 
+use crate::header::MessageHeader;
 use r10_count::{BodyEntry, Bytes, Count, append_text, split_u32, strip_padding};
 use std::alloc::{AllocError, Global};
 
@@ -41,17 +41,6 @@ pub fn channel_word(messages: u16) -> [u8; 4]
     u32::from(messages).to_le_bytes()
 }
 
-/// Data error, format error, subchannel and length.
-fn data_header(data_error: bool, format: bool, sub: u16, length: usize) -> u32
-    requires sub { sub < 2 ^ 14 }
-    requires length { length < 2 ^ 16 }
-    ensures { result ≡ flag_at 31 data_error + flag_at 30 format + 2 ^ 16 * sub + length }
-{
-    let data_flag = if data_error { 0x8000_0000 } else { 0 };
-    let format_flag = if format { 0x4000_0000 } else { 0 };
-    data_flag + format_flag + 0x1_0000 * u32::from(sub) + length as u32
-}
-
 /// Adds the bytes of one message from its parts: a stamp of 8 bytes, a header of 4, the bytes, and
 /// a zero byte where their number is odd. Where memory is refused, nothing is added.
 /// Source: IRIG 106-17 chapter 11, message data packets, format 0.
@@ -69,8 +58,14 @@ pub fn push_entry(
     ensures { Appends (message_entry (message_of count data_error format sub bytes.now)) out.old out.new result }
 {
     let stamp = count.stamp();
-    let header = data_header(data_error, format, sub, bytes.len()).to_le_bytes();
-    append_text(out, stamp, header, bytes)
+    let length = bytes.len();
+    let header = MessageHeader {
+        data_error,
+        format,
+        sub,
+        length,
+    };
+    append_text(out, stamp, header.bits().to_le_bytes(), bytes)
 }
 
 impl BodyEntry for MessageEntry {
@@ -136,14 +131,15 @@ impl BodyEntry for MessageEntry {
         let Some((header, rest)) = split_u32(rest) else {
             return Ok(None);
         };
-        let Some(text) = strip_padding(rest, (header % 0x1_0000) as usize) else {
+        let parts = MessageHeader::of(header);
+        let Some(text) = strip_padding(rest, parts.length) else {
             return Ok(None);
         };
         Ok(Some(MessageEntry {
             count,
-            data_error: header / 0x8000_0000 == 1,
-            format: header / 0x4000_0000 % 2 == 1,
-            sub: (header / 0x1_0000 % 0x4000) as u16,
+            data_error: parts.data_error,
+            format: parts.format,
+            sub: parts.sub,
             bytes: Bytes::copy_of(alloc, text)?,
         }))
     }

@@ -4,6 +4,8 @@
 
 mod body;
 mod entry;
+mod header;
 
 pub use body::MessageBody;
 pub use entry::{MessageEntry, channel_word, push_entry};
+pub use header::MessageHeader;

@@ -8,13 +8,8 @@ use Rattle.r10_count.proofs.Fronts.{front_2, same_stamp, same_u16}
 use Rattle.r10_b1553.specs.Bus.{FitsBus, bus_entry, bus_of, named_bits, words_low_first}
 use Rattle.r10_b1553.specs.Entry.{bus_form, bus_entry-size, status-fits}
 use Rattle.r10_b1553.specs.declared.entry.BusEntry.{BusEntry}
-use Rattle.r10_body.specs.Content.{timed}
-use Rattle.r10_body.specs.declared.entry.Timed.{Timed}
-use Rattle.r10_body.specs.declared.message.Message.TheVariants as messages
+use Rattle.r10_body.specs.Kinds.{bus_kind}
 use Rattle.r10_packet_rules.specs.Glance.{IsGlimpse}
-
-abbrev pub bus_said : BusEntry → Timed
-bus_said e = timed e.count (messages.Bus1553 e.status e.gap e.words)
 
 -- an even number of bytes are words
 words_of : (n : ℕ) (bytes : List ℕ) → length bytes ≡ 2 * n → ((i : ℕ) → get_or bytes i 0 < 256)
@@ -33,7 +28,7 @@ words_of (suc n) (a ∷ b ∷ bytes) e fits =
 pub bus_glimpse : (setting before : ℕ) (bytes text rest : List ℕ) (count status gap size : ℕ) → IsCount count → bit_and status named_bits ≡ status → gap < 2 ^ 16
     → size ≤ 72 → (size % 2 ≡ 1 → ⊥) → length text ≡ size → ((i : ℕ) → get_or text i 0 < 256)
     → bytes ≡ stamp count ++ le_bytes 2 status ++ le_bytes 2 gap ++ le_bytes 2 size ++ text ++ rest
-    → (e : BusEntry) × IsGlimpse bus_form bus_said setting before (bus_entry e) (record { count = count; cost = 118 + size }) e × (bytes ≡ bus_entry e ++ rest)
+    → (e : BusEntry) × IsGlimpse bus_form bus_kind.said setting before (bus_entry e) (record { count = count; cost = 118 + size }) e × (bytes ≡ bus_entry e ++ rest)
 bus_glimpse setting before bytes text rest count status gap size lc named lg most even n fits is =
     let words = words_of (size / 2) text (omega (arith, n, even)) fits in
     let e = bus_of count status gap words.0 in

@@ -1,22 +1,6 @@
 -- The bodies of each data type.
-use Rattle.std.proofs.Common.{◌≡◌, ℕ, ◌*◌, ◌<◌, List, ◌++◌, sym, arith}
-use Rattle.r10_count.specs.Bytes.{le_bytes}
+use Rattle.std.proofs.Common.{◌≡◌, ℕ, ◌≤◌, List, lit≤, refl, sym, arith}
 use Rattle.r10_count.specs.Form.{IsBody}
-use Rattle.r10_uart.specs.Entry.{uart_form}
-use Rattle.r10_uart.specs.declared.entry.UartEntry.{UartEntry}
-use Rattle.r10_uart.proofs.Bodies.{is_body as is_uart, body_is as uart_is}
-use Rattle.r10_message.specs.Entry.{message_form}
-use Rattle.r10_message.specs.declared.entry.MessageEntry.{MessageEntry}
-use Rattle.r10_message.proofs.Bodies.{is_body as is_message, body_is as message_is}
-use Rattle.r10_b1553.specs.Entry.{bus_form}
-use Rattle.r10_b1553.specs.declared.entry.BusEntry.{BusEntry}
-use Rattle.r10_b1553.proofs.Bodies.{is_body as is_bus, body_is as bus_is}
-use Rattle.r10_a429.specs.Entry.{arinc_form}
-use Rattle.r10_a429.specs.declared.entry.ArincEntry.{ArincEntry}
-use Rattle.r10_a429.proofs.Bodies.{is_body as is_arinc, body_is as arinc_is}
-use Rattle.r10_discrete.specs.Entry.{discrete_form}
-use Rattle.r10_discrete.specs.declared.entry.DiscreteEntry.{DiscreteEntry}
-use Rattle.r10_discrete.proofs.Bodies.{is_body as is_discrete, told_body}
 use Rattle.r10_indexbody.specs.Loss.{IsLossBody}
 use Rattle.r10_indexbody.specs.declared.loss.LossBody.{LossBody}
 use Rattle.r10_count.specs.declared.civil.Parts.{Parts}
@@ -30,47 +14,33 @@ use Rattle.r10_indexbody.specs.declared.entry.RootEntry.{RootEntry}
 use Rattle.r10_indexbody.proofs.Nodes.{is_body as is_node, body_is as node_is}
 use Rattle.r10_indexbody.proofs.Roots.{is_body as is_root, body_is as root_is}
 use Rattle.r10_body.specs.Bodies.{IsBodyOf}
+use Rattle.r10_body.specs.Messages.{kind_type}
+use Rattle.r10_body.specs.declared.message.Kind.{Kind}
+use Rattle.r10_body.specs.declared.message.Kind.TheVariants as kinds
+use Rattle.r10_packet_rules.specs.Facts.{kind_of}
+use Rattle.r10_packet_rules.specs.declared.facts.PacketKind.TheVariants.{Data}
 use Rattle.r10_body.specs.Content.{Content, arinc, bus, discrete, event, message, node, report, root, setup, time, type_of, uart}
 
-pub uart_body_of : (type counter : ℕ) (es : List UartEntry) (body : List ℕ) → type ≡ 0x50 → IsBody uart_form 0 0 es body → IsBodyOf type counter (uart es) body
-uart_body_of type counter es body t is = let own = is_uart es body is in record { type_is = sym t; fits = own.0; body_is = own.1 }
+-- a channel's packet is one of data
+low_type : (kind : Kind) → 0x19 ≤ kind_type kind
+low_type kinds.Uart = lit≤ tt
+low_type kinds.Bus1553 = lit≤ tt
+low_type kinds.Arinc = lit≤ tt
+low_type kinds.Discrete = lit≤ tt
+low_type kinds.Message = lit≤ tt
 
-pub uart_body_only : (type counter : ℕ) (content : Content) (body : List ℕ) → type ≡ 0x50 → IsBodyOf type counter content body → (es : List UartEntry) × IsBody uart_form 0 0 es body
-uart_body_only type counter (uart es) body t is = (es, uart_is es body (is.fits, is.body_is))
-uart_body_only type counter content body t is = absurd (omega (arith, is.type_is))
-
-pub message_body_of : (type counter : ℕ) (es : List MessageEntry) (body : List ℕ) → type ≡ 0x30 → IsBody message_form 0 0 es body → IsBodyOf type counter (message es) body
-message_body_of type counter es body t is = let own = is_message es body is in record { type_is = sym t; fits = own.0; body_is = own.1 }
-
-pub message_body_only : (type counter : ℕ) (content : Content) (body : List ℕ) → type ≡ 0x30 → IsBodyOf type counter content body → (es : List MessageEntry) × IsBody message_form 0 0 es body
-message_body_only type counter (message es) body t is = (es, message_is es body (is.fits, is.body_is))
-message_body_only type counter content body t is = absurd (omega (arith, is.type_is))
-
-pub bus_body_of : (type counter : ℕ) (es : List BusEntry) (body : List ℕ) → type ≡ 0x19 → IsBody bus_form 0 0 es body → IsBodyOf type counter (bus es) body
-bus_body_of type counter es body t is = let own = is_bus es body is in record { type_is = sym t; fits = own.0; body_is = own.1 }
-
-pub bus_body_only : (type counter : ℕ) (content : Content) (body : List ℕ) → type ≡ 0x19 → IsBodyOf type counter content body → (es : List BusEntry) × IsBody bus_form 0 0 es body
-bus_body_only type counter (bus es) body t is = (es, bus_is es body (is.fits, is.body_is))
-bus_body_only type counter content body t is = absurd (omega (arith, is.type_is))
-
-pub arinc_body_of : (type counter : ℕ) (es : List ArincEntry) (body : List ℕ) → type ≡ 0x38 → IsBody arinc_form 0 counter es body → IsBodyOf type counter (arinc es) body
-arinc_body_of type counter es body t is = let own = is_arinc counter es body is in record { type_is = sym t; fits = own.0; body_is = own.1 }
-
-pub arinc_body_only : (type counter : ℕ) (content : Content) (body : List ℕ) → type ≡ 0x38 → IsBodyOf type counter content body → (es : List ArincEntry) × IsBody arinc_form 0 counter es body
-arinc_body_only type counter (arinc es) body t is = (es, arinc_is counter es body (is.fits, is.body_is))
-arinc_body_only type counter content body t is = absurd (omega (arith, is.type_is))
-
--- what a body's word tells where it tells a number of discretes
-abbrev pub TellsBits : ℕ → List ℕ → Type 0
-TellsBits told body = (bits : ℕ) (rest : List ℕ) → bits < 32 → body ≡ le_bytes 4 (8 * bits) ++ rest → told ≡ bits
-
-pub discrete_body_of : (type counter told : ℕ) (es : List DiscreteEntry) (body : List ℕ) → type ≡ 0x29 → IsBody discrete_form told 0 es body → IsBodyOf type counter (discrete told es) body
-discrete_body_of type counter told es body t is = let own = is_discrete told es body is in record { type_is = sym t; fits = own.0; body_is = own.1 }
-
-pub discrete_body_only : (type counter told : ℕ) (content : Content) (body : List ℕ) → type ≡ 0x29 → TellsBits told body → IsBodyOf type counter content body
-    → (es : List DiscreteEntry) × IsBody discrete_form told 0 es body
-discrete_body_only type counter told (discrete bits es) body t tells is = (es, told_body told bits es body tells (is.fits, is.body_is))
-discrete_body_only type counter told content body t tells is = absurd (omega (arith, is.type_is))
+pub channel_data : (kind : Kind) (content : Content) → type_of content ≡ kind_type kind → kind_of content ≡ Data
+channel_data kind (setup text) is = absurd (omega (arith, is, low_type kind))
+channel_data kind (time civil) is = absurd (omega (arith, is, low_type kind))
+channel_data kind (event e) is = absurd (omega (arith, is, low_type kind))
+channel_data kind (node es) is = absurd (omega (arith, is, low_type kind))
+channel_data kind (root es) is = absurd (omega (arith, is, low_type kind))
+channel_data kind (report lost) is = absurd (omega (arith, is, low_type kind))
+channel_data kind (uart es) is = refl
+channel_data kind (bus es) is = refl
+channel_data kind (arinc es) is = refl
+channel_data kind (discrete bits es) is = refl
+channel_data kind (message es) is = refl
 
 pub loss_body_of : (type counter : ℕ) (loss : LossBody) (body : List ℕ) → type ≡ 0 → IsLossBody loss body → IsBodyOf type counter (report loss) body
 loss_body_of type counter loss body t is = record { type_is = sym t; fits = is.0; body_is = is.1 }

@@ -9,15 +9,10 @@ use Rattle.r10_a429.specs.declared.entry.ArincEntry.{ArincEntry}
 use Rattle.r10_discrete.specs.Discrete.{discrete_entry}
 use Rattle.r10_discrete.specs.Entry.{FitsFields, discrete_form, has_only}
 use Rattle.r10_discrete.specs.declared.entry.DiscreteEntry.{DiscreteEntry}
-use Rattle.r10_body.specs.Content.{timed}
-use Rattle.r10_body.specs.declared.entry.Timed.{Timed}
-use Rattle.r10_body.specs.declared.message.Message.TheVariants as messages
+use Rattle.r10_body.specs.Kinds.{arinc_kind, discrete_kind}
 use Rattle.r10_packet_rules.specs.Glance.{IsGlimpse}
 
 -- ---- ARINC 429 words
-
-abbrev pub arinc_said : ArincEntry → Timed
-arinc_said e = timed e.count (messages.Arinc e.bus e.format e.parity e.high e.word)
 
 -- a flag is its bit's part of a number
 bit_part : (part bit : ℕ) → bit < 2 → cond (nat_eq bit 1) part 0 ≡ part * bit
@@ -39,7 +34,7 @@ header_of count header word =
 -- the word that stands first, by its header
 pub arinc_glimpse : (setting before : ℕ) (bytes rest : List ℕ) (count header word : ℕ) → IsCount count → header < 2 ^ 32 → word < 2 ^ 32 → header % 2097152 ≤ 1000000
     → count ≡ before + header % 2097152 → bytes ≡ le_bytes 4 header ++ le_bytes 4 word ++ rest
-    → (e : ArincEntry) × IsGlimpse arinc_form arinc_said setting before (arinc_entry (e.count - before) e) (record { count = count; cost = 112 }) e × (bytes ≡ arinc_entry (e.count - before) e ++ rest)
+    → (e : ArincEntry) × IsGlimpse arinc_form arinc_kind.said setting before (arinc_entry (e.count - before) e) (record { count = count; cost = 112 }) e × (bytes ≡ arinc_entry (e.count - before) e ++ rest)
 arinc_glimpse setting before bytes rest count header word lc lt lw soon behind is =
     let e = arinc_of count header word in
     let gap : count - before ≡ header % 2097152 = omega (arith, behind) in
@@ -89,13 +84,10 @@ arinc_told before bytes rest left header word e lt is fits other =
 
 -- ---- changes of discretes
 
-abbrev pub discrete_said : DiscreteEntry → Timed
-discrete_said e = timed e.count (messages.Discrete e.states)
-
 -- the change that stands first, by its stamp and its states
 pub discrete_glimpse : (setting before : ℕ) (bytes rest : List ℕ) (count states : ℕ) → IsCount count → states < 2 ^ 32 → has_only setting states ≡ true
     → bytes ≡ stamp count ++ le_bytes 4 states ++ rest
-    → (e : DiscreteEntry) × IsGlimpse discrete_form discrete_said setting before (discrete_entry e) (record { count = count; cost = 116 }) e × (bytes ≡ discrete_entry e ++ rest)
+    → (e : DiscreteEntry) × IsGlimpse discrete_form discrete_kind.said setting before (discrete_entry e) (record { count = count; cost = 116 }) e × (bytes ≡ discrete_entry e ++ rest)
 discrete_glimpse setting before bytes rest count states lc lt only is = (
   record { count = count; states = states },
   record { fits = record { count = lc; states = lt }; suits = only; spelled = refl; count = refl; same = refl; cost = refl; cheap = omega arith },

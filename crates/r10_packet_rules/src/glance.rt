@@ -4,29 +4,15 @@ use crate::bus::split_bus;
 use crate::fixed::{split_states, split_word};
 use crate::scan::{Glimpse, ScannedEntry};
 use crate::text::split_text;
-use r10_a429::ArincEntry;
-use r10_b1553::BusEntry;
+use r10_a429::{ArincEntry, LONGEST_GAP};
+use r10_b1553::{BusEntry, MOST_BYTES, NAMED_BITS};
 use r10_body::ENTRY_COST;
 use r10_count::Count;
 use r10_discrete::{DiscreteEntry, has_only};
-use r10_message::MessageEntry;
-use r10_uart::UartEntry;
-
-/// The bits of the block status of a MIL-STD-1553 message that have a name.
-const NAMED_BITS: u16 = 0x3E38;
-
-/// How many bytes the words of a MIL-STD-1553 message have at most: two commands, two statuses and 32 data words.
-const MOST_BYTES: u16 = 72;
-
-/// The longest gap since the ARINC 429 word before, a tenth of a second in units of 100 ns.
-const LONGEST_GAP: u32 = 1_000_000;
+use r10_message::{MessageEntry, MessageHeader};
+use r10_uart::{UartEntry, UartHeader};
 
 impl ScannedEntry for UartEntry {
-    ghost use Rattle.r10_body.specs.Content.{timed};
-    ghost use Rattle.r10_body.specs.declared.message.Message.TheVariants.{Uart};
-
-    ghost said = { λ e. timed e.count (Uart e.parity e.sub e.bytes) };
-
     #[inline(always)]
     fn may_open(counter: u64, count: Count) -> bool {
         let _ = (counter, count);
@@ -39,23 +25,18 @@ impl ScannedEntry for UartEntry {
         let Some(front) = split_text(bytes) else {
             return None;
         };
-        if front.header / 0x4000_0000 % 2 == 1 {
+        let Some(header) = UartHeader::of(front.header) else {
             return None;
-        }
+        };
         let glimpse = Glimpse {
             count: front.count,
-            cost: ENTRY_COST + 12 + (front.header % 0x1_0000) as u64,
+            cost: ENTRY_COST + 12 + header.length as u64,
         };
         Some((glimpse, front.rest))
     }
 }
 
 impl ScannedEntry for MessageEntry {
-    ghost use Rattle.r10_body.specs.Content.{timed};
-    ghost use Rattle.r10_body.specs.declared.message.Message.TheVariants.{Message};
-
-    ghost said = { λ e. timed e.count (Message e.data_error e.format e.sub e.bytes) };
-
     #[inline(always)]
     fn may_open(counter: u64, count: Count) -> bool {
         let _ = (counter, count);
@@ -68,20 +49,16 @@ impl ScannedEntry for MessageEntry {
         let Some(front) = split_text(bytes) else {
             return None;
         };
+        let header = MessageHeader::of(front.header);
         let glimpse = Glimpse {
             count: front.count,
-            cost: ENTRY_COST + 12 + (front.header % 0x1_0000) as u64,
+            cost: ENTRY_COST + 12 + header.length as u64,
         };
         Some((glimpse, front.rest))
     }
 }
 
 impl ScannedEntry for BusEntry {
-    ghost use Rattle.r10_body.specs.Content.{timed};
-    ghost use Rattle.r10_body.specs.declared.message.Message.TheVariants.{Bus1553};
-
-    ghost said = { λ e. timed e.count (Bus1553 e.status e.gap e.words) };
-
     #[inline(always)]
     fn may_open(counter: u64, count: Count) -> bool {
         let _ = (counter, count);
@@ -112,11 +89,6 @@ impl ScannedEntry for BusEntry {
 }
 
 impl ScannedEntry for ArincEntry {
-    ghost use Rattle.r10_body.specs.Content.{timed};
-    ghost use Rattle.r10_body.specs.declared.message.Message.TheVariants.{Arinc};
-
-    ghost said = { λ e. timed e.count (Arinc e.bus e.format e.parity e.high e.word) };
-
     #[inline(always)]
     fn may_open(counter: u64, count: Count) -> bool {
         count.get() == counter
@@ -141,11 +113,6 @@ impl ScannedEntry for ArincEntry {
 }
 
 impl ScannedEntry for DiscreteEntry {
-    ghost use Rattle.r10_body.specs.Content.{timed};
-    ghost use Rattle.r10_body.specs.declared.message.Message.TheVariants.{Discrete};
-
-    ghost said = { λ e. timed e.count (Discrete e.states) };
-
     #[inline(always)]
     fn may_open(counter: u64, count: Count) -> bool {
         let _ = (counter, count);

@@ -3,13 +3,13 @@
 ghost use Rattle.std.specs.Prelude.{◌≡◌, ◌++◌, ◌≤◌, ◌&&◌, ℕ, List, map, max, nat_le, true, IfSome, IfNone, length};
 ghost use Rattle.r10_count.specs.Form.{IsBody};
 ghost use Rattle.r10_packet.specs.Limits.{longest_packet};
-ghost use Rattle.r10_body.specs.declared.entry.Timed.{Timed as TimedValue};
 ghost use Rattle.r10_packet_rules.specs.Glance.{AreEntries, IsGlimpse};
 ghost use Rattle.r10_packet_rules.specs.Tally.{tally_of};
 
 use crate::facts::Spread;
 use crate::tally::EntryTally;
-use r10_count::{BodyEntry, Count, split_u32};
+use r10_body::ChannelEntry;
+use r10_count::{Count, split_u32};
 
 /// What an entry comes to.
 #[derive(Clone, Copy, Debug, PartialEq, Eq)]
@@ -20,10 +20,7 @@ pub(crate) struct Glimpse {
 }
 
 /// An entry of a body that is read where it stands.
-pub(crate) trait ScannedEntry: BodyEntry {
-    /// The message of an entry, with its count.
-    ghost said: { Self → TimedValue };
-
+pub(crate) trait ScannedEntry: ChannelEntry {
     /// Whether an entry at this count may come first in a packet of this counter.
     fn may_open(counter: u64, count: Count) -> bool
         ensures { (e : Self) → Self.form.count e ≡ count → result ≡ Self.form.opens counter e };
@@ -31,7 +28,8 @@ pub(crate) trait ScannedEntry: BodyEntry {
     /// What the entry comes to that stands first, and the bytes after it, if the writer spells one so after
     /// an entry at a count, on a channel of this setting.
     fn glance(setting: u32, before: u64, bytes: &[u8]) -> Option<(Glimpse, &[u8])>
-        ensures found { IfSome result (λ x. (e : Self) × IsGlimpse Self.form said setting before (Self.form.spelled before e) x.0 e
+        ensures found { IfSome result (λ x. (e : Self)
+            × IsGlimpse Self.form Self.channel.said setting before (Self.form.spelled before e) x.0 e
             × (bytes.now ≡ Self.form.spelled before e ++ x.1.now)) }
         ensures none { IfNone result ((e : Self) (rest : List ℕ) → Self.form.Fits before e → Self.form.suits setting e ≡ true
             → bytes.now ≡ Self.form.spelled before e ++ rest → ⊥) };
@@ -58,8 +56,8 @@ fn goes_on(rise: bool, greatest: Count, count: Count) -> bool
 #[inline(never)]
 fn scan<E: ScannedEntry>(setting: u32, counter: u64, bytes: &[u8]) -> Option<EntryTally>
     requires { length bytes.now ≤ longest_packet }
-    ensures found { IfSome result
-        (λ t. (entries : List E) × AreEntries E.form setting counter entries bytes.now × (t ≡ tally_of (map E.said entries))) }
+    ensures found { IfSome result (λ t. (entries : List E) × AreEntries E.form setting counter entries bytes.now
+        × (t ≡ tally_of (map E.channel.said entries))) }
     ensures none { IfNone result ((entries : List E) → AreEntries E.form setting counter entries bytes.now → ⊥) }
 {
     let Some((first, behind)) = E::glance(setting, counter, bytes) else {
@@ -105,8 +103,8 @@ pub(crate) fn scan_body<E: ScannedEntry>(
     body: &[u8],
 ) -> Option<EntryTally>
     requires { length body.now ≤ longest_packet }
-    ensures found { IfSome result
-        (λ t. (entries : List E) × IsBody E.form setting counter entries body.now × (t ≡ tally_of (map E.said entries))) }
+    ensures found { IfSome result (λ t. (entries : List E) × IsBody E.form setting counter entries body.now
+        × (t ≡ tally_of (map E.channel.said entries))) }
     ensures none { IfNone result ((entries : List E) → IsBody E.form setting counter entries body.now → ⊥) }
 {
     let Some((word, rest)) = split_u32(body) else {

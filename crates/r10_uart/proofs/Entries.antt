@@ -1,25 +1,32 @@
 -- An entry's header and its fields.
-use Rattle.std.proofs.Common.{◌≡◌, ℕ, ◌+◌, ◌*◌, ◌/◌, ◌%◌, ◌^◌, ◌<◌, List, ◌++◌, length, nat_eq, sym, ap, ◌∙◌, arith}
-use Rattle.r10_count.specs.Bytes.{le_bytes, flag_at}
+use Rattle.std.proofs.Common.{◌≡◌, ℕ, ◌+◌, ◌*◌, ◌^◌, ◌<◌, List, ◌++◌, length, sym, ap, ◌∙◌, arith}
+use Rattle.r10_count.specs.Bytes.{le_bytes}
 use Rattle.r10_count.specs.Count.{stamp, IsCount}
 use Rattle.r10_count.specs.Padding.{padded}
-use Rattle.r10_uart.specs.Uart.{FitsUart, uart_header, uart_entry, uart_of}
+use Rattle.r10_count.proofs.Fronts.{same_stamp, same_u32}
+use Rattle.r10_uart.specs.Uart.{FitsHeader, FitsUart, header_bits, header_of, uart_header, uart_entry, uart_of}
+use Rattle.r10_uart.specs.Entry.{uart_header-fits}
 use Rattle.r10_uart.specs.declared.entry.UartEntry.{UartEntry}
-use Rattle.r10_count.proofs.Fronts.{high_bit}
-
--- a header is made of its fields
-header_of : (header : ℕ) → header < 2 ^ 32 → (header / 1073741824 % 2 ≡ 1 → ⊥) → flag_at 31 (nat_eq (header / 2147483648) 1) + 65536 * (header / 65536 % 16384) + header % 65536 ≡ header
-header_of header lt free = omega (arith, high_bit (header / 2147483648) (omega arith), free)
+use Rattle.r10_uart.specs.declared.header.UartHeader.{UartHeader}
 
 -- the entry that a header and bytes make
-abbrev pub entry_of : ℕ → ℕ → List ℕ → UartEntry
-entry_of count header text = uart_of count (nat_eq (header / 2147483648) 1) (header / 65536 % 16384) text
+abbrev pub entry_of : ℕ → UartHeader → List ℕ → UartEntry
+entry_of count h text = uart_of count h.parity h.sub text
 
-pub entry_read : (bytes rest behind text : List ℕ) (count header : ℕ) → IsCount count → header < 2 ^ 32 → (header / 1073741824 % 2 ≡ 1 → ⊥)
-    → bytes ≡ stamp count ++ rest → rest ≡ le_bytes 4 header ++ behind → behind ≡ padded text → length text ≡ header % 65536
-    → FitsUart (entry_of count header text) × (bytes ≡ uart_entry (entry_of count header text))
-entry_read bytes rest behind text count header lc lt free e1 e2 e3 n =
-    let is : uart_header (entry_of count header text) ≡ header = omega (arith, n, header_of header lt free) in (
-      record { count = lc; sub = omega arith; bytes = omega (arith, n) },
-      e1 ∙ ap (λ t. stamp count ++ t) (e2 ∙ ap (λ t. le_bytes 4 header ++ t) e3) ∙ ap (λ h. stamp count ++ le_bytes 4 h ++ padded text) (sym is),
+pub entry_read : (bytes rest behind text : List ℕ) (count header : ℕ) (h : UartHeader) → IsCount count → FitsHeader h → header ≡ header_bits h
+    → bytes ≡ stamp count ++ rest → rest ≡ le_bytes 4 header ++ behind → behind ≡ padded text → length text ≡ h.length
+    → FitsUart (entry_of count h text) × (bytes ≡ uart_entry (entry_of count h text))
+entry_read bytes rest behind text count header h lc fits told e1 e2 e3 n =
+    let is : uart_header (entry_of count h text) ≡ header = omega (arith, n, told) in
+    let low = fits.length in (
+      record { count = lc; sub = fits.sub; bytes = omega (arith, n) },
+      e1 ∙ ap (λ t. stamp count ++ t) (e2 ∙ ap (λ t. le_bytes 4 header ++ t) e3) ∙ ap (λ n. stamp count ++ le_bytes 4 n ++ padded text) (sym is),
     )
+
+-- no entry has a header that has no parts
+pub no_entry : (bytes rest behind text : List ℕ) (count header : ℕ) (e : UartEntry) → IsCount count → header < 2 ^ 32 → ((h : UartHeader) → FitsHeader h → header ≡ header_bits h → ⊥)
+    → bytes ≡ stamp count ++ rest → rest ≡ le_bytes 4 header ++ behind → FitsUart e → bytes ≡ uart_entry e ++ text → ⊥
+no_entry bytes rest behind text count header e lc lt none e1 e2 fits is =
+    let first = same_stamp count e.count rest (le_bytes 4 (uart_header e) ++ padded e.bytes ++ text) lc fits.count (sym e1 ∙ is) in
+    let second = same_u32 header (uart_header e) behind (padded e.bytes ++ text) lt (uart_header-fits e.parity e.sub (length e.bytes) fits.sub fits.bytes) (sym e2 ∙ first.1) in
+    none (header_of e) (record { sub = fits.sub; length = fits.bytes }) second.0

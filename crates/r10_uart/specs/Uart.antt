@@ -7,14 +7,28 @@ use Rattle.r10_count.specs.Form.{IsEntryBytes}
 use Rattle.r10_count.specs.Padding.{padded}
 use Rattle.r10_count.specs.Texts.{told_size}
 use Rattle.r10_uart.specs.declared.entry.UartEntry.{UartEntry}
+use Rattle.r10_uart.specs.declared.header.UartHeader.{UartHeader}
 
 -- the word says that stamps are present
 abbrev pub uart_word : List ℕ
 uart_word = le_bytes 4 0x80000000
 
--- parity error, subchannel and length
+-- the 32 bits of a header: parity error, a bit that must be 0, subchannel and length
+abbrev pub header_bits : UartHeader → ℕ
+header_bits h = flag_at 31 h.parity + 2 ^ 16 * h.sub + h.length
+
+-- the ranges of its parts
+pub record FitsHeader (h : UartHeader) : Type 0 where
+  pub sub : h.sub < 2 ^ 14
+  pub length : h.length < 2 ^ 16
+
+-- the header of an entry
+abbrev pub header_of : UartEntry → UartHeader
+header_of e = record { parity = e.parity; sub = e.sub; length = length e.bytes }
+
+-- and its bits
 abbrev pub uart_header : UartEntry → ℕ
-uart_header e = flag_at 31 e.parity + 2 ^ 16 * e.sub + length e.bytes
+uart_header e = header_bits (header_of e)
 
 -- a zero byte stands after an odd number of bytes
 abbrev pub uart_entry : UartEntry → List ℕ

@@ -2,8 +2,9 @@
 use Rattle.std.specs.Prelude.{◌≡◌, ℕ, Some, true, false, List, [], ◌∷◌, ◌++◌, refl}
 use Rattle.std.proofs.Common.{arith, lit<, lit≤}
 use Rattle.r10_uart.specs.declared.entry.UartEntry.{UartEntry}
+use Rattle.r10_uart.specs.declared.header.UartHeader.{UartHeader}
 use Rattle.r10_count.specs.Texts.{told_size}
-use Rattle.r10_uart.specs.Uart.{FitsUart, IsForeignUart, uart_body, uart_entry, uart_of, is_opaque_uart}
+use Rattle.r10_uart.specs.Uart.{FitsHeader, FitsUart, IsForeignUart, header_bits, uart_body, uart_entry, uart_of, is_opaque_uart}
 
 -- ABC at 1000 and an empty message at 1010
 abbrev pub two_messages : List UartEntry
@@ -32,6 +33,16 @@ greatest-fits = record { count = lit< tt; sub = lit< tt; bytes = lit< tt }
 
 pub subchannel-16384 : FitsUart (uart_of 0 false 16384 []) → ⊥
 subchannel-16384 fits = omega (arith, fits.sub)
+
+-- a parity error, the last subchannel and the most bytes: all bits but the one that must be 0
+abbrev pub full_header : UartHeader
+full_header = record { parity = true; sub = 16383; length = 65535 }
+
+pub full_header-bits : header_bits full_header ≡ 0xBFFFFFFF
+full_header-bits = refl
+
+pub full_header-fits : FitsHeader full_header
+full_header-fits = record { sub = lit< tt; length = lit< tt }
 
 -- a front with any stamp, any upper half of the header, and this length
 abbrev pub uart_front : ℕ → List ℕ

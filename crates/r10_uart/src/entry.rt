@@ -1,10 +1,10 @@
 //! UART messages as entries of a body.
 
-ghost use Rattle.std.specs.Prelude.{◌≡◌, ◌↔◌, ◌+◌, ◌*◌, ◌^◌, ◌<◌, IsTrue, length};
-ghost use Rattle.r10_count.specs.Bytes.{flag_at};
+ghost use Rattle.std.specs.Prelude.{◌≡◌, ◌↔◌, ◌^◌, ◌<◌, IsTrue, length};
 ghost use Rattle.r10_count.specs.Append.{Appends};
 ghost use Rattle.r10_uart.specs.Uart.{FitsUart, uart_entry, uart_of, uart_word};
 
+use crate::header::UartHeader;
 use r10_count::{BodyEntry, Bytes, Count, append_text, split_u32, strip_padding};
 use std::alloc::{AllocError, Global};
 
@@ -39,16 +39,6 @@ pub fn channel_word() -> [u8; 4]
     [0, 0, 0, 0x80]
 }
 
-/// Parity error, subchannel and length.
-fn data_header(parity: bool, sub: u16, length: usize) -> u32
-    requires sub { sub < 2 ^ 14 }
-    requires length { length < 2 ^ 16 }
-    ensures { result ≡ flag_at 31 parity + 2 ^ 16 * sub + length }
-{
-    let flag = if parity { 0x8000_0000 } else { 0 };
-    flag + 0x1_0000 * u32::from(sub) + length as u32
-}
-
 /// Adds the bytes of one message from its parts: a stamp of 8 bytes, a header of 4, the bytes, and
 /// a zero byte where their number is odd. Where memory is refused, nothing is added.
 /// Source: IRIG 106-17 chapter 11, UART data packets, format 0.
@@ -65,8 +55,13 @@ pub fn push_entry(
     ensures { Appends (uart_entry (uart_of count parity sub bytes.now)) out.old out.new result }
 {
     let stamp = count.stamp();
-    let header = data_header(parity, sub, bytes.len()).to_le_bytes();
-    append_text(out, stamp, header, bytes)
+    let length = bytes.len();
+    let header = UartHeader {
+        parity,
+        sub,
+        length,
+    };
+    append_text(out, stamp, header.bits().to_le_bytes(), bytes)
 }
 
 impl BodyEntry for UartEntry {
@@ -126,16 +121,16 @@ impl BodyEntry for UartEntry {
         let Some((header, rest)) = split_u32(rest) else {
             return Ok(None);
         };
-        let Some(text) = strip_padding(rest, (header % 0x1_0000) as usize) else {
+        let Some(header) = UartHeader::of(header) else {
             return Ok(None);
         };
-        if header / 0x4000_0000 % 2 == 1 {
+        let Some(text) = strip_padding(rest, header.length) else {
             return Ok(None);
-        }
+        };
         Ok(Some(UartEntry {
             count,
-            parity: header / 0x8000_0000 == 1,
-            sub: (header / 0x1_0000 % 0x4000) as u16,
+            parity: header.parity,
+            sub: header.sub,
             bytes: Bytes::copy_of(alloc, text)?,
         }))
     }

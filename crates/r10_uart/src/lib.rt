@@ -4,6 +4,8 @@
 
 mod body;
 mod entry;
+mod header;
 
 pub use body::UartBody;
 pub use entry::{UartEntry, channel_word, push_entry};
+pub use header::UartHeader;

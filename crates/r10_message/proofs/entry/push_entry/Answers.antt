@@ -8,6 +8,6 @@ pub returns : goal.returns
 returns c =
     let text = c.args.bytes.now in
     let e = message_of c.args.count c.args.data_error c.args.format c.args.sub text in
-    let spelled : c.stamp-stamp.result ++ c.to_le_bytes-header.result ++ padded text ≡ message_entry e = rw (c.stamp-stamp.ensures, c.to_le_bytes-header.ensures, c.data_header.ensures, c.len.ensures) refl in
+    let spelled : c.stamp-stamp.result ++ c.to_le_bytes.result ++ padded text ≡ message_entry e = rw (c.stamp-stamp.ensures, c.to_le_bytes.ensures, c.bits.ensures, c.len-length.ensures) refl in
     let Adds : List ℕ → Type 0 = λ more. Appends more c.args.out.now c.append_text.new.out c.append_text.result in
     subst Adds spelled c.append_text.ensures

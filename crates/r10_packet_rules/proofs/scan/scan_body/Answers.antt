@@ -10,7 +10,7 @@ returns-in_default-scan-clause-none g c = λ es is.
 pub returns-then-word-clause-none : goal.returns-then-word-clause-none
 returns-then-word-clause-none g c = λ es is.
     let found = c.in-Some-scan.ensures.found in
-    let number = number_is g.E.ScannedEntry.said c.in-Some-scan.tally found.0 found.2 in
+    let number = number_is g.E.ChannelEntry.channel.said c.in-Some-scan.tally found.0 found.2 in
     let agrees = body_agrees g.E.BodyEntry.form c.args.setting c.args.counter c.in-Some.word c.in-Some-scan.tally.entries c.in-Some.rest.now c.args.body.now found.0 es (search rules) (search rules) found.1 number is in
     elim c.then-word.branch [
       | then-word-via-then-word w ↦ w.if-word.true (agrees.told ∙ sym c.word.ensures)
@@ -20,7 +20,7 @@ returns-then-word-clause-none g c = λ es is.
 pub returns-clause-found : goal.returns-clause-found
 returns-clause-found g c =
     let found = c.in-Some-scan.ensures.found in
-    let number = number_is g.E.ScannedEntry.said c.in-Some-scan.tally found.0 found.2 in (
+    let number = number_is g.E.ChannelEntry.channel.said c.in-Some-scan.tally found.0 found.2 in (
       found.0,
       body_is g.E.BodyEntry.form c.args.setting c.args.counter c.in-Some.word c.in-Some-scan.tally.entries c.in-Some.rest.now c.args.body.now found.0 (search rules) found.1 number
           (c.if-word.false ∙ c.word.ensures) (sym c.agrees.ensures ∙ search rules),
