@@ -105,6 +105,16 @@ check "what a user runs is Python 3.7" python3 "$room/grammar.py" "$sources"/ch1
 
 check "what Python keeps beside them is no change of the repository" grep -qx '__pycache__/' "$sources/.gitignore"
 
+# One of that name would be taken in place of Python's: a driver of PostgreSQL met `numbers`. (Python has the list from 3.10 on.)
+cat >"$room/names.py" <<'PY'
+import pathlib, sys
+names = getattr(sys, 'stdlib_module_names', ())
+sys.exit(', '.join(it.name for it in pathlib.Path(sys.argv[1]).glob('*.py') if it.stem in names) or 0)
+PY
+for folder in scripts recorder/tests; do
+    check "no script of $folder has the name of a module of Python" python3 "$room/names.py" "$sources/$folder"
+done
+
 # ---- folders that take nothing
 
 if [ "$(id -u)" = 0 ] && mkdir "$room/shut" && mount -t tmpfs tmpfs "$room/shut" 2>/dev/null; then

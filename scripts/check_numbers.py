@@ -1,8 +1,8 @@
 #!/usr/bin/env python3
 """Whether each limit stands once in code and once in definitions.
 
-    scripts/numbers.py            a line for each place where a number stands that has a name, and status 1 if there is one
-    scripts/numbers.py --owners   the limits: number, constant, definition, and the files that have them
+    scripts/check_numbers.py            a line for each place where a number stands that has a name, and status 1 if there is one
+    scripts/check_numbers.py --owners   the limits: number, constant, definition, and the files that have them
 
 Code is crates/*/src, clauses too, and definitions are crates/*/specs. Passed over are comments, texts, worked values, tests and
 trials, whose numbers are what is put in and what has to come out; and proofs, which compute.
