@@ -25,6 +25,12 @@ const PART: u64 = 1 << 20;
 /// The letters with which block 1 begins, if it is a directory's.
 const LETTERS: &[u8; 8] = b"FORTYtwo";
 
+/// A file's name in an answer or a line of the log, as `r10 files` prints it: a damaged directory may hold any bytes there.
+pub fn printed(name: &str) -> String {
+    let is_right = |it: char| it.is_ascii_alphanumeric() || "._-".contains(it);
+    name.trim_end_matches([' ', '\0']).chars().map(|it| if is_right(it) { it } else { '?' }).collect()
+}
+
 pub struct Medium {
     path: PathBuf,
     blocks: usize,

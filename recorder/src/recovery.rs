@@ -6,7 +6,7 @@ use r10::{Error, Recorder};
 use time::OffsetDateTime;
 
 use crate::clock;
-use crate::medium::Refusal;
+use crate::medium::{Refusal, printed};
 use crate::owner::{Owner, State, Trouble};
 use crate::settings::Begin;
 use crate::{error, info, warning};
@@ -34,7 +34,7 @@ impl Owner {
                     return Err(Refusal::Wrong(format!(
                         "the last file, {}, was cut off and cannot be closed: it is not as this recorder writes it; \
                          copy the medium, then record on another one",
-                        file.name
+                        printed(&file.name)
                     )));
                 }
                 Err(error) => return Err(failed(error)),
@@ -43,7 +43,7 @@ impl Owner {
             info!(
                 "file {} {}: it was cut off, and is closed now, {} bytes in {} ms",
                 files.len(),
-                file.name,
+                printed(&file.name),
                 file.size,
                 start.elapsed().as_millis()
             );

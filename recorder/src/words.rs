@@ -10,6 +10,7 @@ use serde_json::json;
 use crate::clock::{self, COUNTS};
 use crate::control::{Command, Origin, Reply};
 use crate::figures::Times;
+use crate::medium::printed;
 use crate::owner::{Lane, Owner, State, Trouble};
 use crate::readers::{self, MOST};
 use crate::{entries, figures, info};
@@ -216,7 +217,7 @@ impl Owner {
                 text,
                 "{} {} {first} {} {}",
                 number + 1,
-                file.name,
+                printed(&file.name),
                 file.size,
                 if file.closed { "closed" } else { "open" }
             );

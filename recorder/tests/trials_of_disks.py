@@ -44,6 +44,23 @@ def a_medium_that_is_removed(room: Room) -> str:
 
 
 @trial
+def a_name_with_other_bytes(room: Room) -> str:
+    """A name in a damaged directory may hold any bytes: an answer has a line for each file all the same."""
+    text = settings(channel(13, 'discrete', 'lines = "pipe"'), start='wait')
+    service = Service(room, text)
+    service.ask('.RECORD FLT1', '.STOP', '.RECORD FLT2', '.STOP')
+    service.end()
+    image = (room.folder / 'medium').read_bytes()
+    must(image.count(b'FLT1') > 0, 'the name is not in the directory')
+    (room.folder / 'medium').write_bytes(image.replace(b'FLT1', b'A\n*\n'))
+    service = Service(room, text)
+    found = [it.split(' ')[:2] for it in service.ask('.FILES')]
+    must(found == [['1', 'A???'], ['2', 'FLT2']], f'the files are {found}')
+    service.end()
+    return 'as r10 files prints it'
+
+
+@trial
 def services_that_start_at_once(room: Room) -> str:
     """Of three services that make one medium at the same time one records, and the others say why they do not."""
     for _ in range(5):
