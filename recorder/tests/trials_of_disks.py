@@ -98,18 +98,19 @@ def full_medium(room: Room) -> str:
         'a full medium is no warning',
     )
     must(service.ask('.RECORD')[0].startswith('E 04'), 'a recording begins on a full medium')
-    waiting = service.until(
+    full = service.until(
         lambda it: all(at['came'] == at['durable'] + at['lost'] + at['waiting'] for at in it['channels']), 'some are not counted'
-    )['channels'][0]['waiting']
-    must(waiting > 0, 'nothing waits for room')
+    )['channels'][0]
+    must(full['waiting'] > 0, 'nothing waits for room')
     image = (room.folder / 'medium').read_bytes()
     found = judge(image, lines_of((room.folder / 'lines').read_text()), [5])
     must(found['files'] > 1 and found['untold'] == found['untold_before'] == 0, f'{found}')
     must(found['acknowledged'] <= found['messages'], f'{found}')
     used = 512 * sum(int(it[2]) for it in files(image)) / (512 * 1491)
     must(service.ask('.ERASE', '.RECORD AGAIN', '.STATUS')[-1].startswith('S 05'), 'no recording after an erase')
-    # what waited comes first; what waits at the end is in no file
-    service.until(lambda it: it['channels'][0]['in_file'] == waiting and it['channels'][0]['waiting'] == 0, 'what waited is lost')
+    # what waited comes first, into several files where it is much; what waits at the end is in no file
+    all_of_it = full['durable'] + full['waiting']
+    service.until(lambda it: it['channels'][0]['durable'] == all_of_it, 'what waited is lost')
     load = room.load(ports, rate=20000, size=60, seconds=600)
     service.until(lambda it: it['state'] == 'full' and it['channels'][0]['waiting'] > 0, 'it is not full again')
     load.kill()
