@@ -278,8 +278,9 @@ uint32_t r10_format(r10_region region, size_t room, const void *script, size_t s
 /* Opens a recorder, not mounted, with empty lanes. R10_NO_MEMORY, R10_SCRIPT, R10_BLOCKS, R10_OPEN. */
 uint32_t r10_open(r10_region region, size_t room, const void *script, size_t script_length, r10 *recorder);
 
-/* Hands out the next run: as many of the next writes as are of one block or of blocks side by side, up to the next sync, or a sync, or none. Copies
- * 512 * blocks bytes. The blocks of a run may be written at once, and in any order. R10_ROOM where there is room for fewer than 512 bytes: then nothing is taken. */
+/* Hands out the next run: as many of the next writes as are of one block or of blocks side by side, up to the next sync, or a sync, or none. None is
+ * answered only where all operations were handed out. Copies 512 * blocks bytes. The blocks of a run may be written at once, and in any order. R10_ROOM
+ * where there is room for fewer than 512 bytes: then nothing is taken. */
 uint32_t r10_orders(r10 *recorder, r10_run_info *run, uint8_t *bytes, size_t byte_room);
 
 /* The same for one operation. R10_ROOM as r10_orders. */

@@ -1,3 +1,4 @@
 mod Telling
 mod Opened
 mod Counting
+mod Quiet

@@ -7,6 +7,7 @@ use Rattle.r10_machine.specs.declared.event.Event.{Event as EventValue}
 use Rattle.r10_machine.specs.declared.reply.Reply.{Reply as ReplyValue}
 use Rattle.r10_machine.specs.declared.reply.Reply.TheVariants.{Refused}
 use Rattle.r10_medium.specs.Disk.{Disk}
+use Rattle.r10_world.specs.State.{WorldState, with_medium}
 use Rattle.r10_calls.specs.declared.desk.Desk.{Desk as DeskValue}
 
 -- what is so of the events that were done and of the replies after those that were there, is so of the one event and the one reply
@@ -22,3 +23,8 @@ one_reply {R = R} P event n k items rest reply le lt zero size is p =
 -- where memory was refused before the event was given
 pub refused : {M : Type 0} (disk : M → Disk) (old : DeskValue M) (event : EventValue) (tells : ReplyValue → Type 0) → tells (Refused OutOfMemory) → DoesEvent disk old event tells old
 refused disk old event tells says = record { reply = Refused OutOfMemory; told = inr (refl, refl); says = says; config = refl; fault = refl; hand = refl }
+
+-- a world whose medium was taken out and put in again
+pub put_back : {M : Type 0} (world lifted result : WorldState M) (medium : M) → result ≡ with_medium medium lifted → lifted ≡ world → medium ≡ world.recorder.medium → result ≡ world
+put_back {M} world lifted result medium is same stays =
+    is ∙ ap (λ (m : M). with_medium m lifted) stays ∙ ap (λ (w : WorldState M). with_medium world.recorder.medium w) same

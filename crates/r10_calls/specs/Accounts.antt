@@ -1,5 +1,5 @@
 -- What became of the messages of a channel, as a caller of another language has it.
-use Rattle.std.specs.Prelude.{ℕ, ◌+◌, ◌==◌, Bool, List, [], ◌∷◌, cond, find, Option, None, Some}
+use Rattle.std.specs.Prelude.{ℕ, ◌+◌, ◌==◌, Bool, List, [], ◌∷◌, cond, find, None, Some}
 use Rattle.r10_body.specs.declared.spec.ChannelSpec.{ChannelSpec}
 use Rattle.r10_machine.specs.Machine.{saturated}
 use Rattle.r10_machine.specs.declared.reply.ChannelStatus.{ChannelStatus}

@@ -1,5 +1,5 @@
 -- Entries as a caller of another language has them.
-use Rattle.std.specs.Prelude.{ℕ, List, [], Bool, false, length}
+use Rattle.std.specs.Prelude.{ℕ, List, [], false, length}
 use Rattle.r10_body.specs.Gaps.{is_gap, told_lost}
 use Rattle.r10_body.specs.declared.entry.Entry.{Entry}
 use Rattle.r10_body.specs.declared.message.Message.{Message as MessageValue}

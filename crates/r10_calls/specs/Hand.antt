@@ -1,5 +1,5 @@
 -- The entry that a reader's program has in hand.
-use Rattle.std.specs.Prelude.{◌≡◌, ℕ, Bool, true, false, List, Option, None, Some}
+use Rattle.std.specs.Prelude.{◌≡◌, ℕ, Bool, true, false, Option, None, Some}
 use Rattle.r10_body.specs.declared.entry.Entry.{Entry}
 use Rattle.r10_medium.specs.Disk.{Disk}
 use Rattle.r10_machine.specs.declared.event.Event.TheVariants as events

@@ -1,4 +1,5 @@
 pub mod Faults
+pub mod Place
 pub mod Told
 pub mod Hand
 pub mod Copies

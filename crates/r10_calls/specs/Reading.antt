@@ -1,5 +1,5 @@
 -- What a reader's call leaves in the memory that was lent to it, by its reply.
-use Rattle.std.specs.Prelude.{◌≡◌, ℕ, List, Bool, true, false, Option, None, Some}
+use Rattle.std.specs.Prelude.{ℕ, List, Bool, true, false, Option, None, Some}
 use Rattle.r10_body.specs.declared.entry.Entry.{Entry}
 use Rattle.r10_machine.specs.declared.reply.Found.{Found as FoundValue}
 use Rattle.r10_machine.specs.declared.reply.Reply.{Reply as ReplyValue}

@@ -1,17 +1,17 @@
 -- What one event that is given to a recorder and its readers comes to.
-use Rattle.std.specs.Prelude.{◌≡◌, ◌⊎◌, ℕ, ◌<◌, List, [], ◌∷◌, Option, None, Some, length, if◌then◌else◌, nat_lt, slice_get}
+use Rattle.std.specs.Prelude.{◌≡◌, ◌⊎◌, ℕ, Bool, true, false, [], ◌∷◌}
 use Rattle.r10_body.specs.Refusals.{refusal_number}
 use Rattle.r10_body.specs.declared.refusal.Refusal.TheVariants as refusals
-use Rattle.r10_body.specs.declared.entry.Entry.{Entry}
 use Rattle.r10_medium.specs.Disk.{Disk}
+use Rattle.r10_region.specs.Identity.{Identity}
 use Rattle.r10_machine.specs.declared.event.Event.{Event as EventValue}
-use Rattle.r10_machine.specs.declared.mode.Stopped.{Stopped as StoppedValue}
+use Rattle.r10_machine.specs.declared.event.Event.TheVariants as events
 use Rattle.r10_machine.specs.declared.reply.Reply.{Reply as ReplyValue}
 use Rattle.r10_machine.specs.declared.reply.Reply.TheVariants.{Done, Moved, Stopped, Files, Status, Cursor, Advanced, Next, Found, CountAt, Refused}
 use Rattle.r10_calls.specs.Faults.{fault_in}
 use Rattle.r10_calls.specs.declared.desk.Desk.{Desk as DeskValue}
 use Rattle.r10_world.specs.Answering.{AnswersEach}
-use Rattle.r10_world.specs.State.{WorldState}
+use Rattle.r10_world.specs.State.{WorldState, with_medium}
 use Rattle.r10_world.specs.Stopping.{RunsSafely}
 use Rattle.r10_world.specs.Telling.{WorldRuns}
 
@@ -34,6 +34,25 @@ pub record DoesEvent {M : Type 0} (disk : M → Disk) (old : DeskValue M) (event
   pub config : new.world.recorder.kept.config ≡ old.world.recorder.kept.config
   pub fault : new.fault ≡ fault_in reply old.fault
   pub hand : new.hand ≡ old.hand
+
+-- it leaves the medium itself, whatever it is answered
+abbrev pub leaves_medium : EventValue → Bool
+leaves_medium (events.Offer channel count message) = true
+leaves_medium (events.Lose channel lost) = true
+leaves_medium (events.Next id) = true
+leaves_medium (events.Close id) = true
+leaves_medium event = false
+
+-- its medium is the one that it was
+abbrev pub Stays : {M : Type 0} → (M → Identity) → DeskValue M → DeskValue M → Type 0
+Stays identity old new = identity new.world.recorder.medium ≡ identity old.world.recorder.medium
+
+-- An onlooker looked at the medium, and of what it looked at and what that is then this is so. All else is as it was, and the medium is the same one.
+pub record ShowsMedium {M : Type 0} (identity : M → Identity) (looked : M → M → Type 0) (old new : WorldState M) : Type 0 where
+  pub medium : M
+  pub same : new ≡ with_medium medium old
+  pub looks : looked old.recorder.medium medium
+  pub stays : identity medium ≡ identity old.recorder.medium
 
 -- ---- numbers
 

@@ -4,15 +4,15 @@ ghost use Rattle.std.specs.Prelude.{◌≡◌, find, map, IfOk};
 ghost use Rattle.std.specs.List.{position};
 ghost use Rattle.r10_calls.specs.Accounts.{account_given, account_out, accepted_on, counted, erased_on, is_on, not_yet};
 ghost use Rattle.r10_calls.specs.Listing.{lane_place};
-ghost use Rattle.r10_calls.specs.Told.{DoesEvent};
+ghost use Rattle.r10_calls.specs.Told.{DoesEvent, Stays};
 ghost use Rattle.r10_machine.specs.declared.event.Event.TheVariants as events;
 
 use crate::desk::{Desk, number_of};
 use crate::entry_out::PLACE;
+use crate::place::WorldPlace;
 use r10_body::ChannelSpec;
 use r10_machine::{ChannelStatus, Event, Reply};
-use r10_medium::BlockMedium;
-use r10_world::World;
+use r10_region::SteadyMedium;
 use std::alloc::{AllocError, Global};
 
 /// How many messages of a channel were accepted, up to `u64::MAX`.
@@ -90,7 +90,7 @@ fn accepted_on(accepted: &[Accepted], channel: u16) -> u64
 }
 
 /// How many entries of a channel erases took.
-fn erased_on<M: BlockMedium>(world: &World<M>, channel: u16) -> u64
+fn erased_on<M: SteadyMedium + Drop>(world: &WorldPlace<M>, channel: u16) -> u64
     ensures { result ≡ erased_on channel world.now.recorder.kept }
 {
     match world.erased(channel) {
@@ -100,10 +100,10 @@ fn erased_on<M: BlockMedium>(world: &World<M>, channel: u16) -> u64
 }
 
 /// The account of a channel that is so.
-fn account_of<M: BlockMedium>(
+fn account_of<M: SteadyMedium + Drop>(
     status: &ChannelStatus,
     accepted: &[Accepted],
-    world: &World<M>,
+    world: &WorldPlace<M>,
 ) -> AccountOut
     ensures { result ≡ account_out accepted.now world.now.recorder.kept status.now }
 {
@@ -117,11 +117,11 @@ fn account_of<M: BlockMedium>(
 }
 
 /// Puts the account of the channel at this place, and answers the call's number.
-fn put_account<M: BlockMedium>(
+fn put_account<M: SteadyMedium + Drop>(
     reply: &Reply,
     place: usize,
     accepted: &[Accepted],
-    world: &World<M>,
+    world: &WorldPlace<M>,
     out: &mut AccountOut,
 ) -> u32
     ensures number { result ≡ lane_place reply.now place }
@@ -139,12 +139,13 @@ fn put_account<M: BlockMedium>(
     }
 }
 
-impl<M: BlockMedium> Desk<M> {
+impl<M: SteadyMedium + Drop> Desk<M> {
     /// What became of the messages of the channel at this place of the settings, from 0, of which so many were accepted: in every
     /// mode. 0, or 30, or 43 where there are fewer.
     pub fn account(&mut self, place: usize, accepted: &[Accepted], out: &mut AccountOut) -> u32
-        ensures { DoesEvent M.disk self.old events.Status (λ reply. (result ≡ lane_place reply place)
+        ensures does { DoesEvent M.disk self.old events.Status (λ reply. (result ≡ lane_place reply place)
             × (out.new ≡ account_given reply place accepted.now self.new.world.recorder.kept out.old)) self.new }
+        ensures stays { Stays M.identity self.old self.new }
     {
         let reply = self.tell(Event::Status);
         put_account(&reply, place, accepted, &self.world, out)

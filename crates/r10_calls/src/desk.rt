@@ -2,37 +2,47 @@
 
 ghost use Rattle.std.specs.Prelude.{◌≡◌};
 ghost use Rattle.r10_calls.specs.Faults.{fault_in};
-ghost use Rattle.r10_calls.specs.Told.{Told, number_of};
+ghost use Rattle.r10_calls.specs.Told.{ShowsMedium, Stays, Told, number_of};
 
 use crate::fault::{FaultOut, fault_in};
-use r10_body::Refusal;
+use crate::place::WorldPlace;
 use r10_machine::{Event, Reply};
-use r10_medium::BlockMedium;
-use r10_world::{World, run};
+use r10_region::{Onlooker, SteadyMedium};
 use std::alloc::Global;
 
 /// A recorder with lanes of one thread and the cursors of its readers.
 #[derive(Drop)]
-pub struct Desk<M: BlockMedium> {
+pub struct Desk<M: SteadyMedium> {
     pub(crate) alloc: Global,
-    pub(crate) world: World<M>,
+    pub(crate) world: WorldPlace<M>,
     // what the last refusal carried, of those that carry something
     pub(crate) fault: FaultOut,
     // the reply with the entry that the program has in hand, or one without an entry
     pub(crate) hand: Reply,
 }
 
-impl<M: BlockMedium> Desk<M> {
+impl<M: SteadyMedium + Drop> Desk<M> {
     /// Tells the recorder one event, gives its reply, and keeps what a refusal carries.
     pub(crate) fn tell(&mut self, event: Event) -> Reply
         ensures told { Told M.disk self.old.world event result self.new.world }
         ensures config { self.new.world.recorder.kept.config ≡ self.old.world.recorder.kept.config }
         ensures fault { self.new.fault ≡ fault_in result self.old.fault }
         ensures hand { self.new.hand ≡ self.old.hand }
+        ensures stays { Stays M.identity self.old self.new }
     {
-        let reply = self.run_one(event);
+        let reply = self.world.run(self.alloc, event);
         self.fault = fault_in(&reply, self.fault);
         reply
+    }
+
+    /// Shows the medium to an onlooker.
+    pub fn show<O: Onlooker<M>>(&mut self, onlooker: &mut O)
+        requires { O.may_look onlooker.old self.old.world.recorder.medium }
+        ensures shows { ShowsMedium M.identity (λ before after. O.looks onlooker.old before onlooker.new after)
+            self.old.world self.new.world }
+        ensures rest { self.new ≡ record self.old { world = self.new.world } }
+    {
+        self.world.show(onlooker);
     }
 
     /// What the last refusal carried, of those that carry something.
@@ -40,24 +50,6 @@ impl<M: BlockMedium> Desk<M> {
         ensures { result ≡ self.now.fault }
     {
         self.fault
-    }
-
-    /// Does one event, and gives its reply. Where memory is refused before the event is done, that is the reply.
-    fn run_one(&mut self, event: Event) -> Reply
-        ensures told { Told M.disk self.old.world event result self.new.world }
-        ensures config { self.new.world.recorder.kept.config ≡ self.old.world.recorder.kept.config }
-        ensures fault { self.new.fault ≡ self.old.fault }
-        ensures hand { self.new.hand ≡ self.old.hand }
-    {
-        let mut replies = Vec::new(self.alloc);
-        let events = [event];
-        match run(&mut self.world, &events, &mut replies) {
-            Ok(_) => match replies.pop() {
-                Some(reply) => reply,
-                None => Reply::Refused(Refusal::OutOfMemory),
-            },
-            Err(_) => Reply::Refused(Refusal::OutOfMemory),
-        }
     }
 }
 

@@ -5,14 +5,14 @@ ghost use Rattle.r10_body.specs.declared.entry.Entry.{Entry};
 ghost use Rattle.r10_calls.specs.Copies.{copied};
 ghost use Rattle.r10_calls.specs.Entries.{out_bytes, words_of};
 ghost use Rattle.r10_calls.specs.Hand.{TakesInHand, entry_in, is_next_in, next_fields};
-ghost use Rattle.r10_calls.specs.Told.{number_of};
+ghost use Rattle.r10_calls.specs.Told.{Stays, number_of};
 
 use crate::copies::copy_front;
 use crate::desk::{Desk, number_of};
 use crate::entry_out::{EntryOut, PLACE, ROOM, bytes_of, fields, words_of};
 use r10_body::Entry;
 use r10_machine::{Event, Reply};
-use r10_medium::BlockMedium;
+use r10_region::SteadyMedium;
 
 /// Whether a cursor gave an entry.
 fn is_next_in(reply: &Reply, old: bool) -> bool
@@ -52,12 +52,13 @@ fn copy_entry(entry: &Entry, bytes: &mut [u8], words: &mut [u16]) -> u32
     0
 }
 
-impl<M: BlockMedium> Desk<M> {
+impl<M: SteadyMedium + Drop> Desk<M> {
     /// Takes the first entry of a cursor's queue into the hand, if there is one, and gives its fields: 0, or 21, 30. What was in
     /// hand is gone.
     pub fn take(&mut self, id: usize, there: &mut bool, out: &mut EntryOut) -> u32
-        ensures { TakesInHand M.disk self.old id (λ reply. (result ≡ number_of reply)
+        ensures does { TakesInHand M.disk self.old id (λ reply. (result ≡ number_of reply)
             × (there.new ≡ is_next_in reply there.old) × (out.new ≡ next_fields reply out.old)) self.new }
+        ensures stays { Stays M.identity self.old self.new }
     {
         let reply = self.tell(Event::Next { id });
         *there = is_next_in(&reply, *there);

@@ -13,7 +13,9 @@ mod listing;
 mod offers;
 mod opening;
 mod outs;
+mod place;
 mod readers;
+mod running;
 
 pub use accounts::{Accepted, AccountOut, count_accepted, none_accepted};
 pub use checking::{ScriptOut, check_script};

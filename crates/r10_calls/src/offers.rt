@@ -1,7 +1,7 @@
 //! Offers of messages, by their kind. Each answers 0, or 6 to 12, or 30.
 
 ghost use Rattle.std.specs.Prelude.{◌≡◌};
-ghost use Rattle.r10_calls.specs.Told.{DoesEvent, number_of};
+ghost use Rattle.r10_calls.specs.Told.{DoesEvent, Stays, number_of};
 ghost use Rattle.r10_machine.specs.declared.event.Event.TheVariants as events;
 ghost use Rattle.r10_body.specs.declared.message.Message.TheVariants as messages;
 
@@ -10,11 +10,12 @@ use crate::entry_out::OUT_OF_MEMORY;
 use r10_body::Message;
 use r10_count::{Bytes, Items};
 use r10_machine::Event;
-use r10_medium::BlockMedium;
+use r10_region::SteadyMedium;
 
-impl<M: BlockMedium> Desk<M> {
+impl<M: SteadyMedium + Drop> Desk<M> {
     fn offer(&mut self, channel: u16, count: u64, message: Message) -> u32
-        ensures { DoesEvent M.disk self.old (events.Offer channel count message) (λ reply. result ≡ number_of reply) self.new }
+        ensures does { DoesEvent M.disk self.old (events.Offer channel count message) (λ reply. result ≡ number_of reply) self.new }
+        ensures stays { Stays M.identity self.old self.new }
     {
         let reply = self.tell(Event::Offer {
             channel,
@@ -33,8 +34,9 @@ impl<M: BlockMedium> Desk<M> {
         sub: u16,
         bytes: &[u8],
     ) -> u32
-        ensures { DoesEvent M.disk self.old (events.Offer channel count (messages.Uart parity sub bytes.now))
+        ensures does { DoesEvent M.disk self.old (events.Offer channel count (messages.Uart parity sub bytes.now))
             (λ reply. result ≡ number_of reply) self.new }
+        ensures stays { Stays M.identity self.old self.new }
     {
         let Ok(bytes) = Bytes::copy_of(self.alloc, bytes) else {
             return OUT_OF_MEMORY;
@@ -51,8 +53,9 @@ impl<M: BlockMedium> Desk<M> {
         gap: u16,
         words: &[u16],
     ) -> u32
-        ensures { DoesEvent M.disk self.old (events.Offer channel count (messages.Bus1553 status gap words.now))
+        ensures does { DoesEvent M.disk self.old (events.Offer channel count (messages.Bus1553 status gap words.now))
             (λ reply. result ≡ number_of reply) self.new }
+        ensures stays { Stays M.identity self.old self.new }
     {
         let Ok(words) = Vec::from_slice(self.alloc, words) else {
             return OUT_OF_MEMORY;
@@ -72,8 +75,9 @@ impl<M: BlockMedium> Desk<M> {
         high: bool,
         word: u32,
     ) -> u32
-        ensures { DoesEvent M.disk self.old (events.Offer channel count (messages.Arinc bus format parity high word))
+        ensures does { DoesEvent M.disk self.old (events.Offer channel count (messages.Arinc bus format parity high word))
             (λ reply. result ≡ number_of reply) self.new }
+        ensures stays { Stays M.identity self.old self.new }
     {
         let message = Message::Arinc {
             bus,
@@ -87,8 +91,9 @@ impl<M: BlockMedium> Desk<M> {
 
     /// The states of a channel's discretes, a bit for each.
     pub fn offer_discrete(&mut self, channel: u16, count: u64, states: u32) -> u32
-        ensures { DoesEvent M.disk self.old (events.Offer channel count (messages.Discrete states))
+        ensures does { DoesEvent M.disk self.old (events.Offer channel count (messages.Discrete states))
             (λ reply. result ≡ number_of reply) self.new }
+        ensures stays { Stays M.identity self.old self.new }
     {
         self.offer(channel, count, Message::Discrete { states })
     }
@@ -103,8 +108,9 @@ impl<M: BlockMedium> Desk<M> {
         sub: u16,
         bytes: &[u8],
     ) -> u32
-        ensures { DoesEvent M.disk self.old (events.Offer channel count (messages.Message data_error format sub bytes.now))
+        ensures does { DoesEvent M.disk self.old (events.Offer channel count (messages.Message data_error format sub bytes.now))
             (λ reply. result ≡ number_of reply) self.new }
+        ensures stays { Stays M.identity self.old self.new }
     {
         let Ok(bytes) = Bytes::copy_of(self.alloc, bytes) else {
             return OUT_OF_MEMORY;

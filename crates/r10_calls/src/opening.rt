@@ -1,6 +1,6 @@
 //! A medium is formatted, and a recorder is opened over it, with the settings of a script.
 
-ghost use Rattle.std.specs.Prelude.{◌≡◌, ◌⊎◌, IfErr, IfOk, length, map};
+ghost use Rattle.std.specs.Prelude.{◌≡◌, ◌⊎◌, IfErr, IfOk, Some, length, map};
 ghost use Rattle.r10_medium.specs.Disk.{Rose};
 ghost use Rattle.r10_calls.specs.Accounts.{not_yet};
 ghost use Rattle.r10_calls.specs.Faults.{no_fault};
@@ -11,12 +11,15 @@ use crate::accounts::{Accepted, none_accepted};
 use crate::desk::Desk;
 use crate::entry_out::{BLOCKS, MEDIUM, OUT_OF_MEMORY, SCRIPT};
 use crate::fault::FaultOut;
+use crate::place::WorldPlace;
 use r10_machine::{Reply, Settings};
 use r10_medium::BlockMedium;
+use r10_region::{Bound, NamesMedium, SteadyMedium};
 use r10_script::{Script, read_script};
 use r10_text::ScriptFault;
 use r10_world::World;
 use std::alloc::Global;
+use std::marker::Brand;
 
 /// The settings of a script of so many blocks, or 30, 40 where it is none, or 41 where it has another number of blocks. Its steps
 /// are not done.
@@ -38,9 +41,8 @@ fn settings_of(alloc: Global, script: &[u8], blocks: usize) -> Result<Settings, 
     }
 }
 
-/// Writes the directory of a medium without files, as the settings of this script say: 0, or 28 where the medium failed, 30, 40
-/// where the script can't be taken, or 41 where the medium has another number of blocks.
-pub fn format<M: BlockMedium>(alloc: Global, medium: &mut M, script: &[u8]) -> u32
+/// Writes the directory of a medium without files, as the settings of this script say.
+fn format_one<M: BlockMedium>(alloc: Global, medium: &mut M, script: &[u8]) -> u32
     ensures formats { result ≡ 0 → FormatsByScript script.now (M.disk medium.new) }
     ensures over { result ≡ 0 → FormatsOver script.now (M.disk medium.old).blocks (M.disk medium.new) }
     ensures untouched { (result ≡ 30) ⊎ (result ≡ 40) ⊎ (result ≡ 41) → medium.new ≡ medium.old }
@@ -57,10 +59,45 @@ pub fn format<M: BlockMedium>(alloc: Global, medium: &mut M, script: &[u8]) -> u
     }
 }
 
+/// The same of the medium that is named.
+fn format_bound<M: SteadyMedium, N: NamesMedium>(
+    alloc: Global,
+    medium: M,
+    script: &[u8],
+) -> (u32, M)
+    requires { Some (M.identity medium) ≡ N.medium }
+    ensures formats { result.0 ≡ 0 → FormatsByScript script.now (M.disk result.1) }
+    ensures over { result.0 ≡ 0 → FormatsOver script.now (M.disk medium).blocks (M.disk result.1) }
+    ensures untouched { (result.0 ≡ 30) ⊎ (result.0 ≡ 40) ⊎ (result.0 ≡ 41) → result.1 ≡ medium }
+    ensures failed { result.0 ≡ 28 → Rose (M.disk medium).failures (M.disk result.1).failures }
+    ensures other { result.0 ≡ 41 → HasOtherBlocks script.now (length (M.disk medium).blocks) }
+    ensures numbers { (result.0 ≡ 0) ⊎ (result.0 ≡ 28) ⊎ (result.0 ≡ 30) ⊎ (result.0 ≡ 40) ⊎ (result.0 ≡ 41) }
+    ensures named { Some (M.identity result.1) ≡ N.medium }
+{
+    let mut bound = Bound::<M, N>::new(medium);
+    let number = format_one(alloc, &mut bound, script);
+    (number, bound.into_medium())
+}
+
+/// Writes the directory of a medium without files, as the settings of this script say: 0, or 28 where the medium failed, 30, 40
+/// where the script can't be taken, or 41 where the medium has another number of blocks. The medium comes back, and is the one that
+/// it was.
+pub fn format<M: SteadyMedium>(alloc: Global, medium: M, script: &[u8]) -> (u32, M)
+    ensures formats { result.0 ≡ 0 → FormatsByScript script.now (M.disk result.1) }
+    ensures over { result.0 ≡ 0 → FormatsOver script.now (M.disk medium).blocks (M.disk result.1) }
+    ensures untouched { (result.0 ≡ 30) ⊎ (result.0 ≡ 40) ⊎ (result.0 ≡ 41) → result.1 ≡ medium }
+    ensures failed { result.0 ≡ 28 → Rose (M.disk medium).failures (M.disk result.1).failures }
+    ensures other { result.0 ≡ 41 → HasOtherBlocks script.now (length (M.disk medium).blocks) }
+    ensures numbers { (result.0 ≡ 0) ⊎ (result.0 ≡ 28) ⊎ (result.0 ≡ 30) ⊎ (result.0 ≡ 40) ⊎ (result.0 ≡ 41) }
+    ensures stays { M.identity result.1 ≡ M.identity medium }
+{
+    format_bound::<M, Brand>(alloc, medium, script)
+}
+
 /// A recorder with the settings of this script over the medium, not mounted, and without readers; and of each of its channels, that
 /// no message was accepted. Its number is 30, 40 where the script can't be taken, or 41 where the medium has another number of
 /// blocks.
-pub fn open<M: BlockMedium + Drop>(
+pub fn open<M: SteadyMedium + Drop>(
     alloc: Global,
     medium: M,
     script: &[u8],
@@ -79,7 +116,7 @@ pub fn open<M: BlockMedium + Drop>(
         Ok(world) => {
             let desk = Desk {
                 alloc,
-                world,
+                world: WorldPlace::new(world),
                 fault: FaultOut::none(),
                 hand: Reply::Done,
             };

@@ -3,7 +3,7 @@
 ghost use Rattle.std.specs.Prelude.{◌≡◌, ◌≤◌, ◌<◌, ◌⊎◌, length};
 ghost use Rattle.r10_calls.specs.Outs.{cursor_in, queued_in};
 ghost use Rattle.r10_calls.specs.Reading.{count_in, found_in, is_count_in, lent, next_out, place_in};
-ghost use Rattle.r10_calls.specs.Told.{DoesEvent, number_of};
+ghost use Rattle.r10_calls.specs.Told.{DoesEvent, Stays, number_of};
 ghost use Rattle.r10_machine.specs.declared.event.Event.TheVariants as events;
 
 use crate::desk::{Desk, number_of};
@@ -11,9 +11,9 @@ use crate::entry_out::{EntryOut, MOST_BYTES, MOST_WORDS, OUT_OF_MEMORY, ROOM};
 use crate::outs::{count_in, cursor_in, is_count_in, place_in, put_found, put_next, queued_in};
 use r10_count::{Items, Parts};
 use r10_machine::Event;
-use r10_medium::BlockMedium;
+use r10_region::SteadyMedium;
 
-impl<M: BlockMedium> Desk<M> {
+impl<M: SteadyMedium + Drop> Desk<M> {
     /// Opens a cursor on a file, for these channels, or all where there are none, and counts from `from` to `to`: 0, or 1, 2, 10,
     /// 19, 27, 28, 30.
     pub fn cursor(
@@ -24,8 +24,9 @@ impl<M: BlockMedium> Desk<M> {
         to: u64,
         id: &mut usize,
     ) -> u32
-        ensures { DoesEvent M.disk self.old (events.Cursor file channels.now from to)
+        ensures does { DoesEvent M.disk self.old (events.Cursor file channels.now from to)
             (λ reply. (result ≡ number_of reply) × (id.new ≡ cursor_in reply id.old)) self.new }
+        ensures stays { Stays M.identity self.old self.new }
     {
         let Ok(channels) = Vec::from_slice(self.alloc, channels) else {
             return OUT_OF_MEMORY;
@@ -43,8 +44,9 @@ impl<M: BlockMedium> Desk<M> {
 
     /// Queues a cursor's next instalment, and says how many entries: 0, or 1, 2, 20, 21, 22, 27, 28, 30.
     pub fn advance(&mut self, id: usize, queued: &mut usize) -> u32
-        ensures { DoesEvent M.disk self.old (events.Advance id)
+        ensures does { DoesEvent M.disk self.old (events.Advance id)
             (λ reply. (result ≡ number_of reply) × (queued.new ≡ queued_in reply queued.old)) self.new }
+        ensures stays { Stays M.identity self.old self.new }
     {
         let reply = self.tell(Event::Advance { id });
         *queued = queued_in(&reply, *queued);
@@ -66,6 +68,7 @@ impl<M: BlockMedium> Desk<M> {
             × (lent there.new out.new bytes.new words.new ≡ next_out reply (lent there.old out.old bytes.old words.old))) self.new }
         ensures room { (length bytes.old < 65_535) ⊎ (length words.old < 36) → (result ≡ 42) × (self.new ≡ self.old)
             × (lent there.new out.new bytes.new words.new ≡ lent there.old out.old bytes.old words.old) }
+        ensures stays { Stays M.identity self.old self.new }
     {
         if bytes.len() < MOST_BYTES || words.len() < MOST_WORDS {
             return ROOM;
@@ -77,7 +80,8 @@ impl<M: BlockMedium> Desk<M> {
 
     /// Closes a cursor: 0, or 21, 30.
     pub fn close_cursor(&mut self, id: usize) -> u32
-        ensures { DoesEvent M.disk self.old (events.Close id) (λ reply. result ≡ number_of reply) self.new }
+        ensures does { DoesEvent M.disk self.old (events.Close id) (λ reply. result ≡ number_of reply) self.new }
+        ensures stays { Stays M.identity self.old self.new }
     {
         let reply = self.tell(Event::Close { id });
         number_of(&reply)
@@ -103,6 +107,7 @@ impl<M: BlockMedium> Desk<M> {
         ensures room { (length bytes.old < 65_535) ⊎ (length words.old < 36)
             → (result ≡ 42) × (self.new ≡ self.old) × (number.new ≡ number.old)
             × (lent there.new out.new bytes.new words.new ≡ lent there.old out.old bytes.old words.old) }
+        ensures stays { Stays M.identity self.old self.new }
     {
         if bytes.len() < MOST_BYTES || words.len() < MOST_WORDS {
             return ROOM;
@@ -119,8 +124,9 @@ impl<M: BlockMedium> Desk<M> {
 
     /// The count at a civil time, by the last shown time entry that isn't later, if there is one: 0, or 1, 2, 13, 19, 27, 28, 30.
     pub fn count_at(&mut self, file: usize, parts: Parts, there: &mut bool, count: &mut u64) -> u32
-        ensures { DoesEvent M.disk self.old (events.CountAt file parts) (λ reply. (result ≡ number_of reply)
+        ensures does { DoesEvent M.disk self.old (events.CountAt file parts) (λ reply. (result ≡ number_of reply)
             × (there.new ≡ is_count_in reply there.old) × (count.new ≡ count_in reply count.old)) self.new }
+        ensures stays { Stays M.identity self.old self.new }
     {
         let reply = self.tell(Event::CountAt { file, parts });
         *there = is_count_in(&reply, *there);

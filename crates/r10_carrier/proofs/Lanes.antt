@@ -1,5 +1,5 @@
 -- What asking for a lane, and opening one, come to.
-use Rattle.std.proofs.Common.{◌≡◌, ℕ, ◌==◌, false, List, Option, None, Some, refl, sym, subst, ap, ◌∙◌}
+use Rattle.std.proofs.Common.{◌≡◌, ℕ, false, List, Option, None, Some, refl, sym, subst, ap, ◌∙◌}
 use Rattle.std.specs.Prelude.{MatchOption, slice_get}
 use Rattle.r10_body.specs.declared.spec.ChannelSpec.{ChannelSpec}
 use Rattle.r10_machine.specs.Config.{Config}

@@ -2,12 +2,12 @@
 
 ghost use Rattle.std.specs.Prelude.{◌≡◌, ◌≢◌};
 ghost use Rattle.r10_carrier.specs.Carrying.{DoesEach, StopsAt, events_of, lost_of};
-ghost use Rattle.r10_calls.specs.Told.{DoesEvent, number_of};
+ghost use Rattle.r10_calls.specs.Told.{Stays, DoesEvent, number_of};
 ghost use Rattle.r10_machine.specs.declared.event.Event.TheVariants as events;
 
 use r10_body::{Gap, Message, Sample};
 use r10_calls::Desk;
-use r10_medium::BlockMedium;
+use r10_region::SteadyMedium;
 
 /// The number of the refusal for want of memory.
 const OUT_OF_MEMORY: u32 = 30;
@@ -27,9 +27,10 @@ fn lost_of(gap: Gap) -> u64
 }
 
 /// Offers a sample's message. No channel takes a time or an event.
-fn offer_sample<M: BlockMedium>(desk: &mut Desk<M>, channel: u16, sample: &Sample) -> u32
-    ensures { DoesEvent M.disk desk.old (events.Offer channel sample.now.count sample.now.message)
+fn offer_sample<M: SteadyMedium + Drop>(desk: &mut Desk<M>, channel: u16, sample: &Sample) -> u32
+    ensures does { DoesEvent M.disk desk.old (events.Offer channel sample.now.count sample.now.message)
         (λ reply. result ≡ number_of reply) desk.new }
+    ensures stays { Stays M.identity desk.old desk.new }
 {
     let count = sample.count.get();
     match &sample.message {
@@ -63,7 +64,7 @@ fn offer_sample<M: BlockMedium>(desk: &mut Desk<M>, channel: u16, sample: &Sampl
 
 /// Gives the recorder what a sample comes to: the loss before it, if there was one, and its offer. It answers 0, or the number
 /// of the first refusal. A loss that was counted is no longer the sample's.
-pub(crate) fn tell_sample<M: BlockMedium>(
+pub(crate) fn tell_sample<M: SteadyMedium + Drop>(
     desk: &mut Desk<M>,
     channel: u16,
     sample: &mut Sample,
@@ -71,6 +72,7 @@ pub(crate) fn tell_sample<M: BlockMedium>(
     ensures told { result ≡ 0 → DoesEach M.disk desk.old (events_of channel sample.old) desk.new }
     ensures refused { result ≢ 0 → StopsAt M.disk desk.old (events_of channel sample.old)
         (events_of channel sample.new) result desk.new }
+    ensures stays { Stays M.identity desk.old desk.new }
 {
     let lost = lost_of(sample.gap);
     if lost != 0 {

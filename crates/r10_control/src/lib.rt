@@ -3,6 +3,7 @@
 #![tactic(auto)]
 
 mod clock;
+mod lifted;
 mod listing;
 mod mounting;
 mod numbers;
@@ -21,6 +22,7 @@ mod stopping;
 mod work;
 mod written_laws;
 
+pub use lifted::Lifted;
 pub use own_laws::{own_entries_are_meant, own_entries_stay};
 pub use r10_machine::{
     ChannelStatus, FileInfo, Found, Mode, Settings, SettingsFault, Status, Stopped,

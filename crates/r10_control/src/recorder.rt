@@ -7,6 +7,7 @@ ghost use Rattle.r10_refinement.specs.Kept.{unmounted};
 ghost use Rattle.r10_control.specs.Work.{work_of};
 
 use crate::clock::ClockTick;
+use crate::lifted::Lifted;
 use crate::parting::all_spent;
 use crate::work::Doing;
 use r10_count::Count;
@@ -16,6 +17,7 @@ use r10_machine::Settings;
 use r10_medium::BlockMedium;
 use std::alloc::{AllocError, Global};
 use std::marker::Model;
+use std::snapshot::Snapshot;
 
 /// A recorder. Contracts see what it keeps, its lanes, and its medium.
 ///
@@ -167,6 +169,42 @@ impl<M: BlockMedium, L: LaneOut> Recorder<M, L> {
             medium,
         } = self;
         (medium, lanes)
+    }
+
+    /// The recorder without its medium, and the medium.
+    pub fn lift(self) -> (Lifted<M, L>, M)
+        ensures { (result.0 ≡ self) × (result.1 ≡ self.medium) }
+    {
+        let Recorder {
+            alloc,
+            settings,
+            work,
+            tick,
+            last_event,
+            generation,
+            taken,
+            erased,
+            found,
+            lanes,
+            reader,
+            medium,
+        } = self;
+        let was = Snapshot::of(&medium);
+        let lifted = Lifted {
+            alloc,
+            settings,
+            work,
+            tick,
+            last_event,
+            generation,
+            taken,
+            erased,
+            found,
+            lanes,
+            reader,
+            was,
+        };
+        (lifted, medium)
     }
 
     /// The recorder and its lanes, in the order of the settings. In the place of each lane the recorder has one that gives nothing,

@@ -2,3 +2,4 @@ pub mod Words
 mod Handles
 mod Between
 mod Rooms
+mod Ties

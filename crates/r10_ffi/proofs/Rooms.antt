@@ -1,5 +1,5 @@
 -- A call that may write, after its look for room.
-use Rattle.std.proofs.Common.{◌≡◌, ℕ, Bool, true, false, refl, sym, inr, ◌∙◌, true≢false}
+use Rattle.std.proofs.Common.{◌≡◌, ℕ, Bool, true, false, refl, sym, subst, inr, ◌∙◌, true≢false}
 use Rattle.r10_body.specs.declared.refusal.Refusal.TheVariants.{OutOfMemory}
 use Rattle.r10_calls.specs.Told.{DoesEvent}
 use Rattle.r10_calls.specs.declared.desk.Desk.{Desk as DeskValue}
@@ -8,20 +8,20 @@ use Rattle.r10_machine.specs.declared.reply.Reply.{Reply as ReplyValue}
 use Rattle.r10_machine.specs.declared.reply.Reply.TheVariants.{Refused}
 use Rattle.r10_region.specs.Orders.{MakesRoom}
 use Rattle.r10_region.specs.RegionDisk.{region_disk}
-use Rattle.r10_region.specs.declared.orders.Orders.{Orders as OrdersValue}
 use Rattle.r10_region.specs.declared.region.Region.{Region}
 use Rattle.r10_ffi.specs.Calls.{WritesHeld}
 use Rattle.r10_ffi.specs.declared.held.LentRecorder.{LentRecorder}
 
 -- memory for room was refused
-pub refused : (old : LentRecorder) (orders : OrdersValue) (has : Bool) (event : EventValue) (tells : ReplyValue → Type 0) → MakesRoom has old.orders orders → has ≡ false → tells (Refused OutOfMemory)
-    → WritesHeld 30 old (record old { orders = orders }) (λ before new. DoesEvent region_disk before event tells new)
-refused old orders has event tells room none says = record {
+pub refused : (old new : LentRecorder) (has : Bool) (event : EventValue) (tells : ReplyValue → Type 0) → MakesRoom has old.orders new.orders → has ≡ false → new.desk ≡ old.desk → new.accepted ≡ old.accepted
+    → tells (Refused OutOfMemory) → WritesHeld 30 old new (λ before after. DoesEvent region_disk before event tells after)
+refused old new has event tells room none same accepted says = record {
   has = has;
   room = room;
-  does = record { reply = Refused OutOfMemory; told = inr (refl, refl); says = says; config = refl; fault = refl; hand = refl };
-  accepted = refl;
-  refused = λ e. (refl, refl);
+  does = subst (λ (d : DeskValue Region). DoesEvent region_disk old.desk event tells d) (sym same)
+      (record { reply = Refused OutOfMemory; told = inr (refl, refl); says = says; config = refl; fault = refl; hand = refl });
+  accepted = accepted;
+  refused = λ e. (refl, same);
 }
 
 -- there was room

@@ -10,10 +10,11 @@ use Rattle.r10_calls.specs.Told.{DoesEvent}
 use Rattle.r10_calls.specs.declared.accounts.AccountOut.{AccountOut}
 use Rattle.r10_calls.specs.declared.desk.Desk.{Desk as DeskValue}
 use Rattle.r10_calls.specs.Opening.{FormatsByScript, FormatsOver, OpensRecorder}
-use Rattle.r10_region.specs.Orders.{IsOtherEnd, MakesRoom}
+use Rattle.r10_region.specs.Orders.{handed, IsOtherEnd, MakesRoom}
 use Rattle.r10_region.specs.Queue.{queue_room, places_known}
 use Rattle.r10_region.specs.RegionDisk.{region_disk, lent_to, asked}
 use Rattle.r10_region.specs.declared.region.Region.{Region}
+use Rattle.r10_world.specs.State.{with_medium}
 use Rattle.r10_ffi.specs.declared.held.LentRecorder.{LentRecorder}
 use Rattle.r10_ffi.specs.declared.recorder.Recorder.{Recorder}
 use Rattle.r10_ends.specs.Owning.{Between}
@@ -76,9 +77,12 @@ abbrev pub IsOpened : List ℕ → Image → ℕ → Option LentRecorder → Typ
 IsOpened text image room None = ⊥
 IsOpened text image room (Some h) = OpensOver text image room h
 
--- A recorder by the script over a medium which it finds without files. What a stop leaves of it is what was lent, with the directory of a medium without files in it.
+-- A recorder by the script over a medium which it finds without files: the memory that held this. What a stop leaves of it is what was lent, with the directory of a medium without files in it.
+-- Nothing was handed out yet of what its disk was asked.
 pub record FormatsHeld (text : List ℕ) (image : Image) (h : LentRecorder) : Type 0 where
   pub medium : Region
+  pub lent : lent_to medium ≡ image
+  pub nothing : handed h.orders ≡ []
   pub formats : FormatsByScript text (region_disk medium)
   pub over : FormatsOver text image (region_disk medium)
   pub opens : OpensRecorder region_disk text medium h.desk.world
@@ -88,3 +92,10 @@ pub record FormatsHeld (text : List ℕ) (image : Image) (h : LentRecorder) : Ty
 abbrev pub IsFormattedRegion : List ℕ → Image → Option LentRecorder → Type 0
 IsFormattedRegion text image None = ⊥
 IsFormattedRegion text image (Some h) = FormatsHeld text image h
+
+-- Of what the region asked of its disk something was handed out, or all was before: so of the region before and after. All else of the recorder is as it was.
+pub record HandsHeld (old new : LentRecorder) (so : Region → Region → Type 0) : Type 0 where
+  pub medium : Region
+  pub desk : new.desk ≡ record old.desk { world = with_medium medium old.desk.world }
+  pub hands : so old.desk.world.recorder.medium medium
+  pub accepted : new.accepted ≡ old.accepted

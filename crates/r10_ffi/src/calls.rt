@@ -15,7 +15,8 @@ ghost use Rattle.r10_calls.specs.Reading.{count_in, found_in, is_count_in, lent,
 ghost use Rattle.r10_calls.specs.Told.{DoesEvent, number_of};
 ghost use Rattle.r10_region.specs.Orders.{CountsQueue, HandsOrderOut, HandsRunOut, HasTold};
 ghost use Rattle.r10_region.specs.RegionDisk.{region_disk};
-ghost use Rattle.r10_ffi.specs.Calls.{Accounts, Does, DoesWriting, Goes, IsClosed, IsFormattedRegion, IsOpen, IsOpened, Offers};
+ghost use Rattle.r10_ffi.specs.Calls.{Accounts, Does, DoesWriting, Goes, HandsHeld, IsClosed, IsFormattedRegion, IsOpen};
+ghost use Rattle.r10_ffi.specs.Calls.{IsOpened, Offers};
 ghost use Rattle.r10_ffi.specs.Civil.{parts_of};
 
 use crate::civil::{Civil, parts_of};
@@ -83,10 +84,10 @@ pub extern "C" fn r10_format(
     if recorder.is_open() {
         return OPEN;
     }
-    let Ok((mut medium, orders)) = Region::over(alloc, region, room) else {
+    let Ok((blank, orders)) = Region::over(alloc, region, room) else {
         return OUT_OF_MEMORY;
     };
-    let number = r10_calls::format(alloc, &mut medium, script);
+    let (number, medium) = r10_calls::format(alloc, blank, script);
     if number != 0 {
         return number;
     }
@@ -148,8 +149,8 @@ pub extern "C" fn r10_open(
     }
 }
 
-/// Hands out the next operation that the device has to do, or says that there is none: 0, or 42 where fewer than 512 bytes were
-/// lent, 44.
+/// Hands out the next operation that the recorder asked of the device, or says that all were handed out: 0, or 42 where fewer than
+/// 512 bytes were lent, 44.
 #[unsafe(no_mangle)]
 pub extern "C" fn r10_order(
     alloc: Global,
@@ -158,7 +159,8 @@ pub extern "C" fn r10_order(
     bytes: &mut [u8],
 ) -> u32
     ensures hands { 512 ≤ length bytes.old → IsOpen recorder.old → Goes recorder.old recorder.new
-        (λ old new. (result ≡ 0) × (new.desk ≡ old.desk) × HandsOrderOut old.orders new.orders out.new bytes.old bytes.new) }
+        (λ old new. (result ≡ 0) × HandsHeld old new
+        (λ before after. HandsOrderOut before after old.orders new.orders out.new bytes.old bytes.new)) }
     ensures room { length bytes.old < 512 → IsOpen recorder.old
         → (result ≡ 42) × (recorder.new ≡ recorder.old) × (out.new ≡ out.old) × (bytes.new ≡ bytes.old) }
     ensures closed { IsClosed recorder.old
@@ -171,13 +173,13 @@ pub extern "C" fn r10_order(
         return ROOM;
     }
     let mut held = recorder.take(alloc);
-    held.orders.hand_out(out, bytes);
+    held.hand_out(out, bytes);
     recorder.put(held);
     0
 }
 
-/// Hands out the next operations that the device may do at once, or says that there are none: 0, or 42 where fewer than 512 bytes
-/// were lent, 44.
+/// Hands out the next operations that the device may do at once, or says that all were handed out: 0, or 42 where fewer than 512
+/// bytes were lent, 44.
 #[unsafe(no_mangle)]
 pub extern "C" fn r10_orders(
     alloc: Global,
@@ -186,7 +188,8 @@ pub extern "C" fn r10_orders(
     bytes: &mut [u8],
 ) -> u32
     ensures hands { 512 ≤ length bytes.old → IsOpen recorder.old → Goes recorder.old recorder.new
-        (λ old new. (result ≡ 0) × (new.desk ≡ old.desk) × HandsRunOut old.orders new.orders out.new bytes.old bytes.new) }
+        (λ old new. (result ≡ 0) × HandsHeld old new
+        (λ before after. HandsRunOut before after old.orders new.orders out.new bytes.old bytes.new)) }
     ensures room { length bytes.old < 512 → IsOpen recorder.old
         → (result ≡ 42) × (recorder.new ≡ recorder.old) × (out.new ≡ out.old) × (bytes.new ≡ bytes.old) }
     ensures closed { IsClosed recorder.old
@@ -199,7 +202,7 @@ pub extern "C" fn r10_orders(
         return ROOM;
     }
     let mut held = recorder.take(alloc);
-    held.orders.hand_out_run(out, bytes);
+    held.hand_out_run(out, bytes);
     recorder.put(held);
     0
 }

@@ -1,5 +1,7 @@
 //! What a handle leads to.
 
+ghost use Rattle.r10_region.specs.Orders.{IsTiedTo};
+
 use r10_calls::{Accepted, Desk};
 use r10_region::{Orders, Region};
 
@@ -10,4 +12,5 @@ pub struct LentRecorder {
     pub(crate) desk: Desk<Region>,
     pub(crate) orders: Orders,
     pub(crate) accepted: Vec<Accepted>,
+    ghost tied: { IsTiedTo desk.world.recorder.medium orders },
 }

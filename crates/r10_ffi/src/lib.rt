@@ -3,6 +3,7 @@
 
 mod calls;
 mod civil;
+mod handing;
 mod handle;
 mod held;
 mod loose;

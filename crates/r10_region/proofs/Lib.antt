@@ -1,3 +1,4 @@
 mod Asking
-mod Lines
+pub mod Lines
 mod Runs
+pub mod Turns

@@ -1,4 +1,7 @@
 pub mod Device
+pub mod Links
+pub mod Ahead
+pub mod Identity
 pub mod Line
 pub mod Runs
 pub mod Orders

@@ -1,14 +1,10 @@
 -- A line of rings: what was sent through it, and how it goes on.
-use Rattle.std.specs.Prelude.{◌≡◌, ◌⊎◌, ℕ, ◌+◌, ◌≤◌, Bool, false, List, [], ◌∷◌, ◌++◌}
+use Rattle.std.specs.Prelude.{◌≡◌, ◌⊎◌, ◌+◌, ◌≤◌, Bool, false, List, [], ◌∷◌, ◌++◌}
 use Rattle.rtrb.specs.Ring.{sent, received, known_free, known_items, IsPair, SameProducer, SameConsumer}
 use Rattle.r10_region.specs.declared.operation.Operation.{Operation as OperationValue}
-use Rattle.r10_region.specs.declared.line.Link.{Link}
+use Rattle.r10_region.specs.Links.{told_before}
+use Rattle.r10_region.specs.declared.link.Link.{Link}
 use Rattle.r10_region.specs.declared.line.Line.{Line as LineValue}
-
--- what went through the rings before, ring by ring
-abbrev pub told_before : List Link → List OperationValue
-told_before [] = []
-told_before (l ∷ links) = sent l.before.value ++ told_before links
 
 -- the further rings' other ends, in order
 abbrev pub sent_links : LineValue → List Link
@@ -22,7 +18,7 @@ told_by l = told_before (sent_links l) ++ sent l.ring
 pub record BeginsRing (old new : LineValue) : Type 0 where
   pub link : Link
   pub out : sent_links new ≡ sent_links old ++ link ∷ []
-  pub before : sent link.before.value ≡ sent old.ring
+  pub before : sent link.before ≡ sent old.ring
   pub pair : IsPair new.ring link.next
   pub fresh : received link.next ≡ []
 
@@ -39,4 +35,5 @@ pub record KeepsLine (told : Bool) (old new : LineValue) : Type 0 where
   pub places : known_free old.ring ≤ known_free new.ring + 1
   pub full : told ≡ false → (known_free old.ring ≡ 0) × (known_free new.ring ≡ 0)
   pub spares : SameConsumer old.spares new.spares
+  pub first : new.first ≡ old.first
   pub no_spare : told ≡ false → (known_free new.links ≡ 0) ⊎ (known_items new.spares ≡ [])

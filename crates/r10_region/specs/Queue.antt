@@ -19,6 +19,7 @@ pub record IsSameQueue (old new : Region) : Type 0 where
   pub links : SameProducer old.line.links new.line.links
   pub spares : SameConsumer old.line.spares new.line.spares
   pub ring : KeepsRing old.line new.line ⊎ BeginsRing old.line new.line
+  pub first : new.line.first ≡ old.line.first
 
 -- The disk was asked this, after what it was asked before, and it took a place at most of those known.
 pub record AsksDisk (op : OperationValue) (old new : Region) : Type 0 where

@@ -5,13 +5,19 @@ use Rattle.std.proofs.lemmas.List.{take_all}
 use Rattle.r10_medium.specs.Crashing.{stays_in_range}
 use Rattle.r10_medium.specs.Disk.{Disk, Image, Block, IsWhole, PicksEach, block_at}
 use Rattle.r10_region.specs.Device.{device_of, at_rest, MayHold, IsLeftOfDevice, IsStoppedSince, AreWhole, all_sound, all_whole, rest_is_sound, rest_is_whole}
+use Rattle.r10_region.specs.Identity.{Identity}
 use Rattle.r10_region.specs.Line.{told_by}
+use Rattle.r10_region.specs.Links.{name_of}
 use Rattle.r10_region.specs.declared.operation.Operation.{Operation as OperationValue}
 use Rattle.r10_region.specs.declared.region.Region.{Region}
 
 -- what was lent
 abbrev pub lent_to : Region → Image
 lent_to r = r.was.value.held
+
+-- which one it is
+abbrev pub identity_of : Region → Identity
+identity_of r = record { links = name_of r.line.links.end; first = name_of r.line.first.value.end; lent = lent_to r }
 
 -- what the disk was ordered to do, in order
 abbrev pub asked : Region → List OperationValue

@@ -1,14 +1,15 @@
 //! Where the operations for a disk go in: rings, one after the other, as many as are wanted.
 
 ghost use Rattle.std.specs.Prelude.{◌≡◌, ◌<◌, [], IfNone};
-ghost use Rattle.rtrb.specs.Ring.{known_free, known_items, SameConsumer};
-ghost use Rattle.r10_region.specs.Device.{told_if};
-ghost use Rattle.r10_region.specs.Line.{told_by, KeepsLine};
+ghost use Rattle.rtrb.specs.Ring.{known_free, known_items, sent, SameConsumer};
+ghost use Rattle.r10_region.specs.Links.{last_name, name_of, AreLinked};
 
+use crate::link::Link;
 use crate::operation::Operation;
 use crate::spare::Spare;
 use rtrb::{Consumer, Producer, PushError, RingBuffer};
 use std::alloc::{AllocError, Global};
+use std::mem;
 use std::snapshot::Snapshot;
 
 /// How many rings may wait to be taken in hand.
@@ -19,13 +20,6 @@ const FEWEST: usize = 64;
 
 const MOST: usize = 16_384;
 
-/// The end of a further ring where its operations come out, and what the ring before it was given.
-#[derive(Drop)]
-pub struct Link {
-    pub(crate) next: Consumer<Operation, Global>,
-    pub(crate) before: Snapshot<Producer<Operation, Global>>,
-}
-
 /// Where the operations for a disk go in. Where the ring in use is full a further one is begun, whose other end goes out through
 /// the links.
 #[derive(Drop)]
@@ -35,6 +29,10 @@ pub struct Line {
     pub(crate) links: Producer<Link, Global>,
     // a ring that was made before it is wanted comes out here
     pub(crate) spares: Consumer<Spare, Global>,
+    // the first ring, as it began
+    pub(crate) first: Snapshot<Producer<Operation, Global>>,
+    ghost last: { name_of ring.end ≡ last_name (name_of first.value.end) (sent links) },
+    ghost linked: { AreLinked (name_of first.value.end) (sent links) },
 }
 
 /// How many places the ring after one of so many has.
@@ -61,8 +59,9 @@ fn further(alloc: Global, spares: &mut Consumer<Spare, Global>, places: usize) -
 
 impl Line {
     ghost use Rattle.std.specs.Prelude.{IfOk};
-    ghost use Rattle.rtrb.specs.Ring.{received, sent, IsPair, producer_capacity};
-    ghost use Rattle.r10_region.specs.Line.{sent_links};
+    ghost use Rattle.rtrb.specs.Ring.{received, IsPair, producer_capacity};
+    ghost use Rattle.r10_region.specs.Device.{told_if};
+    ghost use Rattle.r10_region.specs.Line.{sent_links, told_by, KeepsLine};
 
     /// A line, the two ends at which its operations come out, of which as many as `room` may wait before more memory is asked for,
     /// and where a spare ring goes in.
@@ -80,11 +79,13 @@ impl Line {
     >
         ensures none_yet { IfOk result (λ r. (told_by r.0 ≡ []) × (received r.1 ≡ []) × (received r.2 ≡ [])) }
         ensures ring { IfOk result (λ r. IsPair r.0.ring r.1) }
+        ensures first { IfOk result (λ r. name_of r.0.first.value.end ≡ name_of r.1.end) }
         ensures links { IfOk result (λ r. IsPair r.0.links r.2 × (sent_links r.0 ≡ [])) }
         ensures spares { IfOk result (λ r. IsPair r.3 r.0.spares × (sent r.3 ≡ [])) }
         ensures room { IfOk result (λ r. (producer_capacity r.0.ring ≡ room) × (known_free r.0.ring ≡ room)) }
     {
         let (ring, orders) = RingBuffer::new(alloc, room)?;
+        let first = Snapshot::of(&ring);
         let (links, later) = RingBuffer::new(alloc, LINKS)?;
         let (spare, spares) = RingBuffer::new(alloc, 1)?;
         let line = Line {
@@ -92,6 +93,7 @@ impl Line {
             ring,
             links,
             spares,
+            first,
         };
         Ok((line, orders, later, spare))
     }
@@ -123,9 +125,8 @@ impl Line {
         };
         let Spare { mut ring, next } = spare;
         ring.push_reserved(operation);
-        let before = Snapshot::of(&self.ring);
+        let before = mem::replace(&mut self.ring, ring);
         self.links.push_reserved(Link { next, before });
-        self.ring = ring;
         true
     }
 }

@@ -1,13 +1,23 @@
 //! The operations that a disk has still to do, handed out in their order.
 
-ghost use Rattle.std.specs.Prelude.{◌≡◌, ◌≤◌, ◌*◌, ℕ, true, length};
+ghost use Rattle.std.specs.Prelude.{◌≡◌, ◌≤◌, ◌*◌, ◌++◌, ℕ, true, Some, length};
+ghost use Rattle.rtrb.specs.Ring.{received};
+ghost use Rattle.r10_region.specs.Ahead.{links_ahead};
+ghost use Rattle.r10_region.specs.Links.{last_name, name_of};
 ghost use Rattle.r10_region.specs.Runs.{grown_by, joins, put_in_run};
+ghost use Rattle.r10_region.specs.declared.ahead.Ahead.{Ahead};
 
-use crate::line::Link;
+use crate::ahead::Ahead;
+use crate::line::Line;
+use crate::link::Link;
 use crate::operation::{Operation, has_its_bytes};
+use crate::region::Region;
 use crate::spare::Spare;
+use crate::steady::Onlooker;
+use crate::strip::Strip;
 use rtrb::{Consumer, Producer};
 use std::alloc::Global;
+use std::snapshot::Snapshot;
 
 /// An operation, without the bytes of a write.
 #[repr(C)]
@@ -36,11 +46,22 @@ pub struct RunOut {
 pub struct Orders {
     pub(crate) ring: Consumer<Operation, Global>,
     pub(crate) links: Consumer<Link, Global>,
+    // the ring after the one in hand
+    pub(crate) ahead: Option<Ahead>,
+    // the links as they were when the ring in hand was taken
+    pub(crate) done: Snapshot<Consumer<Link, Global>>,
+    // the first ring, as it began
+    pub(crate) first: Snapshot<Consumer<Operation, Global>>,
+    // what was lent to the region
+    pub(crate) was: Snapshot<Strip>,
     pub(crate) news: Producer<bool, Global>,
     // where a ring goes in that is made before it is wanted
     pub(crate) spares: Producer<Spare, Global>,
     // how many operations have a place when a call begins
     pub(crate) room: usize,
+    ghost at: { name_of ring.end ≡ last_name (name_of first.value.end) (received done.value) },
+    ghost taken: { received links ≡ received done.value ++ links_ahead ahead },
+    ghost comes: { (a : Ahead) → ahead ≡ Some a → name_of a.was.value.before.end ≡ name_of ring.end },
 }
 
 /// How many operations wait, and how many have a place.
@@ -89,39 +110,52 @@ fn put_in_run(operation: &Operation, first: usize, count: usize, bytes: &mut [u8
 }
 
 impl Orders {
-    ghost use Rattle.std.specs.Prelude.{◌/◌, ◌-◌, [], ◌∷◌, ◌++◌, MatchOption};
+    ghost use Rattle.std.specs.Prelude.{◌/◌, ◌-◌, [], ◌∷◌, None, MatchOption};
     ghost use Rattle.rtrb.specs.Ring.{consumer_capacity, known_items};
     ghost use Rattle.r10_region.specs.Joining.{JoinsMore, JoinsOne};
-    ghost use Rattle.r10_region.specs.Orders.{taken, CountsQueue, HandsOne, HandsOrderOut, HandsRunOut, HandsSome, HasNone};
-    ghost use Rattle.r10_region.specs.Orders.{HasTold, IsSameEnd, LooksAhead, MakesRoom, MovesOn};
+    ghost use Rattle.r10_region.specs.Orders.{taken, CountsQueue, HandsOne, HandsSome, HasNone};
+    ghost use Rattle.r10_region.specs.Orders.{HasTold, IsSameEnd, IsTied, LooksAhead, MakesRoom, MovesOn, Reaches, TakesFirst};
 
-    /// Takes the next ring in hand where the one in hand has nothing more.
-    fn move_on(&mut self)
-        ensures { MovesOn self.old self.new }
+    /// Takes the ring ahead in hand where the one in hand has nothing more. False where it has.
+    fn move_on(&mut self) -> bool
+        ensures { MovesOn result self.old self.new }
     {
-        if self.links.is_empty() || !self.ring.is_empty() {
+        let Some(ahead) = self.ahead.take() else {
+            return true;
+        };
+        let Ahead { link, was } = ahead;
+        let Link { next, mut before } = link;
+        if self.ring.slots_beside(&mut before) > 0 {
+            let link = Link { next, before };
+            self.ahead = Some(Ahead { link, was });
+            return false;
+        }
+        self.ring = next;
+        self.done = Snapshot::of(&self.links);
+        true
+    }
+
+    /// Takes rings in hand until one has something, or nothing waits. What the ring in hand has is then known.
+    fn reach(&mut self, line: &mut Line)
+        requires { IsTied line.old self.old }
+        ensures { Reaches line.old line.new self.old self.new }
+    {
+        let further = self.links.slots_beside(&mut line.links);
+        if !self.move_on() {
             return;
         }
-        match self.links.pop() {
-            Ok(link) => {
-                let Link { next, before: _ } = link;
-                self.ring = next;
+        for _ in 0..further {
+            let link = self.links.pop_known();
+            self.ahead = Some(Ahead::new(link));
+            if !self.move_on() {
+                return;
             }
-            Err(_) => (),
         }
+        self.ring.slots_beside(&mut line.ring);
     }
 
-    /// Hands out the next operation, and the bytes of a write, if there is one.
+    /// Hands out the next operation that is known, and the bytes of a write, if there is one.
     pub fn hand_out(&mut self, out: &mut OrderOut, bytes: &mut [u8])
-        requires { 512 ≤ length bytes.old }
-        ensures { HandsOrderOut self.old self.new out.new bytes.old bytes.new }
-    {
-        self.move_on();
-        self.hand_one(out, bytes);
-    }
-
-    // The next operation of the ring in hand.
-    fn hand_one(&mut self, out: &mut OrderOut, bytes: &mut [u8])
         requires { 512 ≤ length bytes.old }
         ensures { HandsOne self.old self.new out.new bytes.old bytes.new }
     {
@@ -153,7 +187,7 @@ impl Orders {
         ensures joins { JoinsOne first count most self.old self.new bytes.old bytes.new result }
         ensures size { length bytes.new ≡ length bytes.old }
     {
-        if self.ring.is_empty() {
+        if self.ring.cached_slots() == 0 {
             return None;
         }
         if !joins(self.ring.peek_known(), first, count, most) {
@@ -169,7 +203,7 @@ impl Orders {
     {
         let most = bytes.len() / 512;
         let mut count = 1;
-        for _ in 0..self.ring.slots() {
+        for _ in 0..self.ring.cached_slots() {
             match self.join_one(first, count, most, bytes) {
                 Some(more) => count = more,
                 None => return count,
@@ -178,29 +212,21 @@ impl Orders {
         count
     }
 
-    /// Hands out the next operations that a disk may do at once, and the bytes of their writes, if there are some: a sync alone, or
-    /// a write and those after it that write its block, or blocks side by side with it, as many as there is room for.
-    pub fn hand_out_run(&mut self, out: &mut RunOut, bytes: &mut [u8])
-        requires { 512 ≤ length bytes.old }
-        ensures { HandsRunOut self.old self.new out.new bytes.old bytes.new }
-    {
-        self.move_on();
-        self.hand_some(out, bytes);
-    }
-
-    // The next operation of the ring in hand, by value.
+    // The next operation that is known in the ring in hand, by value.
     fn pop(&mut self) -> Option<Operation>
         ensures queue { IsSameEnd self.old self.new }
-        ensures takes { MatchOption result (HasNone self.old self.new) (λ op. taken self.new ≡ taken self.old ++ op ∷ []) }
+        ensures takes { MatchOption result (HasNone self.old self.new) (λ op. TakesFirst op self.old self.new) }
     {
-        match self.ring.pop() {
-            Ok(operation) => Some(operation),
-            Err(_) => None,
+        if self.ring.cached_slots() == 0 {
+            return None;
         }
+        Some(self.ring.pop_known())
     }
 
-    // The next run of the ring in hand, or a sync.
-    fn hand_some(&mut self, out: &mut RunOut, bytes: &mut [u8])
+    /// Hands out the next operations that are known and that a disk may do at once, and the bytes of their writes, if there are
+    /// some: a sync alone, or a write and those after it that write its block, or blocks side by side with it, as many as there is
+    /// room for.
+    pub fn hand_out_run(&mut self, out: &mut RunOut, bytes: &mut [u8])
         requires { 512 ≤ length bytes.old }
         ensures { HandsSome self.old self.new out.new bytes.old bytes.new }
     {
@@ -266,10 +292,10 @@ impl Orders {
     // Whether the ring in hand has them, and none waits after it.
     fn has_places(&mut self) -> bool
         ensures looked { LooksAhead self.old self.new }
-        ensures value { result ≡ true → (known_items self.new.links ≡ [])
+        ensures value { result ≡ true → (self.new.ahead ≡ None) × (known_items self.new.links ≡ [])
             × (self.old.room ≤ consumer_capacity self.new.ring - length (known_items self.new.ring)) }
     {
-        if !self.links.is_empty() {
+        if self.ahead.is_some() || !self.links.is_empty() {
             return false;
         }
         let waiting = self.ring.slots();
@@ -283,7 +309,20 @@ impl Orders {
         QueueOut {
             waiting: self.ring.slots(),
             places: self.ring.capacity(),
-            rings: self.links.slots(),
+            rings: self.links.slots() + usize::from(self.ahead.is_some()),
         }
+    }
+}
+
+/// Where it looks at its region, it has all in hand or ahead that was asked of the disk and not handed out.
+impl Onlooker<Region> for Orders {
+    ghost use Rattle.r10_region.specs.Orders.{IsLookedInto, IsTiedTo, Reaches};
+
+    ghost may_look = { λ o r. IsTiedTo r o };
+
+    ghost looks = { λ o r o' r'. Reaches r.line r'.line o o' × IsLookedInto r r' };
+
+    fn look(&mut self, region: &mut Region) {
+        self.reach(&mut region.line);
     }
 }

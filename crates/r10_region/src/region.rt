@@ -9,6 +9,7 @@ use crate::line::Line;
 use crate::operation::{Operation, has_its_bytes};
 use crate::orders::Orders;
 use crate::queueing::tell_write;
+use crate::steady::SteadyMedium;
 use crate::strip::Strip;
 use r10_medium::{BlockMedium, MediumFault};
 use rtrb::{Consumer, RingBuffer};
@@ -64,6 +65,7 @@ impl Region {
         let (line, ring, links, spares) = Line::new(alloc, room)?;
         let (tell, news) = RingBuffer::new(alloc, 1)?;
         let was = Snapshot::of(&strip);
+        let lent = Snapshot::of(&strip);
         let blocks = strip.into_slice();
         are_whole(blocks);
         let _count = blocks.len();
@@ -74,9 +76,15 @@ impl Region {
             was,
             failures: 0,
         };
+        let first = Snapshot::of(&ring);
+        let done = Snapshot::of(&links);
         let orders = Orders {
             ring,
             links,
+            ahead: None,
+            done,
+            first,
+            was: lent,
             news: tell,
             spares,
             room,
@@ -89,7 +97,7 @@ impl BlockMedium for Region {
     ghost use Rattle.std.specs.Prelude.{◌⊎◌, slice_set, IsOk, OnErr, OnOk};
     ghost use Rattle.r10_medium.specs.Disk.{block_at, Counts, IsSynced, Unchanged, Wrote};
     ghost use Rattle.r10_region.specs.Queue.{AsksDisk, FindsNoPlace, HearsFailure};
-    ghost use Rattle.r10_region.specs.RegionDisk.{region_disk};
+    ghost use Rattle.r10_region.specs.RegionDisk.{identity_of, region_disk};
     ghost use Rattle.r10_region.specs.declared.operation.Operation.TheVariants.{Write, Sync};
 
     ghost disk = { region_disk };
@@ -114,6 +122,7 @@ impl BlockMedium for Region {
         ensures written { OnOk result ((region_disk self.new).blocks ≡ slice_set (region_disk self.old).blocks n block.now) }
         ensures wrote { Wrote n block.now (region_disk self.old) (region_disk self.new) }
         ensures counts { Counts (region_disk self.old) (region_disk self.new) result }
+        ensures stays { identity_of self.new ≡ identity_of self.old }
         ensures asks { OnOk result (AsksDisk (Write n block.now) self.old self.new) }
         ensures fails { OnErr result (FindsNoPlace self.old self.new ⊎ HearsFailure self.old self.new) }
     {
@@ -128,6 +137,7 @@ impl BlockMedium for Region {
         ensures sure { OnOk result (IsSynced (region_disk self.new)) }
         ensures same { Unchanged (region_disk self.old) (region_disk self.new) }
         ensures counts { Counts (region_disk self.old) (region_disk self.new) result }
+        ensures stays { identity_of self.new ≡ identity_of self.old }
         ensures asks { OnOk result (AsksDisk Sync self.old self.new) }
         ensures fails { OnErr result (FindsNoPlace self.old self.new ⊎ HearsFailure self.old self.new) }
     {
@@ -140,5 +150,23 @@ impl BlockMedium for Region {
 
     fn failures(&self) -> u64 {
         self.failures
+    }
+}
+
+impl SteadyMedium for Region {
+    ghost use Rattle.r10_region.specs.RegionDisk.{identity_of};
+
+    ghost identity = { identity_of };
+
+    fn steady_read(&mut self, n: usize, block: &mut [u8; 512]) -> Result<(), MediumFault> {
+        self.read(n, block)
+    }
+
+    fn steady_write(&mut self, n: usize, block: &[u8; 512]) -> Result<(), MediumFault> {
+        self.write(n, block)
+    }
+
+    fn steady_sync(&mut self) -> Result<(), MediumFault> {
+        self.sync()
     }
 }

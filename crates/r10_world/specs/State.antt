@@ -8,3 +8,7 @@ pub use Rattle.r10_control.specs.Told.{number_on}
 pub record WorldState (M : Type 0) : Type 0 where
   pub recorder : RecorderState M Lane
   pub slots : List (Option Cursor)
+
+-- the same over a medium
+abbrev pub with_medium : {M N : Type 0} → N → WorldState M → WorldState N
+with_medium medium w = record { recorder = record { kept = w.recorder.kept; lanes = w.recorder.lanes; medium = medium }; slots = w.slots }

@@ -18,4 +18,4 @@ pub use r10_machine::{
 };
 pub use running::run;
 pub use whole::{format_and_record, record_all, run_over_any_medium};
-pub use world::World;
+pub use world::{LiftedWorld, World};

@@ -11,7 +11,7 @@ ghost use Rattle.r10_world.specs.Answering.{AnswersSo};
 ghost use Rattle.r10_world.specs.Stopping.{Recovers, Survives};
 ghost use Rattle.r10_world.specs.Telling.{WorldStandsFor, RecorderStepsTo};
 ghost use Rattle.r10_machine.specs.Says.{MediumHas, MediumSays};
-ghost use Rattle.r10_world.specs.State.{number_on};
+ghost use Rattle.r10_world.specs.State.{number_on, with_medium};
 
 use crate::a_new_recorder_stands;
 use crate::control::{
@@ -20,7 +20,7 @@ use crate::control::{
 };
 use crate::readers::{advance, close, next, open};
 use r10_body::{ChannelSpec, Message, Refusal};
-use r10_control::Recorder;
+use r10_control::{Lifted, Recorder};
 use r10_cursor::Cursor;
 use r10_lane::RingLane;
 use r10_machine::{Event, Reply, Settings};
@@ -52,6 +52,41 @@ impl<M: BlockMedium + Drop> Drop for World<M> {
             recorder: _,
             cursors: _,
         } = self;
+    }
+}
+
+/// A world without its medium. Contracts see the world as it was, with the medium as it was taken out.
+pub struct LiftedWorld<M: BlockMedium> {
+    alloc: Global,
+    recorder: Lifted<M, RingLane>,
+    cursors: Slab<Cursor>,
+}
+
+impl<M: BlockMedium> Model for LiftedWorld<M> {
+    ghost use Rattle.r10_world.specs.State.{WorldState};
+
+    ghost Value = { WorldState M };
+
+    ghost view = { λ w. record { recorder = w.recorder; slots = w.cursors.slots } };
+}
+
+impl<M: BlockMedium> LiftedWorld<M> {
+    /// The world over a medium that reads as the one that was taken out.
+    pub fn over<N: BlockMedium>(self, medium: N) -> World<N>
+        requires { (N.disk medium).blocks ≡ (M.disk self.recorder.medium).blocks }
+        ensures { result ≡ with_medium medium self }
+    {
+        let LiftedWorld {
+            alloc,
+            recorder,
+            cursors,
+        } = self;
+        let recorder = recorder.over(medium);
+        World {
+            alloc,
+            recorder,
+            cursors,
+        }
     }
 }
 
@@ -99,6 +134,24 @@ impl<M: BlockMedium> World<M> {
             }
             Err((settings, medium, _)) => Err((settings, medium)),
         }
+    }
+
+    /// The world without its medium, and the medium.
+    pub fn lift(self) -> (LiftedWorld<M>, M)
+        ensures { (result.0 ≡ self) × (result.1 ≡ self.recorder.medium) }
+    {
+        let World {
+            alloc,
+            recorder,
+            cursors,
+        } = self;
+        let (recorder, medium) = recorder.lift();
+        let lifted = LiftedWorld {
+            alloc,
+            recorder,
+            cursors,
+        };
+        (lifted, medium)
     }
 
     /// The medium as it stands.

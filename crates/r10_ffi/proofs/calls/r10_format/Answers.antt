@@ -1,18 +1,21 @@
-use Rattle.std.proofs.Common.{◌≡◌, rules, subst}
+use Rattle.std.proofs.Common.{◌≡◌, rules, subst, ap, ◌∙◌}
 use Rattle.r10_medium.specs.Disk.{Image}
 use Rattle.r10_calls.specs.Opening.{FormatsOver}
+use Rattle.r10_region.specs.Identity.{Identity}
 use Rattle.r10_region.specs.RegionDisk.{region_disk}
 use Rattle.r10_ffi.proofs.Between.{formatted}
 use Rattle.r10_ffi.proofs.calls.r10_format.Goals as goal
 
 pub returns-in-Ok-new-clause-formats : goal.returns-in-Ok-new-clause-formats
 returns-in-Ok-new-clause-formats c zero =
-    let done : c.format-number.result ≡ 0 = search rules in (
+    let done : c.format-number.result.0 ≡ 0 = search rules in (
       c.put.ensures.1,
       formatted c.args.script.now c.args.region.held c.put.new.self.handle.held _ _ c.put.ensures.0 c.in-Ok-new.ensures.ok (record {
-        medium = c.format-number.new.medium;
+        medium = c.format-number.result.1;
+        lent = ap (λ (i : Identity). i.lent) c.format-number.ensures.stays ∙ c.in-Ok.ensures.lent;
+        nothing = c.in-Ok.ensures.other_end.nothing;
         formats = c.format-number.ensures.formats done;
-        over = subst (λ (image : Image). FormatsOver c.args.script.now image (region_disk c.format-number.new.medium)) c.in-Ok.ensures.blocks (c.format-number.ensures.over done);
+        over = subst (λ (image : Image). FormatsOver c.args.script.now image (region_disk c.format-number.result.1)) c.in-Ok.ensures.blocks (c.format-number.ensures.over done);
         opens = c.in-Ok-open.ensures.opens;
         accepted = c.in-Ok-open.ensures.accepted;
         empty = c.in-Ok-open.ensures.empty;

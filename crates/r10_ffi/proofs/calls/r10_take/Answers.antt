@@ -3,4 +3,4 @@ use Rattle.r10_ends.proofs.Between.{between}
 use Rattle.r10_ffi.proofs.calls.r10_take.Goals as goal
 
 pub returns-clause-takes : goal.returns-clause-takes
-returns-clause-takes c = λ is. (c.put.ensures.1, between _ _ _ _ _ _ c.take-held.ensures.taken c.deref_mut.ensures.value c.put.ensures.0 ((c.take-answer.ensures, refl), refl))
+returns-clause-takes c = λ is. (c.put.ensures.1, between _ _ _ _ _ _ c.take-held.ensures.taken c.deref_mut.ensures.value c.put.ensures.0 ((c.take-answer.ensures.does, refl), refl))

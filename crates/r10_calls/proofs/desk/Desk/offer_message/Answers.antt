@@ -2,5 +2,5 @@ use Rattle.std.proofs.Common.{refl}
 use Rattle.r10_calls.proofs.Telling.{refused}
 use Rattle.r10_calls.proofs.desk.Desk.offer_message.Goals as goal
 
-pub returns-in_default : goal.returns-in_default
-returns-in_default g c = refused g.M.BlockMedium.disk c.args.self.now _ _ refl
+pub returns-in_default-clause-does : goal.returns-in_default-clause-does
+returns-in_default-clause-does g c = refused g.M.BlockMedium.disk c.args.self.now _ _ refl

@@ -5,5 +5,5 @@ use Rattle.std.proofs.lemmas.Bool.{true≢false}
 
 pub returns-in-Err-Full-clause-keeps : goal.returns-in-Err-Full-clause-keeps
 returns-in-Err-Full-clause-keeps c =
-    keeps_behind c.ask_anew.result c.args.self.now (record c.args.self.now { ring = c.push.new.self }) c.ask_anew.new.self refl refl c.push.ensures.ring c.in-Err-Full.ensures.full.1
+    keeps_behind c.ask_anew.result c.args.self.now _ c.ask_anew.new.self refl refl refl c.push.ensures.ring c.in-Err-Full.ensures.full.1
     (none_of _ (λ lt. true≢false (sym (c.in-Err-Full.ensures.succeeds lt)))) c.ask_anew.ensures.keeps

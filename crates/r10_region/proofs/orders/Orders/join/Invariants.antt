@@ -1,4 +1,4 @@
-use Rattle.std.proofs.Common.{◌≡◌, ◌≤◌, ◌*◌, length, ◌/◌}
+use Rattle.std.proofs.Common.{◌≡◌, length, ◌/◌}
 use Rattle.r10_region.specs.Joining.{JoinsMore}
 use Rattle.r10_region.proofs.orders.Orders.join.Given as goal
 

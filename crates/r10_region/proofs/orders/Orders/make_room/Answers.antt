@@ -7,6 +7,7 @@ use Rattle.r10_region.proofs.orders.Orders.make_room.Goals as goal
 
 pub returns : goal.returns
 returns c = let l = c.has_places.ensures.looked in record {
+  turn = record { ahead = l.turn.ahead; done = l.turn.done; first = l.turn.first; was = l.turn.was };
   ring = l.ring;
   links = l.links;
   news = l.news;
