@@ -33,6 +33,7 @@ GRANTED = {
                'a directory, and `check_medium` '
                'whether files are strict. No call shows that an open file is the one that a value in memory represents; a recorder '
                'owns its medium, and so keeps this itself',
+    'named': 'a medium is the one that its type names, and an onlooker has the other end of that medium\'s queue',
     'handle': 'an open gave the handle, and no close took it. A program in another language keeps this, and nothing tests it: the '
               'header says so',
 }
