@@ -7,7 +7,7 @@ mkdir -p "$room/scripts"
 cp "$top/scripts/check_numbers.py" "$room/scripts"
 anew() {
     rm -rf "$room/crates"
-    for crate in r10_packet r10_setup r10_body r10_index; do
+    for crate in r10_packet r10_setup r10_b1553 r10_body r10_index; do
         mkdir -p "$room/crates/$crate"
         cp -r "$top/crates/$crate/src" "$top/crates/$crate/specs" "$room/crates/$crate"
     done
