@@ -49,7 +49,7 @@ FUNCTION = re.compile(r'^[ \t]*(?:pub(?:\([a-z ]+\))? )?(?:const )?(?:unsafe )?(
 CLAUSE = re.compile(r'\b(?:(?:requires|ensures)\b\*?(?:\s+\w+)?|(?:ghost|measure|decreases)\b[^{};]*)\s*\Z')
 TYPE = re.compile(r'^(?:pub(?:\([a-z ]+\))? )?(?:struct|enum|trait) (?P<name>\w+)', re.M)
 HEAD = re.compile(r'^(?:pub )?(?:unsafe )?(?P<kind>impl|trait)\b(?P<rest>[^{;]*)\{', re.M)
-NOT_CODE = re.compile(r'//[^\n]*|"(?:[^"\\]|\\.)*"|\'(?:[^\'\\]|\\.[^\']*)\'')
+NOT_CODE = re.compile(r'//[^\n]*|"(?:[^"\\]|\\[\s\S])*"|\'(?:[^\'\\]|\\.[^\']*)\'')
 # (a proof file that names what the change took away, and what cites that proof, says little of a contract)
 ONLY_NAMES = re.compile(r'has no field|is not in scope|has no `|was not admitted')
 RESTS = re.compile(r'was not admitted|which is not proved')
@@ -113,8 +113,8 @@ class Verdict:
 
 
 def blanked(text: str) -> str:
-    """The text with spaces in place of comments, strings and characters, so that braces and words are code."""
-    return NOT_CODE.sub(lambda it: ' ' * len(it[0]), text)
+    """The text with spaces in place of comments, strings and characters, so that braces and words are code. Lines stay lines."""
+    return NOT_CODE.sub(lambda it: re.sub('[^\n]', ' ', it[0]), text)
 
 
 def end_of(code: str, at: int) -> int:

@@ -160,4 +160,10 @@ texts = {"src/kept.rt": "pub struct Kept<M> {\n}\n",
 homes = wrong_bodies.homes_of(texts)
 print(*[it.said() for it in wrong_bodies.functions_of("src/reading.rt", texts["src/reading.rt"], homes)])')
 check "a function has the module of its type in its name, whatever file it stands in" is "$named" "kept::Kept::read"
+
+found=$(cd "$tree/scripts" && python3 -B -c '
+import wrong_bodies
+text = "const WORDS: &str =\n    \"one of: {,\\\n    \\\"two\";\n\nfn read() -> u8 {\n    0\n}\n"
+print(*[it.said() + " " + str(text.count("\n", 0, it.start) + 1) for it in wrong_bodies.functions_of("src/lib.rt", text, {})])')
+check "a text that goes on in the next line is no code" is "$found" "read 5"
 exit "$failed"
