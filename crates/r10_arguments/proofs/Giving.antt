@@ -39,3 +39,10 @@ gives_first [] d option value some same is out = absurd (omega (arith, some))
 gives_first (g ∷ given) d option value some same is out =
     let value_is : g.value.now ≡ value = (bytes_eq-Decides g.value.now value).0 is in
     rw (same, out, value_is) refl
+
+-- an option that stands once, and first, does not stand after that
+pub first_alone : (given : List FoundOption) (d : FoundOption) (option value : List ℕ) → 1 ≤ length given
+    → bytes_eq (get_or given 0 d).option.now option ≡ true → GivesOption (map found_words given) option value
+    → IsLeftOut (map found_words (drop 1 given)) option
+first_alone [] d option value some same gives = absurd (omega (arith, some))
+first_alone (g ∷ given) d option value some same gives = ap (drop 1) (rw (same) at gives)

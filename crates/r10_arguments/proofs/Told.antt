@@ -8,6 +8,9 @@ use Rattle.std.proofs.lemmas.Bool.{false≢true}
 use Rattle.std.specs.List.{All, Contains, after_first, before_first, flat_map, list_all, list_any}
 use Rattle.clap.proofs.CutLemmas.{Lacks, after_first-at, before_first-at, list_any-Lacks, list_any-at}
 use Rattle.r10_arguments.specs.Options.{HasOnlyOptions, OptionWords, as_words}
+use Rattle.r10_arguments.specs.Words.{GivesAll, GivesSelection, OptionsOfFormat, OptionsOfPlay, format_options, play_options}
+use Rattle.r10_arguments.specs.declared.asked.FormatWords.{FormatWords}
+use Rattle.r10_arguments.specs.declared.asked.PlayWords.{PlayWords}
 
 -- a text without `=`
 abbrev pub is_name : List ℕ → Bool
@@ -62,3 +65,16 @@ told_once known words named given other one two =
     let names : (o : List ℕ) → Contains known o → Lacks 61 o = λ o (k, lt, is). name_lacks o (subst (λ (t : List ℕ). is_name t ≡ true) is (AllPass-from_list_all is_name known named k o lt)) in
     told_all known names given other one.are_known two.are_known
     (sym (append-nil (flat_map as_words given)) ∙ sym one.front ∙ two.front ∙ append-nil (flat_map as_words other))
+
+-- options that stand among words, and do not give these values, give them in no other way
+pub format_differs : (words : List (List ℕ)) (given : List OptionWords) (format : FormatWords)
+    → HasOnlyOptions format_options words given → (OptionsOfFormat given format → ⊥) → GivesAll words format → ⊥
+format_differs words given format only other gives =
+    let same = told_once format_options words refl gives.given given gives.only only in
+    other (subst (λ (g : List OptionWords). OptionsOfFormat g format) same gives.gives)
+
+pub play_differs : (words : List (List ℕ)) (given : List OptionWords) (play : PlayWords)
+    → HasOnlyOptions play_options words given → (OptionsOfPlay given play → ⊥) → GivesSelection words play → ⊥
+play_differs words given play only other gives =
+    let same = told_once play_options words refl gives.given given gives.only only in
+    other (subst (λ (g : List OptionWords). OptionsOfPlay g play) same gives.gives)

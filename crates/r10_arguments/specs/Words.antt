@@ -71,6 +71,10 @@ pub record GivesAll (words : List (List ℕ)) (format : FormatWords) : Type 0 wh
   pub only : HasOnlyOptions format_options words given
   pub gives : OptionsOfFormat given format
 
+-- what is stated of numbers that are spelled otherwise
+abbrev pub numbers_fault : List ℕ
+numbers_fault = codes "a number has neither a sign nor zeros before it"
+
 -- the options that `play` knows
 abbrev pub play_options : List (List ℕ)
 play_options = codes "--file" ∷ codes "--channel" ∷ codes "--from" ∷ codes "--to" ∷ []

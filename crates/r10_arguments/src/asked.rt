@@ -1,14 +1,14 @@
 //! What the words of a call ask for.
 
-ghost use Rattle.std.specs.Prelude.{◌≡◌, ◌↔◌, IsTrue, Ok, IfOk, IfSome, IfNone, codes, map, string_bytes};
+ghost use Rattle.std.specs.Prelude.{◌≡◌, ◌↔◌, ◌<◌, length, IsTrue, Ok, IfOk, IfSome, IfNone, codes, map, string_bytes};
 ghost use Rattle.std.specs.Fmt.{decimal};
 ghost use Rattle.std.specs.List.{Contains};
 ghost use Rattle.r10_arguments.specs.Found.{found_words};
 ghost use Rattle.r10_arguments.specs.Options.{GivesOption, GivesOr, HasOnlyOptions};
 ghost use Rattle.r10_arguments.specs.Words.{AsksSim, AsksImage, AsksImageOf, AsksFiles, AsksCheck, AsksRun, AsksRunImage};
 ghost use Rattle.r10_arguments.specs.Words.{AsksSession, AsksOnly, AsksCommand, AsksOther, AsksText, AsksHelpBehind, AsksHelpWord};
-ghost use Rattle.r10_arguments.specs.Words.{GivesAll, IsHelp, IsVersion, OptionsOfFormat, OptionsOfPlay, image_commands};
-ghost use Rattle.r10_arguments.specs.Words.{plain_commands, word_at};
+ghost use Rattle.r10_arguments.specs.Words.{GivesAll, GivesSelection, IsHelp, IsVersion, OptionsOfFormat, OptionsOfPlay};
+ghost use Rattle.r10_arguments.specs.Words.{image_commands, numbers_fault, plain_commands, word_at};
 ghost use Rattle.r10_arguments.specs.declared.asked.Asked.TheVariants.{Sim, Image, Files, Check};
 
 use crate::options::{FoundOption, front_options, gives_option, is_left_out, is_one_of};
@@ -245,8 +245,10 @@ fn format_fault(
     words: &[String],
     format: &FormatWords,
 ) -> Result<Option<&'static str>, AllocError>
-    ensures { IfOk result (λ fault. IfNone fault
+    ensures none { IfOk result (λ fault. IfNone fault
         (AsksCommand (codes "format") (map string_bytes words.now) × GivesAll (map string_bytes words.now) format.now)) }
+    ensures numbers { IfOk result (λ fault. IfSome fault
+        (λ line. line.now ≡ numbers_fault → GivesAll (map string_bytes words.now) format.now → ⊥)) }
 {
     let Some(given) = only_options(alloc, words, "format", &FORMAT_OPTIONS)? else {
         return Ok(Some(ASK_NOTHING));
@@ -282,14 +284,31 @@ fn format_words(alloc: Global, found: &ArgMatches<'_>) -> Result<Option<FormatWo
 fn read_play(alloc: Global, words: &[String], found: &ArgMatches<'_>) -> Result<Asked, WordsFault>
     ensures { IfOk result (AsksOther (map string_bytes words.now)) }
 {
-    let Some(given) = only_options(alloc, words, "play", &PLAY_OPTIONS)? else {
-        return Err(wrong(alloc, ASK_NOTHING, Called::Play));
-    };
     let play = play_words(found);
-    if gives_selection(alloc, given.as_slice(), &play)? {
-        Ok(Asked::Play(play))
+    match play_fault(alloc, words, &play)? {
+        None => Ok(Asked::Play(play)),
+        Some(line) => Err(wrong(alloc, line, Called::Play)),
+    }
+}
+
+/// What is wrong with the options of `play`, if they do not say this, or something else stands there.
+fn play_fault(
+    alloc: Global,
+    words: &[String],
+    play: &PlayWords,
+) -> Result<Option<&'static str>, AllocError>
+    ensures none { IfOk result (λ fault. IfNone fault
+        (AsksCommand (codes "play") (map string_bytes words.now) × GivesSelection (map string_bytes words.now) play.now)) }
+    ensures numbers { IfOk result (λ fault. IfSome fault
+        (λ line. line.now ≡ numbers_fault → GivesSelection (map string_bytes words.now) play.now → ⊥)) }
+{
+    let Some(given) = only_options(alloc, words, "play", &PLAY_OPTIONS)? else {
+        return Ok(Some(ASK_NOTHING));
+    };
+    if gives_selection(alloc, given.as_slice(), play)? {
+        Ok(None)
     } else {
-        Err(wrong(alloc, NUMBERS, Called::Play))
+        Ok(Some(NUMBERS))
     }
 }
 
@@ -346,7 +365,7 @@ fn wrong_line(alloc: Global, line: &str, called: Called) -> Result<String, Alloc
 
 /// Whether this word stands at the place among them.
 fn has_at(words: &[String], place: usize, text: &str) -> bool
-    ensures { IsTrue result → word_at (map string_bytes words.now) place ≡ text.now }
+    ensures { IsTrue result ↔ ((place < length words.now) × (word_at (map string_bytes words.now) place ≡ text.now)) }
 {
     place < words.len() && words[place].as_str() == text
 }
@@ -382,13 +401,13 @@ fn asks_help_word(words: &[String]) -> bool
 }
 
 fn is_version_at(words: &[String], place: usize) -> bool
-    ensures { IsTrue result → IsVersion (word_at (map string_bytes words.now) place) }
+    ensures { IsTrue result ↔ IsVersion (word_at (map string_bytes words.now) place) }
 {
     has_at(words, place, "-V") || has_at(words, place, "--version")
 }
 
 fn is_help_at(words: &[String], place: usize) -> bool
-    ensures { IsTrue result → IsHelp (word_at (map string_bytes words.now) place) }
+    ensures { IsTrue result ↔ IsHelp (word_at (map string_bytes words.now) place) }
 {
     has_at(words, place, "-h") || has_at(words, place, "--help")
 }
@@ -436,7 +455,7 @@ fn gives_all(
     given: &[FoundOption<'_>],
     format: &FormatWords,
 ) -> Result<bool, AllocError>
-    ensures { IfOk result (λ r. IsTrue r → OptionsOfFormat (map found_words given.now) format.now) }
+    ensures { IfOk result (λ r. IsTrue r ↔ OptionsOfFormat (map found_words given.now) format.now) }
 {
     if !gives_number(alloc, given, "--blocks", format.blocks)? {
         return Ok(false);
@@ -453,7 +472,7 @@ fn gives_selection(
     given: &[FoundOption<'_>],
     play: &PlayWords,
 ) -> Result<bool, AllocError>
-    ensures { IfOk result (λ r. IsTrue r → OptionsOfPlay (map found_words given.now) play.now) }
+    ensures { IfOk result (λ r. IsTrue r ↔ OptionsOfPlay (map found_words given.now) play.now) }
 {
     if !gives_or(alloc, given, "--file", play.file as u64, 0)? {
         return Ok(false);
@@ -475,7 +494,7 @@ fn gives_or(
     number: u64,
     otherwise: u64,
 ) -> Result<bool, AllocError>
-    ensures { IfOk result (λ r. IsTrue r → GivesOr (map found_words given.now) option.now number otherwise) }
+    ensures { IfOk result (λ r. IsTrue r ↔ GivesOr (map found_words given.now) option.now number otherwise) }
 {
     if number == otherwise && is_left_out(given, option) {
         return Ok(true);
@@ -490,7 +509,7 @@ fn gives_number(
     option: &str,
     number: usize,
 ) -> Result<bool, AllocError>
-    ensures { IfOk result (λ r. IsTrue r → GivesOption (map found_words given.now) option.now (decimal number)) }
+    ensures { IfOk result (λ r. IsTrue r ↔ GivesOption (map found_words given.now) option.now (decimal number)) }
 {
     let text = format!(in alloc; "{number}")?;
     Ok(gives_option(given, option, text.as_str()))

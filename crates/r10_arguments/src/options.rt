@@ -1,6 +1,6 @@
 //! The options of a command among its words, each with its value.
 
-ghost use Rattle.std.specs.Prelude.{◌≡◌, ◌<◌, ℕ, List, IsTrue, IfOk, IfSome, length, map, string_bytes};
+ghost use Rattle.std.specs.Prelude.{◌≡◌, ◌<◌, ◌↔◌, ℕ, List, IsTrue, IfOk, IfSome, length, map, string_bytes};
 ghost use Rattle.std.specs.List.{Contains};
 ghost use Rattle.r10_arguments.specs.Options.{BeginsWithOptions, GivesOption, HasOnlyOptions, IsLeftOut, OptionWords};
 ghost use Rattle.r10_arguments.specs.Words.{format_options, play_options};
@@ -108,7 +108,7 @@ pub(crate) fn is_one_of(text: &str, texts: &[&str]) -> bool
 
 /// Whether an option stands once, with this value.
 pub(crate) fn gives_option(given: &[FoundOption<'_>], option: &str, value: &str) -> bool
-    ensures { IsTrue result → GivesOption (map found_words given.now) option.now value.now }
+    ensures { IsTrue result ↔ GivesOption (map found_words given.now) option.now value.now }
 {
     match given {
         [] => false,
@@ -124,7 +124,7 @@ pub(crate) fn gives_option(given: &[FoundOption<'_>], option: &str, value: &str)
 
 /// Whether an option does not stand there.
 pub(crate) fn is_left_out(given: &[FoundOption<'_>], option: &str) -> bool
-    ensures { IsTrue result → IsLeftOut (map found_words given.now) option.now }
+    ensures { IsTrue result ↔ IsLeftOut (map found_words given.now) option.now }
 {
     match given {
         [] => true,

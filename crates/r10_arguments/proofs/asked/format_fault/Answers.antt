@@ -1,0 +1,13 @@
+use Rattle.std.proofs.Common.{rules, map, string_bytes}
+use Rattle.r10_arguments.specs.Found.{found_words}
+use Rattle.r10_arguments.specs.Options.{HasOnlyOptions}
+use Rattle.r10_arguments.specs.Words.{OptionsOfFormat, format_options}
+use Rattle.r10_arguments.proofs.Told.{format_differs}
+use Rattle.r10_arguments.proofs.asked.format_fault.Goals as goal
+
+pub returns-clause-numbers : goal.returns-clause-numbers
+returns-clause-numbers c = λ same.
+    let given = map found_words c.in-Some.given.items in
+    let only : HasOnlyOptions format_options (map string_bytes c.args.words.now) given = search rules in
+    let other : OptionsOfFormat given c.args.format.now → ⊥ = search rules in
+    format_differs (map string_bytes c.args.words.now) given c.args.format.now only other
