@@ -13,8 +13,9 @@ A change of one function leaves most of the mutants of the others as they are. T
 figures.
 
 Prints a line for each, and how many of a hundred are refused by their own crate. What was tried stands in scripts/mutants.txt
-(wrong_bodies.py says how), so a run goes on where one was stopped. What survives is to be closed by a clause, or explained in
-docs/SLIPS.md. Status 1 where fewer than 95 of 100 are refused.
+(wrong_bodies.py says how), so a run goes on where one was stopped. A line stays while its change can be made, drawn or not:
+`--table` leaves out the others. What survives is to be closed by a clause, or explained in docs/SLIPS.md. Status 1 where fewer
+than 95 of 100 are refused.
 """
 from __future__ import annotations
 
@@ -140,7 +141,9 @@ def main() -> int:
         sys.exit(f'mutants: crates.txt has no {unknown[0]} with bodies to change')
     changes, results = sample(it.count, it.seed, names), Results(RESULTS)
     if it.table:
-        results.write()
+        # (a change that no body has any more goes)
+        known = {one.key() for name in names for _, own in mutants_of(name) for one in own}
+        results.write(lambda lines: [lines.pop(key) for key in list(lines) if key not in known])
         wrong_bodies.write_page(MUTANTS, changes, results)
         return 0
     if it.check:

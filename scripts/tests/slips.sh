@@ -152,6 +152,10 @@ check "the table is written" is "$(grep -c '^| `r10_high` | 7 | | | | 7 ' "$tree
 sed -i 's/+ 1 < five/five/' "$high/src/lib.rt"
 mutants --check
 check "that others would be drawn of another body fails no gate" is "$(grep -c 'is not what' <<<"$said")" 0
+kept=$(wc -l <"$tree/scripts/mutants.txt")
+mutants --table
+check "a change that no body has any more goes" is "$(($(wc -l <"$tree/scripts/mutants.txt") < kept)) $(grep -c ' five:' \
+    "$tree/scripts/mutants.txt")" "1 0"
 
 named=$(cd "$tree/scripts" && python3 -B -c '
 import wrong_bodies
