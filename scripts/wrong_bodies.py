@@ -433,9 +433,9 @@ def goal_of(said: list[str]) -> tuple[str, str]:
 class Trial:
     """Tries all changes of one crate in one lane."""
 
-    def __init__(self, lane: Lane, crate: str, changes: list[Change], say: Callable[[Verdict], None], seconds: int,
+    def __init__(self, lane: Lane, crate: str, changes: list[Change], say: Callable[[Verdict], None], how: Options,
                  is_over: Callable[[], bool] = lambda: False):
-        self.lane, self.crate, self.say, self.seconds, self.is_over = lane, crate, say, seconds, is_over
+        self.lane, self.crate, self.say, self.how, self.is_over = lane, crate, say, how, is_over
         folder = TOP / 'crates' / crate
         self.texts = {str(it.relative_to(folder)): it.read_text(encoding='utf-8')
                       for it in files_in(crate, 'src', 'specs', 'proofs') if it.suffix in ('.rt', '.antt')}
@@ -447,7 +447,7 @@ class Trial:
 
     def check(self, changes: list[Change], functions: Iterable[str]) -> tuple[int, str]:
         """Checks these functions with these changes, and shares the cost among them."""
-        status, said, seconds = self.lane.check(self.crate, self.seconds, sorted(functions))
+        status, said, seconds = self.lane.check(self.crate, self.how.seconds, sorted(functions))
         for it in changes:
             self.spent[it.key()] = self.spent.get(it.key(), 0) + seconds / len(changes)
         return status, said
@@ -475,7 +475,7 @@ class Trial:
                 alone += self.round(group)
             # (those that want a whole check last)
             for change in sorted(alone, key=lambda it: not self.touched(it)):
-                if self.is_over():
+                if self.is_over() or self.how.together:
                     break
                 self.single(change)
         finally:
@@ -588,6 +588,7 @@ class Options:
     minutes: int = 0
     only_new: bool = False
     yields: bool = False
+    together: bool = False
 
 
 def add_options(words) -> None:
@@ -598,6 +599,7 @@ def add_options(words) -> None:
     words.add_argument('--seconds', type=int, default=1800, help='the limit of one check, in seconds of a processor')
     words.add_argument('--minutes', type=int, default=0, help='begins no check after so many')
     words.add_argument('--new', action='store_true', help='tries only those without a verdict, and leaves stale ones as they are')
+    words.add_argument('--together', action='store_true', help='tries only what can share a check, and leaves the rest untried')
     words.add_argument('--yield', dest='yields', action='store_true', help='provers take only what other processes leave')
     words.add_argument('--list', action='store_true', help='lists them with their sums and verdicts, and tries none')
     words.add_argument('--table', action='store_true', help='writes the table of docs/SLIPS.md')
@@ -607,7 +609,7 @@ def add_options(words) -> None:
 def options_of(it) -> Options:
     # (a gate refuses sources that lie in the checkout and are of no crate)
     work = it.work or Path(git('rev-parse', '--absolute-git-dir')) / 'r10-slips'
-    return Options(work.resolve(), it.lanes, it.seconds, it.minutes, it.new, it.yields)
+    return Options(work.resolve(), it.lanes, it.seconds, it.minutes, it.new, it.yields, it.together)
 
 
 def listed(changes: list[Change], results: Results, what: str) -> None:
@@ -662,7 +664,7 @@ def run(changes: list[Change], how: Options, results: Results) -> list[Verdict]:
                 own = [it for it in by_crate[crate] if it.key() not in known or not known[it.key()].is_now(sums[crate])]
             start = time.time()
             try:
-                Trial(lane, crate, own, say, how.seconds, is_over).run()
+                Trial(lane, crate, own, say, how, is_over).run()
             except (RuntimeError, OSError, AssertionError) as it:
                 with lock:
                     failed.append(crate)

@@ -51,6 +51,10 @@ verdict() { grep -c " $1 [0-9]* [0-9a-f]* 20[0-9T:-]* $2" "$tree/scripts/slips.t
 key() { grep " $1 .* $2: " "$tree/scripts/slips.txt" | head -1 | cut -d ' ' -f 3; }
 column() { grep '^| `r10_high`' "$tree/docs/SLIPS.md" | head -1 | cut -d '|' -f "$1" | tr -d ' '; }
 
+slips --together
+check "what shares a check is tried, and what has to be tried alone is left" ends 1 "4 tried, 2 left"
+check "it is tried later" is "$(verdict passed '')" 0
+rm "$tree/scripts/slips.txt" && touch "$tree/scripts/slips.txt"
 slips --list
 check "all are listed, with what is known" ends 0 "r10_high src/lib.rt b (never tried): < four -> < four + 0"
 check "how many" ends 0 "6 slips"
