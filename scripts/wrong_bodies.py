@@ -523,7 +523,8 @@ class Trial:
             bad = [it for it in group if it.function(self.functions).path() in in_source]
             if not bad:
                 # (nothing says which one cannot be read)
-                return group
+                half = len(group) // 2
+                return self.round(group[:half]) + self.round(group[half:]) if half else group
             for it in bad:
                 self.found(it, BAD, in_source[it.function(self.functions).path()][0][:120])
             group = [it for it in group if it not in bad]

@@ -18,6 +18,7 @@ awk -v words="$*" '
     /broken/ { print "src/lib.rt:" NR ":5: error: this is no body"; unread = 1 }
     /wrong/ && (!n || name in asked) { print "proofs/" name "/Answers.antt:3:1: error: no proof of `ensures-it`"; bad++ }
     /renamed/ && (!n || name in asked) { print "proofs/" name "/Answers.antt:3:1: error: `x` is not in scope"; bad++ }
+    /nowhere/ { print "this is no body"; unread = 1 }
     END { if (!unread) print "only=" n " proved=" n - bad; exit unread || bad > 0 }' src/lib.rt
 RT
 printf 'def crates_below(top):\n    return []\n\n\nclass Crate:\n    def stamp(self):\n        return ""\n' >"$room/kit/rtlib.py"
@@ -120,6 +121,13 @@ slips --check
 check "two files that were joined" ends 1 "scripts/slips.txt is not sorted, or has two lines of one change"
 slips --table
 check "the later line holds" is "$(wc -l <"$tree/scripts/slips.txt") $(column 6)" "7 1"
+printf 'file: src/lib.rt\nold: < one\nnew: nowhere\nold: < two\nnew: wrong two\nold: < four\nnew: wrong four\n' >"$high/slips/c.edit"
+commit nowhere
+slips --new --together
+check "where nothing says which one is no body, the rest is tried all the same" ends 0 "2 tried, 1 left"
+rm "$high/slips/c.edit"
+commit none
+slips --table
 sed -i '/wrong one/d; /^old: < one/d' "$high/slips/b.edit"
 slips --check
 check "a line of no slip" ends 1 "1 lines of scripts/slips.txt are of no slip"
