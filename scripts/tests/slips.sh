@@ -121,7 +121,8 @@ slips --check
 check "two files that were joined" ends 1 "scripts/slips.txt is not sorted, or has two lines of one change"
 slips --table
 check "the later line holds" is "$(wc -l <"$tree/scripts/slips.txt") $(column 6)" "7 1"
-printf 'file: src/lib.rt\nold: < one\nnew: nowhere\nold: < two\nnew: wrong two\nold: < four\nnew: wrong four\n' >"$high/slips/c.edit"
+printf 'file: src/lib.rt\n' >"$high/slips/c.edit"
+printf 'old: < %s\nnew: %s\n' one nowhere two 'wrong two' four 'wrong four' >>"$high/slips/c.edit"
 commit nowhere
 slips --new --together
 check "where nothing says which one is no body, the rest is tried all the same" ends 0 "2 tried, 1 left"
