@@ -3,7 +3,8 @@
 has it.
 
     scripts/gate_costs.py [--least MINUTES] [WORD..]     the words are those of `rt ci`: --anew, or names of crates; none for the
-                                                         whole gate
+                                                         whole of it
+    scripts/gate_costs.py --whole [--least MINUTES]      runs `.ci/run`: scripts and programs in C and Rust too
     scripts/gate_costs.py --paths [FILE]                 runs nothing: counts the paths of crates.txt, or of a file like it, along
                                                          which the tool sums up what a crate is made from
 
@@ -53,6 +54,15 @@ def prover_of(pid):
     return words[words.index('--crate-name') + 1], part
 
 
+def most_memory(pid):
+    """The most memory, in MB, that a process has held so far; none where it has ended."""
+    try:
+        found = re.search(r'VmHWM:\s+(\d+)', pathlib.Path('/proc', str(pid), 'status').read_text(encoding='utf-8'))
+    except OSError:
+        return 0
+    return int(found[1]) // 1024 if found else 0
+
+
 def is_below(pid, top, parents):
     """Whether a process was started by another, or by one that was."""
     while pid in parents and pid != top:
@@ -60,10 +70,10 @@ def is_below(pid, top, parents):
     return pid == top
 
 
-def watched(words, said):
+def watched(command, said):
     """Runs the gate, and answers its status, what each prover took by crate and part, and what the whole took."""
-    gate, kinds, times = subprocess.Popen(['rt', 'ci', *words], cwd=TOP, stdin=subprocess.DEVNULL, stdout=said,
-                                          stderr=subprocess.STDOUT), {}, {}
+    gate, kinds, times = subprocess.Popen(command, cwd=TOP, stdin=subprocess.DEVNULL, stdout=said, stderr=subprocess.STDOUT), {}, {}
+    memory = {}
     while gate.poll() is None:
         found = parents_and_times()
         parents = {pid: parent for (pid, _), (parent, _) in found.items()}
@@ -72,11 +82,14 @@ def watched(words, said):
                 kinds[key] = prover_of(key[0]) if is_below(key[0], gate.pid, parents) else None
             if kinds[key]:
                 times[key] = seconds
+                memory[kinds[key]] = max(memory.get(kinds[key], 0), most_memory(key[0]))
         time.sleep(0.5)
     table = {}
     for key, seconds in times.items():
         crate, part = kinds[key]
         table.setdefault(crate, {'proof': 0.0, 'tests': 0.0, 'edits': 0.0})[part] += seconds / 60
+    for (crate, part), most in memory.items():
+        table[crate]['memory'] = max(table[crate].get('memory', 0), most)
     used = os.times()
     return gate.returncode, table, (used.children_user + used.children_system) / 60
 
@@ -117,6 +130,7 @@ def print_paths(file: pathlib.Path) -> None:
 def main():
     words = argparse.ArgumentParser(description=__doc__, formatter_class=argparse.RawDescriptionHelpFormatter)
     words.add_argument('--least', type=float, default=1.0)
+    words.add_argument('--whole', action='store_true')
     words.add_argument('--paths', nargs='?', type=pathlib.Path, const=TOP / 'crates.txt', metavar='FILE')
     words, others = words.parse_known_args()
     if words.paths:
@@ -124,20 +138,20 @@ def main():
         return
     began = time.time()
     with tempfile.TemporaryFile('w+', errors='replace') as said:
-        status, table, whole = watched(others, said)
+        status, table, whole = watched(['.ci/run'] if words.whole else ['rt', 'ci', *others], said)
         said.seek(0)
         last = said.read().rstrip().split('\n')[-1]
     sums = {it: sum(row[it] for row in table.values()) for it in ('proof', 'tests', 'edits')}
-    print('| Crate | Proof | Tests | Edits |\n|---|---|---|---|')
+    print('| Crate | Proof | Tests | Edits | MB |\n|---|---|---|---|---|')
     least = [0.0, 0.0, 0.0]
     for crate, row in sorted(table.items(), key=lambda it: -sum(it[1].values())):
         parts = row['proof'], row['tests'], row['edits']
         if sum(parts) < words.least:
             least = [a + b for a, b in zip(least, parts)]
         else:
-            print('| `%s` | %s |' % (crate, ' | '.join('%.1f' % it if it else '' for it in parts)))
-    print('| all others | %.1f | %.1f | %.1f |' % tuple(least))
-    print('| all | %.1f | %.1f | %.1f |' % (sums['proof'], sums['tests'], sums['edits']))
+            print('| `%s` | %s | %d |' % (crate, ' | '.join('%.1f' % it if it else '' for it in parts), row.get('memory', 0)))
+    print('| all others | %.1f | %.1f | %.1f | |' % tuple(least))
+    print('| all | %.1f | %.1f | %.1f | |' % (sums['proof'], sums['tests'], sums['edits']))
     print('\n%.0f minutes of a processor in all, with what compiles, links and runs; %.0f minutes of time. %s'
           % (whole, (time.time() - began) / 60, last))
     sys.exit(1 if status else 0)
