@@ -1,5 +1,6 @@
 -- What a call of the recorder is: one record, by its event, the recorder before and after it, and its answer.
-use Rattle.std.specs.Prelude.{◌≡◌, ℕ, List, [], ◌∷◌, length, max, take, Option, None, Result, IfErr, IfOk, OnErr, OnOk, MatchResult}
+use Rattle.std.specs.Prelude.{◌≡◌, ℕ, ◌<◌, List, [], ◌∷◌, length, max, slice_get, take, Option, None, Some}
+use Rattle.std.specs.Prelude.{Result, IfErr, IfOk, OnErr, OnOk, MatchResult}
 use Rattle.std.specs.Option.{option_and_then}
 use Rattle.r10_body.specs.Files.{on_channel}
 use Rattle.r10_body.specs.Packets.{Packet, file_entries}
@@ -26,12 +27,15 @@ use Rattle.r10_control.specs.Told.{TellsRecorder, without_lost}
 use Rattle.r10_control.specs.declared.status.RecorderStatus.{RecorderStatus}
 use Rattle.r10_count.specs.Checks.{first_broken}
 use Rattle.r10_count.specs.declared.civil.Parts.{Parts}
+use Rattle.r10_cursor.specs.Read.{IsReadTo, TakesNext}
 use Rattle.r10_cursor.specs.Replays.{AdvancesReading}
 use Rattle.r10_cursor.specs.Standing.{fresh_slot}
 use Rattle.r10_cursor.specs.declared.cursor.Cursor.{Cursor as CursorValue}
+use Rattle.r10_machine.specs.Checks.{advance_checks, mounted_checks}
+use Rattle.r10_machine.specs.EventChecks.{refusal as machine_refusal}
 use Rattle.r10_machine.specs.Finding.{count_after, first_from, last_until, status_of, ticks_of}
 use Rattle.r10_machine.specs.Limits.{channel_ids}
-use Rattle.r10_machine.specs.Machine.{Machine, rising}
+use Rattle.r10_machine.specs.Machine.{File, Machine, cursor_of, rising}
 use Rattle.r10_machine.specs.declared.event.Event.{Event as EventValue}
 use Rattle.r10_machine.specs.declared.event.Event.TheVariants as events
 use Rattle.r10_machine.specs.declared.mode.Stopped.{Stopped as StoppedValue}
@@ -212,6 +216,34 @@ TellsCountAt disk file parts now answer =
     (packets : List Packet) → ShowsAt now.kept.work (disk now.medium).blocks file packets
     → IfOk answer (λ count. count ≡ option_and_then (count_after parts) (last_until parts (ticks_of (file_entries packets))))
 
+-- Whether a cursor may be opened on the file of a number for a range of counts, which it answers, whatever its channels.
+pub record ChecksFile {M L : Type 0} (disk : M → Disk) (file from to : ℕ) (before after : RecorderState M L)
+    (answer : Result (ℕ × ℕ) Refusal) : Type 0 where
+  pub passed : (channels : List ℕ) → OnOk answer (recorder_refusal before.kept (events.Cursor file channels from to) ≡ None)
+  pub range : IfOk answer (λ r. (r.0 ≡ from) × (r.1 ≡ to))
+  pub refused : (channels : List ℕ)
+      → IfErr answer (RefusesCall disk (recorder_refusal before.kept (events.Cursor file channels from to))
+      (IsReadFileRefusal before.kept.work (disk before.medium).blocks file) before.kept after.kept before.medium after.medium)
+  -- of every machine that is represented, a cursor may be opened; or the refusal is a step
+  pub steps : (channels : List ℕ) (m : Machine)
+      → KeptStandsFor before.kept (disk before.medium).blocks (disk before.medium).failures m
+      → MatchResult answer (λ r. MayOpen before.kept (disk before.medium).blocks m file channels from to)
+      (λ r. KeptStepsTaking none_taken before.kept m (events.Cursor file channels from to) (replies.Refused r) after.kept
+      (disk after.medium).blocks (disk after.medium).failures)
+  pub there : OnOk answer (IsReadAt before.kept.work (disk before.medium).blocks file)
+  pub reads : OnlyReads disk before after answer
+
+-- The generation of the files, where a medium is mounted.
+pub record TellsGeneration {M L : Type 0} (disk : M → Disk) (now : RecorderState M L) (answer : Result ℕ Refusal) : Type 0 where
+  pub tested : MatchResult answer (λ n. (n ≡ now.kept.generation)
+      × (first_broken (mounted_checks (mode_of now.kept.work)) ≡ None))
+      (λ r. first_broken (mounted_checks (mode_of now.kept.work)) ≡ Some r)
+  -- of every machine that is represented, it is the machine's; or the refusal is a step
+  pub steps : (id : ℕ) (m : Machine) → KeptStandsFor now.kept (disk now.medium).blocks (disk now.medium).failures m
+      → MatchResult answer (λ n. m.generation ≡ n)
+      (λ r. KeptStepsTaking none_taken now.kept m (events.Advance id) (replies.Refused r) now.kept (disk now.medium).blocks
+      (disk now.medium).failures)
+
 -- A cursor is opened on the file of a number, for these channels and counts.
 pub record OpensCursor {M L : Type 0} (disk : M → Disk) (file : ℕ) (channels : List ℕ) (from to : ℕ)
     (before after : RecorderState M L) (answer : Result CursorValue Refusal) : Type 0 where
@@ -248,6 +280,33 @@ AdvancesRecorder disk before after cursor later answer = AdvancesFront (λ packe
 abbrev pub AdvancesUpTo : {M L : Type 0} → ℕ → (M → Disk) → RecorderState M L → RecorderState M L → CursorValue → CursorValue → Result ℕ Refusal → Type 0
 AdvancesUpTo until disk before after cursor later answer =
     AdvancesFront (λ packets. take (max until cursor.reading.covered) packets) disk before after cursor later answer
+
+-- The next instalment of a cursor that passed the checks: it is of this generation and read to the end.
+pub record AdvancesChecked {M L : Type 0} (disk : M → Disk) (before after : RecorderState M L) (was next : CursorValue)
+    (answer : Result ℕ Refusal) : Type 0 where
+  pub passed : OnOk answer (first_broken (mounted_checks (mode_of before.kept.work)) ≡ None)
+  pub refused : IfErr answer (RefusesCall disk (first_broken (mounted_checks (mode_of before.kept.work)))
+      (IsReadFileRefusal before.kept.work (disk before.medium).blocks was.file) before.kept after.kept before.medium after.medium)
+  -- of every machine that is represented, and whose cursor passed too, no check refuses it; or the refusal is a step
+  pub steps : (id : ℕ) (m : Machine) → KeptStandsFor before.kept (disk before.medium).blocks (disk before.medium).failures m
+      → was.file < length m.files → first_broken (advance_checks m.generation (cursor_of id m)) ≡ None
+      → MatchResult answer (λ n. machine_refusal before.kept.config m (events.Advance id) ≡ None)
+      (λ r. KeptStepsTaking none_taken before.kept m (events.Advance id) (replies.Refused r) after.kept (disk after.medium).blocks
+      (disk after.medium).failures)
+  -- of the machine's file it takes what comes next
+  pub takes : (m : Machine) (f : File) (n : ℕ)
+      → KeptStandsFor before.kept (disk before.medium).blocks (disk before.medium).failures m
+      → slice_get m.files was.file ≡ Some f → IsReadTo (disk before.medium).blocks f was.reading.covered n
+      → OnOk answer (TakesNext (disk before.medium).blocks f n was next)
+  -- whatever packets the medium shows of the file
+  pub advances : (packets : List Packet) → ShowsAt before.kept.work (disk before.medium).blocks was.file packets
+      → OnOk answer (AdvancesReading was.reading next.reading packets)
+  pub queued : IfOk answer (λ n. n ≡ length next.reading.queue)
+  -- where it is refused, the cursor stays
+  pub cursor : OnErr answer (next ≡ was)
+  pub place : (next.file ≡ was.file) × (next.generation ≡ was.generation)
+  pub there : OnOk answer (IsReadAt before.kept.work (disk before.medium).blocks was.file)
+  pub reads : OnlyReads disk before after answer
 
 -- A call that reads nothing of the medium and changes nothing, and answers with this reply.
 pub record OnlyTells {M L T : Type 0} (disk : M → Disk) (event : EventValue) (reply : T → ReplyValue) (now : RecorderState M L)

@@ -19,3 +19,4 @@ pub mod Own
 pub mod Standing
 pub mod Fronts
 pub mod Calls
+pub mod InnerCalls

@@ -9,7 +9,7 @@ returns-in-Err g c =
         passed = search rules;
         opened = search rules;
         refused = c.in-Err.ensures.refused [];
-        steps = search rules;
+        steps = λ m means. c.in-Err.ensures.steps _ m means;
         there = search rules;
         reads = search rules;
       };
