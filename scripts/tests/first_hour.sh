@@ -101,7 +101,8 @@ for path in sys.argv[1:]:
             sys.exit('%s:%d: %s' % (path, number, line.strip()))
 PY
 check "what a user runs is Python 3.7" python3 "$room/grammar.py" "$sources"/ch10/*.py \
-    "$sources"/scripts/{ch10,quick_build,build,rt_once,tour,play_cases,check_cases,judge_recording,manual}.py
+    "$sources"/scripts/{ch10,quick_build,build,rt_once,tour,play_cases,check_cases,as_filter,judge_recording,judge_image}.py \
+    "$sources"/scripts/{read_chapter10,manual}.py
 
 check "what Python keeps beside them is no change of the repository" grep -qx '__pycache__/' "$sources/.gitignore"
 
@@ -222,6 +223,43 @@ for command in summary csv "file FLT1"; do
         one_line "ch10 $command without standard input" 3 "standard input is closed"
     }
 done
+
+# Of a judge a status 1 is a judgement, and nothing else is one.
+for judge in judge_recording.py "judge_image.py files" read_chapter10.py; do
+    read -ra words <<<"$judge"
+    words[0]=$sources/scripts/${words[0]}
+    "${words[@]}" <"$room/medium.img" >/dev/full 2>"$room/errors"
+    status=$? errors=$(cat "$room/errors")
+    one_line "$judge onto a full disk" 3 "No space left on device"
+    "${words[@]}" <"$room/medium.img" >&- 2>"$room/errors"
+    status=$? errors=$(cat "$room/errors")
+    one_line "$judge without standard output" 3 "standard output is closed"
+    "${words[@]}" <&- >/dev/null 2>"$room/errors"
+    status=$? errors=$(cat "$room/errors")
+    one_line "$judge without standard input" 3 "standard input is closed"
+    mkfifo "$room/nothing"
+    # (a shell that is not one of a terminal has what runs beside it ignore an interrupt)
+    status=$(python3 - "${words[@]}" 3<>"$room/nothing" 2>"$room/errors" <<'PY'
+import fcntl, os, signal, subprocess, sys, termios, time
+signal.signal(signal.SIGINT, signal.SIG_DFL)
+child = subprocess.Popen(sys.argv[1:], stdin=3, stdout=subprocess.DEVNULL)
+os.write(3, b'%')
+while fcntl.ioctl(3, termios.FIONREAD, bytes(4)) != bytes(4) and child.poll() is None:
+    time.sleep(0.01)
+child.send_signal(signal.SIGINT)
+print(child.wait())
+PY
+)
+    check "$judge that is interrupted says nothing" is "$status $(cat "$room/errors")" "130 "
+    rm "$room/nothing"
+done
+for wrong in "play --file x" "play --file -1" "play --file" "play --chan 5" "mount x"; do
+    # shellcheck disable=SC2086
+    on "$room/medium.img" "$sources/scripts/judge_image.py" $wrong
+    one_line "judge_image.py $wrong" 2 "judge_image: "
+done
+on "$room/medium.img" "$sources/scripts/read_chapter10.py" --file 9
+one_line "read_chapter10.py of a file that is not there" 1 "the image has no file 9; it has 1"
 "$sources/scripts/tour.py" "$program" 2>"$room/errors" | head -n 1 >/dev/null
 check "a tour that nobody reads ends without a word" is "$(cat "$room/errors")" ""
 "$sources/scripts/tour.py" "$program" >/dev/full 2>"$room/errors"
