@@ -123,7 +123,8 @@ install -m 644 "$made/installed" "$share/r10/installed"
 if [ -f "$list" ]; then
     comm -23 "$list" "$made/installed" >"$made/gone"
 fi
-mkdir -p "$root$prefix" && cp -a --no-preserve=ownership "$whole$prefix/." "$root$prefix/" ||
+# (a file that is there is taken away first: a program that runs cannot be written to, and a library that one has mapped may not be)
+mkdir -p "$root$prefix" && cp -a --no-preserve=ownership --remove-destination "$whole$prefix/." "$root$prefix/" ||
     give_up 3 "not all could be written below $root$prefix: call it again, or with --uninstall"
 [ ! -s "$made/gone" ] || remove "$made/gone"
 if [ -z "$root" ] && [ "$(id -u)" = 0 ] && command -v ldconfig >/dev/null; then
