@@ -147,7 +147,23 @@ static bool is_made_once(const char *path) {
     return true;
 }
 
+/* Whether a make leaves such a file as it is, where its own file was to be. */
+static bool is_left(const char *path, const char *fresh, const void *bytes, size_t length) {
+    static uint8_t found[2048];
+    FILE *file = fopen(fresh, "wb");
+    fwrite(bytes, 1, length, file);
+    fclose(file);
+    int answer = r10_disk_make(path, BLOCKS, ROOM, script, strlen(script)), why = errno;
+    file = fopen(fresh, "rb");
+    size_t there = file ? fread(found, 1, sizeof found, file) : 0;
+    if (file)
+        fclose(file);
+    unlink(fresh);
+    return answer == -1 && why == EEXIST && there == length && memcmp(found, bytes, length) == 0 && access(path, F_OK) != 0;
+}
+
 int main(int count, char **words) {
+    static uint8_t medium[1024];
     size_t taken, left, files, before;
     r10_file_info info;
     uint8_t name[56];
@@ -164,6 +180,11 @@ int main(int count, char **words) {
     limit(RLIM_INFINITY);
     snprintf(path, sizeof path, "%s.new", words[1]);
     printf("neither leaves a file: %s\n", access(words[1], F_OK) != 0 && access(path, F_OK) != 0 ? "yes" : "no");
+    memcpy(medium + 512, "FORTYtwo\x0f\0\0\x01", 12);
+    printf("a file of another's stays: %s\n", is_left(words[1], path, "a note\n", 7) && is_left(words[1], path, medium, sizeof medium) ? "yes" : "no");
+    memset(medium, 0, sizeof medium);
+    printf("what an ended make left does not: %s\n", is_left(words[1], path, medium, 700) ? "no" : "yes");
+    unlink(words[1]);
     say("made", r10_disk_make(words[1], BLOCKS, ROOM, script, strlen(script)));
     printf("its name is made durable: %s\n", folders > 0 ? "yes" : "no");
     say("made where one is", r10_disk_make(words[1], BLOCKS, ROOM, script, strlen(script)));

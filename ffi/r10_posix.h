@@ -91,10 +91,12 @@ static inline int r10_disk_take(r10_disk *disk, int file, size_t blocks) {
     return 0;
 }
 
-/* Takes the file for this program alone, makes sure that what is read is on the disk, and maps it. -1 where that failed: EWOULDBLOCK where another program has
- * it, EINVAL where it has fewer blocks. */
+/* Takes the file or the block device for this program alone, makes sure that what is read is on the disk, and maps it. -1 where that failed: EWOULDBLOCK where
+ * another program has it, EBUSY of a block device that is mounted (or a partition of it is) or that another program has, EINVAL where it has fewer blocks. */
 static inline int r10_disk_open(r10_disk *disk, const char *path, size_t blocks) {
-    int file = open(path, O_RDWR | O_CLOEXEC);
+    struct stat found;
+    bool is_device = stat(path, &found) == 0 && S_ISBLK(found.st_mode);
+    int file = open(path, O_RDWR | O_CLOEXEC | (is_device ? O_EXCL : 0));
     return file < 0 ? -1 : r10_disk_take(disk, file, blocks);
 }
 
@@ -206,9 +208,22 @@ static inline int r10_disk_format(int file, size_t blocks, size_t room, const vo
     return answer;
 }
 
+/* Whether a file is what a make that was ended leaves, or nothing yet: zeros as far as the directory, which has no files. */
+static inline bool r10_disk_is_left_by_make(int file) {
+    struct stat found;
+    uint8_t front[1024], zeros[512];
+    memset(front, 0, sizeof front);
+    memset(zeros, 0, sizeof zeros);
+    if (fstat(file, &found) != 0 || !S_ISREG(found.st_mode) || pread(file, front, sizeof front, 0) < 0)
+        return false;
+    const uint8_t *directory = front + 512;
+    bool is_empty = memcmp(directory, "FORTYtwo", 8) == 0 && memcmp(directory + 10, zeros, 2) == 0 && memcmp(directory + 64, zeros, 448) == 0;
+    return memcmp(front, zeros, 512) == 0 && (is_empty || memcmp(directory, zeros, 512) == 0);
+}
+
 /* Makes a file of so many blocks, allocated whole and formatted by the script, under another name, and gives it its own only then. So a file of this name is
  * always whole. 0, or the number of a refusal, or -1 where the system failed: EEXIST where there is something of this name, which stays, and EWOULDBLOCK where
- * another program makes it. */
+ * another program makes it. The other name is this one with `.new` at its end: a file of that name stays too, unless a make that was ended left it (EEXIST). */
 static inline int r10_disk_make(const char *path, size_t blocks, size_t room, const void *script, size_t script_length) {
     char fresh[4096];
     struct stat found, named;
@@ -231,6 +246,10 @@ static inline int r10_disk_make(const char *path, size_t blocks, size_t room, co
         if (is_ours)
             unlink(fresh);
         errno = EWOULDBLOCK;
+        return r10_disk_drop(file, -1);
+    }
+    if (!r10_disk_is_left_by_make(file)) {
+        errno = EEXIST;
         return r10_disk_drop(file, -1);
     }
     int answer = r10_disk_format(file, blocks, room, script, script_length);

@@ -1,6 +1,6 @@
 //! Control over a UNIX socket, and over TCP where the settings say so: lines in, answers out. What the words mean is in `words`.
 use std::io::{self, BufRead, BufReader, ErrorKind, Read, Write};
-use std::net::{IpAddr, TcpListener, TcpStream};
+use std::net::{IpAddr, SocketAddr, TcpListener, TcpStream};
 use std::os::fd::AsRawFd;
 use std::os::unix::fs::FileTypeExt;
 use std::os::unix::net::{UnixListener, UnixStream};
@@ -14,9 +14,9 @@ use std::time::Duration;
 use nix::sys::socket::{setsockopt, sockopt};
 use nix::sys::stat::{Mode, umask};
 
-use crate::info;
 use crate::inputs::{AGAIN, Seldom};
 use crate::settings::Settings;
+use crate::{info, udp};
 
 /// Where a command came from: some are for the socket alone.
 #[derive(Clone, Copy, Debug, PartialEq, Eq)]
@@ -102,10 +102,12 @@ fn bind(path: &Path) -> io::Result<UnixListener> {
         if !found.file_type().is_socket() {
             return Err(io::Error::new(ErrorKind::AlreadyExists, "another file is there; give a path of its own"));
         }
-        if UnixStream::connect(path).is_ok() {
-            return Err(io::Error::new(ErrorKind::AddrInUse, "another service listens there"));
+        match UnixStream::connect(path) {
+            Ok(_) => return Err(io::Error::new(ErrorKind::AddrInUse, "another service listens there")),
+            // nobody listens on it any more
+            Err(error) if error.kind() == ErrorKind::ConnectionRefused => std::fs::remove_file(path)?,
+            Err(error) => return Err(error),
         }
-        std::fs::remove_file(path)?;
     }
     let before = umask(Mode::from_bits_truncate(0o117));
     let listener = UnixListener::bind(path);
@@ -135,10 +137,9 @@ pub fn start(settings: &Settings, asking: &Asking) -> io::Result<()> {
         }
     })?;
     let Some(address) = settings.tcp else { return Ok(()) };
-    let listener = TcpListener::bind(address)
-        .map_err(|it| io::Error::new(it.kind(), format!("control.tcp = \"{address}\": {it}; give a free port of this machine")))?;
     let (asking, peers) = (asking.clone(), settings.peers.clone());
-    thread::Builder::new().name("control tcp".to_string()).spawn(move || {
+    listen("control tcp", &format!("control.tcp = \"{address}\""), address, move |listener| {
+        info!("control: listens on TCP {address}");
         let (open, mut strangers) = (Arc::new(AtomicUsize::new(0)), Seldom::default());
         for stream in connected(listener.incoming()) {
             match stream.peer_addr() {
@@ -153,8 +154,26 @@ pub fn start(settings: &Settings, asking: &Asking) -> io::Result<()> {
                 Err(_) => (),
             }
         }
-    })?;
-    info!("control: listens on TCP {address}");
+    })
+}
+
+/// Listens on TCP in a thread of this name. An address that the machine does not have yet is waited for there: nothing is recorded
+/// later for want of it.
+pub fn listen(
+    name: &str,
+    what: &str,
+    address: SocketAddr,
+    serve: impl FnOnce(TcpListener) + Send + 'static,
+) -> io::Result<()> {
+    let listener = match TcpListener::bind(address) {
+        Ok(it) => Some(it),
+        Err(error) if udp::may_come(&error) => None,
+        Err(error) => return Err(io::Error::new(error.kind(), format!("{what}: {error}; give a free port of this machine"))),
+    };
+    let what = what.to_string();
+    thread::Builder::new()
+        .name(name.to_string())
+        .spawn(move || serve(listener.unwrap_or_else(|| udp::until_there(&what, || TcpListener::bind(address)))))?;
     Ok(())
 }
 

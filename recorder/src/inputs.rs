@@ -29,14 +29,23 @@ pub fn start(settings: &Settings, counter: Counter, came: &[Arc<Came>], owner: &
         match &channel.input {
             None => info!("channel {}: it has no input", channel.id),
             Some(Input::Udp { address, group, receive_mib }) => {
-                let socket = udp::open(*address, *group, *receive_mib).map_err(|it| {
-                    io::Error::new(
-                        it.kind(),
-                        format!("channel {}: UDP {address}: {it}; give an address of this machine and a free port", channel.id),
-                    )
-                })?;
+                let (address, group, receive_mib) = (*address, *group, *receive_mib);
+                let open = move || udp::open(address, group, receive_mib);
+                let what = format!("channel {}: UDP {address}", channel.id);
+                let socket = match open() {
+                    Ok(it) => Some(it),
+                    // the machine may have started just now: the other channels do not wait for this one's network
+                    Err(error) if udp::may_come(&error) => None,
+                    Err(error) => {
+                        let text = format!("{what}: {error}; give an address of this machine and a free port");
+                        return Err(io::Error::new(error.kind(), text));
+                    }
+                };
                 let (feed, channel) = (queue(&[place]), channel.clone());
-                thread::Builder::new().name(format!("udp {}", channel.id)).spawn(move || udp::run(socket, feed, &channel))?;
+                thread::Builder::new().name(format!("udp {}", channel.id)).spawn(move || {
+                    let socket = socket.unwrap_or_else(|| udp::until_there(&what, open));
+                    udp::run(socket, feed, &channel);
+                })?;
             }
             Some(Input::Serial { path, baud, end, length, pause }) => {
                 let framer = serial::Framer::new(*end, *length, pause.is_some());

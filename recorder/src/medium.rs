@@ -1,6 +1,6 @@
 //! The medium: a file, which is made and allocated where it is not there, or a block device. What the disk below it is like is
 //! looked at, and said.
-use std::fs::{self, File};
+use std::fs::{self, File, OpenOptions};
 use std::io;
 use std::ops::Range;
 use std::os::unix::fs::{FileExt, FileTypeExt, MetadataExt};
@@ -22,6 +22,9 @@ const GONE: Duration = Duration::from_secs(2);
 /// The bytes of a plain read.
 const PART: u64 = 1 << 20;
 
+/// The bytes in which tables of partitions and file systems have their marks, that of btrfs at 64 KiB as the last.
+const FRONT: usize = 128 << 10;
+
 /// The letters with which block 1 begins, if it is a directory's.
 const LETTERS: &[u8; 8] = b"FORTYtwo";
 
@@ -29,6 +32,11 @@ const LETTERS: &[u8; 8] = b"FORTYtwo";
 pub fn printed(name: &str) -> String {
     let is_right = |it: char| it.is_ascii_alphanumeric() || "._-".contains(it);
     name.trim_end_matches([' ', '\0']).chars().map(|it| if is_right(it) { it } else { '?' }).collect()
+}
+
+/// Whether there is a mark that the service made: an empty file.
+fn is_mark(path: &Path) -> bool {
+    path.symlink_metadata().is_ok_and(|it| it.is_file() && it.len() == 0)
 }
 
 pub struct Medium {
@@ -95,6 +103,10 @@ impl Medium {
                 "the medium {} is made by another program just now: end that one, or give this one a medium of its own",
                 self.name()
             )),
+            io::ErrorKind::InvalidData => Refusal::Wrong(format!(
+                "the medium {0} cannot be made: it is made under the name {0}.new, and there is another file of that name; move it away",
+                self.name()
+            )),
             _ => Refusal::Wrong(format!(
                 "the medium {} cannot be made with {} MiB: {error}; give a folder that is there, may be written and has the room, \
                  or fewer blocks",
@@ -121,13 +133,14 @@ impl Medium {
 
     /// Whether a recording was to go on. Of a loss of power between two files the medium itself says nothing.
     pub fn goes_on(&self) -> bool {
-        self.mark().is_some_and(|it| it.exists())
+        self.mark().is_some_and(|it| is_mark(&it))
     }
 
-    /// Keeps over a loss of power that a recording is to go on, or that it is not.
+    /// Keeps over a loss of power that a recording is to go on, or that it is not. A file that is no mark is somebody's, and stays.
     pub fn keep(&self, goes_on: bool) {
-        let Some(mark) = self.mark().filter(|it| it.exists() != goes_on) else { return };
-        let done = if goes_on { File::create(&mark).map(|_| ()) } else { fs::remove_file(&mark) };
+        let Some(mark) = self.mark().filter(|it| is_mark(it) != goes_on) else { return };
+        let made = || OpenOptions::new().write(true).create_new(true).open(&mark).map(|_| ());
+        let done = if goes_on { made() } else { fs::remove_file(&mark) };
         let folder = mark.parent().filter(|it| !it.as_os_str().is_empty()).unwrap_or(Path::new("."));
         if let Err(error) = done.and_then(|()| File::open(folder)?.sync_all()) {
             warning!("{}: {error}; a loss of power between two files may not be gone on from", mark.display());
@@ -147,6 +160,15 @@ impl Medium {
         if self.has_letters()? {
             return Err(self.does_not_fit());
         }
+        if self.has_others()? {
+            return Err(Refusal::Wrong(format!(
+                "the medium {} has something else in its first {} KiB, as a table of partitions or files: nothing is written over it; \
+                 if nobody wants it, wipe it first: `dd if=/dev/zero of=MEDIUM bs={}K count=1 conv=notrunc,fsync`",
+                self.name(),
+                FRONT >> 10,
+                FRONT >> 10
+            )));
+        }
         let region = recorder.close();
         let mut recorder = Recorder::format(region, ROOM, &self.script).map_err(|it| Refusal::Wrong(it.0.to_string()))?;
         recorder.settle().map_err(|it| Refusal::Failed(format!("the medium {} cannot be written: {it}", self.name())))
@@ -159,6 +181,15 @@ impl Medium {
             .and_then(|file| file.read_exact_at(&mut front, 512))
             .map_err(|it| Refusal::Failed(format!("the medium {} cannot be read: {it}", self.name())))?;
         Ok(&front == LETTERS)
+    }
+
+    /// Whether its front has anything but zeros: a new medium has not, and whatever else a disk may be for has its own marks there.
+    fn has_others(&self) -> Result<bool, Refusal> {
+        let mut front = vec![0; FRONT.min(self.blocks * 512)];
+        File::open(&self.path)
+            .and_then(|file| file.read_exact_at(&mut front, 0))
+            .map_err(|it| Refusal::Failed(format!("the medium {} cannot be read: {it}", self.name())))?;
+        Ok(front.iter().any(|it| *it != 0))
     }
 
     /// A directory that a mount refuses may list recordings: nothing here writes over it.
@@ -211,13 +242,18 @@ impl Medium {
         let start = Instant::now();
         let mut opened = Disk::open(&self.path, self.blocks);
         // one that was killed just now has it until the system has cleared it away
-        while opened.as_ref().is_err_and(|error| error.kind() == io::ErrorKind::WouldBlock) && start.elapsed() < GONE {
+        let is_taken = |it: &io::Error| matches!(it.kind(), io::ErrorKind::WouldBlock | io::ErrorKind::ResourceBusy);
+        while opened.as_ref().is_err_and(is_taken) && start.elapsed() < GONE {
             std::thread::sleep(Duration::from_millis(20));
             opened = Disk::open(&self.path, self.blocks);
         }
         opened.map_err(|error| match error.kind() {
             io::ErrorKind::WouldBlock => Refusal::Taken(format!(
                 "the medium {} is used by another program: end that one, or give this one a medium of its own",
+                self.name()
+            )),
+            io::ErrorKind::ResourceBusy => Refusal::Taken(format!(
+                "the medium {} is in use: it or a partition of it is mounted, or another program has it; unmount it, or end that one",
                 self.name()
             )),
             io::ErrorKind::InvalidInput => Refusal::Wrong(format!(

@@ -1,36 +1,56 @@
 //! Metrics in the text form that Prometheus reads, at a local port.
 use std::fmt::Write as _;
 use std::io::{self, Read, Write};
-use std::net::{SocketAddr, TcpListener};
+use std::net::{SocketAddr, TcpStream};
+use std::sync::Arc;
+use std::sync::atomic::{AtomicUsize, Ordering::Relaxed};
 use std::thread;
 use std::time::Duration;
 
 use serde_json::Value;
 
-use crate::control::{Asking, Origin, Reply, connected};
+use crate::control::{self, Asking, Origin, Reply, connected};
 use crate::info;
 
+/// How many may ask at a time: one that connects and asks nothing has a place for two seconds.
+const MOST: usize = 16;
+
 pub fn start(address: SocketAddr, asking: Asking) -> io::Result<()> {
-    let listener = TcpListener::bind(address)
-        .map_err(|it| io::Error::new(it.kind(), format!("metrics = \"{address}\": {it}; give a free port of this machine")))?;
-    thread::Builder::new().name("metrics".to_string()).spawn(move || {
-        for mut stream in connected(listener.incoming()) {
-            let wait = Some(Duration::from_secs(2));
-            let _ = stream.set_read_timeout(wait).and_then(|()| stream.set_write_timeout(wait));
-            // whatever is asked, the answer is the same: so the request is read, as far as it fits, and not looked at
-            let mut request = [0; 4096];
-            let _ = stream.read(&mut request);
-            let text = match asking.ask(".FIGURES", Origin::Metrics) {
-                Some(Reply::Text(text)) => serde_json::from_str(&text).map(|it| of(&it)).unwrap_or_default(),
-                _ => String::new(),
-            };
-            let head =
-                format!("HTTP/1.0 200 OK\r\nContent-Type: text/plain; version=0.0.4\r\nContent-Length: {}\r\n\r\n", text.len());
-            let _ = stream.write_all(head.as_bytes()).and_then(|()| stream.write_all(text.as_bytes()));
+    control::listen("metrics", &format!("metrics = \"{address}\""), address, move |listener| {
+        info!("metrics: at http://{address}/metrics");
+        let open = Arc::new(AtomicUsize::new(0));
+        for stream in connected(listener.incoming()) {
+            // (where there are too many, or no thread can be had, the connection ends)
+            if open.fetch_add(1, Relaxed) >= MOST {
+                open.fetch_sub(1, Relaxed);
+                continue;
+            }
+            let (asking, counted) = (asking.clone(), open.clone());
+            let started = thread::Builder::new().name("metrics client".to_string()).spawn(move || {
+                let _ = answer(stream, &asking);
+                counted.fetch_sub(1, Relaxed);
+            });
+            if started.is_err() {
+                open.fetch_sub(1, Relaxed);
+            }
         }
-    })?;
-    info!("metrics: at http://{address}/metrics");
-    Ok(())
+    })
+}
+
+/// Whatever is asked, the answer is the same: so the request is read, as far as it comes at once and fits, and not looked at.
+fn answer(mut stream: TcpStream, asking: &Asking) -> io::Result<()> {
+    let wait = Some(Duration::from_secs(2));
+    stream.set_read_timeout(wait)?;
+    stream.set_write_timeout(wait)?;
+    if stream.read(&mut [0; 4096])? == 0 {
+        return Ok(());
+    }
+    let text = match asking.ask(".FIGURES", Origin::Metrics) {
+        Some(Reply::Text(text)) => serde_json::from_str(&text).map(|it| of(&it)).unwrap_or_default(),
+        _ => String::new(),
+    };
+    let head = format!("HTTP/1.0 200 OK\r\nContent-Type: text/plain; version=0.0.4\r\nContent-Length: {}\r\n\r\n", text.len());
+    stream.write_all(format!("{head}{text}").as_bytes())
 }
 
 const WHOLE: [(&str, &str, &str, &str); 9] = [

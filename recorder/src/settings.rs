@@ -9,6 +9,8 @@ use std::time::Duration;
 use serde::Deserialize;
 use toml::Spanned;
 
+use crate::udp;
+
 /// The kinds of channels, as a script names them.
 #[derive(Clone, Copy, Debug, PartialEq, Eq)]
 pub enum Kind {
@@ -23,9 +25,10 @@ impl Channel {
     /// Whether its socket hears what is sent to this address of this machine.
     pub fn hears(&self, to: SocketAddr) -> bool {
         match &self.input {
-            Some(Input::Udp { address, group, .. }) => {
-                let is_here = to.ip() == address.ip() || to.ip().is_loopback() || to.ip().is_unspecified();
-                address.port() == to.port() && (*group == Some(to.ip()) || has(address.ip(), to.ip()) && is_here)
+            // (a group is one address of many machines: its socket may have no other)
+            Some(Input::Udp { address, group, .. }) if address.port() == to.port() => {
+                let is_here = || to.ip() == address.ip() || to.ip().is_unspecified() || udp::comes_here(to.ip());
+                *group == Some(to.ip()) || !to.ip().is_multicast() && has(address.ip(), to.ip()) && is_here()
             }
             _ => false,
         }

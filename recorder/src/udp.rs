@@ -8,10 +8,38 @@ use nix::errno::Errno;
 use nix::sys::socket::{ControlMessageOwned, MsgFlags, SockaddrStorage, recvmsg, setsockopt, sockopt};
 
 use crate::feed::Feed;
-use crate::info;
-use crate::inputs::{Seldom, message_of};
+use crate::inputs::{AGAIN, Seldom, message_of};
 use crate::settings::Channel;
+use crate::{info, warning};
 use std::time::Duration;
+
+/// Whether an address may be this machine's a little later: its network is not up yet, as when the machine has just started.
+pub fn may_come(error: &io::Error) -> bool {
+    matches!(error.raw_os_error().map(Errno::from_i32), Some(Errno::EADDRNOTAVAIL | Errno::ENODEV | Errno::ENETUNREACH))
+}
+
+/// Tries until the machine has the address, and says once that it waits. What else goes wrong meanwhile is said once too, and tried
+/// again: the rest of the service records on.
+pub fn until_there<T>(what: &str, mut open: impl FnMut() -> io::Result<T>) -> T {
+    let mut said = None;
+    loop {
+        match open() {
+            Ok(it) => {
+                if said.is_some() {
+                    info!("{what}: the address is there now");
+                }
+                return it;
+            }
+            Err(error) => {
+                if said != error.raw_os_error() || said.is_none() {
+                    warning!("{what}: {error}; it is tried again until the machine has this address");
+                    said = Some(error.raw_os_error().unwrap_or(0));
+                }
+                std::thread::sleep(AGAIN);
+            }
+        }
+    }
+}
 
 /// Opens the socket, with so many MiB for what the system holds. An unprivileged user gets as much as net.core.rmem_max says.
 pub fn open(address: SocketAddr, group: Option<IpAddr>, receive_mib: u64) -> io::Result<UdpSocket> {
@@ -113,7 +141,15 @@ pub fn sender(to: SocketAddr) -> io::Result<UdpSocket> {
     let from: IpAddr = if to.is_ipv4() { Ipv4Addr::UNSPECIFIED.into() } else { Ipv6Addr::UNSPECIFIED.into() };
     let socket = UdpSocket::bind((from, 0))?;
     socket.set_nonblocking(true)?;
+    // an address may be that of all on a network
+    socket.set_broadcast(true)?;
     Ok(socket)
+}
+
+/// Whether what is sent to this address comes to this machine: it is one of its own, or that of all on one of its networks. The
+/// system lets a socket have these addresses alone.
+pub fn comes_here(to: IpAddr) -> bool {
+    to == IpAddr::V4(Ipv4Addr::BROADCAST) || UdpSocket::bind((to, 0)).is_ok()
 }
 
 #[cfg(test)]

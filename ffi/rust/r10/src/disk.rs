@@ -3,7 +3,7 @@ use std::ffi::{c_int, c_void};
 use std::fs::{File, Metadata, OpenOptions, TryLockError};
 use std::io::{self, Seek, SeekFrom};
 use std::os::fd::AsRawFd;
-use std::os::unix::fs::{FileExt, MetadataExt};
+use std::os::unix::fs::{FileExt, FileTypeExt, MetadataExt, OpenOptionsExt};
 use std::path::Path;
 
 use crate::Recorder;
@@ -14,6 +14,7 @@ const MAP_PRIVATE: c_int = 2;
 const MAP_NORESERVE: c_int = 0x4000;
 const MADV_DONTNEED: c_int = 4;
 const POSIX_FADV_DONTNEED: c_int = 4;
+const O_EXCL: c_int = 0o200;
 
 unsafe extern "C" {
     fn mmap(at: *mut c_void, length: usize, access: c_int, how: c_int, file: c_int, offset: i64) -> *mut c_void;
@@ -43,10 +44,16 @@ pub struct Disk {
 unsafe impl Send for Disk {}
 
 impl Disk {
-    /// Takes a file of at least so many blocks for this program alone, makes sure that what is read is on the disk, and maps it. `WouldBlock` where another program
-    /// has it.
+    /// Takes a file or a block device of at least so many blocks for this program alone, makes sure that what is read is on the disk, and maps it. `WouldBlock` where
+    /// another program has it; `ResourceBusy` of a block device that is mounted, or that another program has.
     pub fn open(path: impl AsRef<Path>, blocks: usize) -> io::Result<Disk> {
-        Disk::take(OpenOptions::new().read(true).write(true).open(path)?, blocks)
+        let path = path.as_ref();
+        let mut how = OpenOptions::new();
+        // A block device that is mounted, or a partition of which is, is refused by the system: `ResourceBusy`.
+        if std::fs::metadata(path)?.file_type().is_block_device() {
+            how.custom_flags(O_EXCL);
+        }
+        Disk::take(how.read(true).write(true).open(path)?, blocks)
     }
 
     fn take(mut file: File, blocks: usize) -> io::Result<Disk> {
@@ -66,7 +73,8 @@ impl Disk {
     }
 
     /// Makes a file of so many blocks, allocated whole and formatted by the script, under another name, and gives it its own only then. What is there already
-    /// stays: `AlreadyExists`; so does what another program makes just now: `WouldBlock`. A call that failed leaves no file.
+    /// stays: `AlreadyExists`; so does what another program makes just now: `WouldBlock`. A file of the other name, with `.new` at its end, stays too, unless a make
+    /// that was ended left it: `InvalidData`. A call that failed leaves no file.
     pub fn make(path: impl AsRef<Path>, blocks: usize, script: &str) -> io::Result<()> {
         let path = path.as_ref();
         if path.symlink_metadata().is_ok() {
@@ -77,6 +85,9 @@ impl Disk {
         let file = OpenOptions::new().read(true).write(true).create(true).truncate(false).open(&fresh)?;
         lock(&file)?;
         let is_ours = is_at(&file, Path::new(&fresh));
+        if is_ours && !is_left_by_make(&file)? {
+            return Err(io::Error::new(io::ErrorKind::InvalidData, "a file with .new at the end of its name is there, which no make has left"));
+        }
         let made = if is_ours && path.symlink_metadata().is_err() {
             Disk::make_in(file.try_clone()?, blocks, script).and_then(|()| std::fs::rename(&fresh, path))
         } else {
@@ -109,6 +120,20 @@ fn lock(file: &File) -> io::Result<()> {
         TryLockError::Error(error) => error,
         TryLockError::WouldBlock => io::ErrorKind::WouldBlock.into(),
     })
+}
+
+/// Whether a file is what a make that was ended leaves, or nothing yet: zeros as far as the directory, which has no files.
+fn is_left_by_make(file: &File) -> io::Result<bool> {
+    if !file.metadata()?.is_file() {
+        return Ok(false);
+    }
+    let (mut front, mut count) = ([0; 1024], 0);
+    while let more @ 1.. = file.read_at(&mut front[count..], count as u64)? {
+        count += more;
+    }
+    let (zeros, directory) = front.split_at(512);
+    let is_empty = directory.starts_with(b"FORTYtwo") && directory[10..12] == [0, 0] && directory[64..].iter().all(|it| *it == 0);
+    Ok(zeros.iter().all(|it| *it == 0) && (is_empty || directory.iter().all(|it| *it == 0)))
 }
 
 /// Whether an open file is the one at this path.

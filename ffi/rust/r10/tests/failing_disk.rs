@@ -51,6 +51,15 @@ fn nothing_is_done_after_a_failure() -> Result<(), Box<dyn std::error::Error>> {
     assert!(Disk::make(&path, 512, SCRIPT).is_err());
     limit_files(None);
     assert!(!path.exists() && !fresh.exists(), "what could not be made left a file");
+    // a file of another's at that name stays; what a make that was ended left does not
+    let mut medium = [0; 1024];
+    medium[512..524].copy_from_slice(b"FORTYtwo\x0f\0\0\x01");
+    for other in [&b"a note\n"[..], &medium] {
+        std::fs::write(&fresh, other)?;
+        assert_eq!(Disk::make(&path, 512, SCRIPT).err().map(|error| error.kind()), Some(ErrorKind::InvalidData));
+        assert!(std::fs::read(&fresh)? == other && !path.exists());
+    }
+    std::fs::write(&fresh, [0; 700])?;
     Disk::make(&path, 512, SCRIPT)?;
     assert_eq!(Disk::make(&path, 512, SCRIPT).err().map(|error| error.kind()), Some(ErrorKind::AlreadyExists));
 
