@@ -4,25 +4,35 @@ use std::fmt::Write as _;
 use std::fs::{File, OpenOptions};
 use std::io::{self, Write};
 use std::os::unix::fs::OpenOptionsExt;
-use std::path::Path;
+use std::path::{Path, PathBuf};
 
 use nix::fcntl::OFlag;
 
-use crate::warning;
+use crate::{info, warning};
 
 pub struct Acknowledge {
+    path: PathBuf,
     to: Option<File>,
     lines: String,
 }
 
 impl Acknowledge {
     pub fn open(path: &Path) -> io::Result<Acknowledge> {
-        // a pipe or a terminal that nobody reads is not waited for
-        let to =
-            OpenOptions::new().append(true).create(true).custom_flags(OFlag::O_NONBLOCK.bits()).open(path).map_err(|it| {
-                io::Error::new(it.kind(), format!("acknowledge = {path:?}: {it}; give a file that may be written"))
-            })?;
-        Ok(Acknowledge { to: Some(to), lines: String::new() })
+        let to = open(path).map_err(|it| {
+            io::Error::new(it.kind(), format!("acknowledge = {path:?}: {it}; give a file that may be written"))
+        })?;
+        Ok(Acknowledge { path: path.to_path_buf(), to: Some(to), lines: String::new() })
+    }
+
+    /// A file of the recording begins: where writing failed it is tried again. A line that was cut short then gets an end.
+    pub fn begin(&mut self) {
+        if self.to.is_none()
+            && let Ok(mut to) = open(&self.path)
+            && to.write_all(b"\n").is_ok()
+        {
+            info!("what is durable is written down again");
+            self.to = Some(to);
+        }
     }
 
     /// So many messages of a channel are durable in the file of this number, from 0.
@@ -30,15 +40,53 @@ impl Acknowledge {
         let _ = writeln!(self.lines, "durable {file} {channel} {messages}");
     }
 
-    /// Writes the lines down. Where that fails once, it is not tried again: recording goes on.
+    /// Writes the lines down. Where that fails it is not tried again before the next file: recording goes on.
     pub fn flush(&mut self) {
         if let Some(to) = &mut self.to
             && !self.lines.is_empty()
             && let Err(error) = to.write_all(self.lines.as_bytes())
         {
-            warning!("what is durable cannot be written down any more: {error}");
+            warning!("what is durable cannot be written down: {error}; it is tried again with the next file");
             self.to = None;
         }
         self.lines.clear();
+    }
+}
+
+/// A pipe or a terminal that nobody reads is not waited for.
+fn open(path: &Path) -> io::Result<File> {
+    OpenOptions::new().append(true).create(true).custom_flags(OFlag::O_NONBLOCK.bits()).open(path)
+}
+
+#[cfg(test)]
+mod tests {
+    use super::*;
+    use std::io::Read;
+
+    /// A pipe that is full fails as a full disk does; once it is read there is room.
+    #[test]
+    fn what_failed_is_tried_again_with_the_next_file() {
+        let path = std::env::temp_dir().join(format!("r10d-acknowledge-{}", std::process::id()));
+        let _ = std::fs::remove_file(&path);
+        nix::unistd::mkfifo(&path, nix::sys::stat::Mode::S_IRWXU).unwrap();
+        let mut pipe = OpenOptions::new().read(true).write(true).custom_flags(OFlag::O_NONBLOCK.bits()).open(&path).unwrap();
+        let mut to = Acknowledge::open(&path).unwrap();
+        let mut count = 0;
+        while to.to.is_some() {
+            count += 1;
+            to.line(0, 5, count);
+            to.flush();
+        }
+        let mut text = Vec::new();
+        let _ = pipe.read_to_end(&mut text);
+        to.line(0, 5, count);
+        to.flush();
+        to.begin();
+        to.line(1, 5, 1);
+        to.flush();
+        let _ = pipe.read_to_end(&mut text);
+        std::fs::remove_file(&path).unwrap();
+        let text = String::from_utf8(text).unwrap();
+        assert!(text.ends_with(&format!("\ndurable 0 5 {}\n\ndurable 1 5 1\n", count - 1)), "{}", &text[text.len() - 200..]);
     }
 }

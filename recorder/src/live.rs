@@ -5,6 +5,7 @@
 use std::io;
 use std::net::{SocketAddr, UdpSocket};
 
+use crate::inputs::Seldom;
 use crate::udp;
 
 /// The bytes of a packet that go into one datagram: with the headers they fit an Ethernet frame.
@@ -27,6 +28,7 @@ pub struct Live {
     pub datagrams: u64,
     /// datagrams that the system did not take
     pub dropped: u64,
+    seldom: Seldom,
 }
 
 impl Live {
@@ -80,7 +82,11 @@ impl Live {
                     to.sequence = (to.sequence + 1) & 0xff_ffff;
                     match to.socket.send_to(&datagram, to.address) {
                         Ok(_) => self.datagrams += 1,
-                        Err(_) => self.dropped += 1,
+                        Err(error) => {
+                            self.dropped += 1;
+                            let address = to.address;
+                            self.seldom.warn(|| format!("a datagram to {address} did not go out: {error}"));
+                        }
                     }
                 }
             }

@@ -67,14 +67,21 @@ fn queue() -> Option<&'static SyncSender<String>> {
 }
 
 fn write_down(from: &Receiver<String>) {
+    let mut is_cut = false;
     for mut line in from {
         let left_out = LEFT_OUT.swap(0, SeqCst);
         if left_out > 0 {
-            let more = format!("{left_out} lines of the log were left out before this one: nobody read them\n");
+            let more = format!("{left_out} lines of the log were left out before this one: nobody read them, or they had no room\n");
             line.insert_str(0, &if is_journal() { format!("<4>{more}") } else { more });
         }
         // one write for a line, so that those of threads and of other programs do not mix
-        let _ = std::io::stderr().write_all(line.as_bytes());
+        if std::mem::take(&mut is_cut) {
+            line.insert(0, '\n');
+        }
+        if std::io::stderr().write_all(line.as_bytes()).is_err() {
+            LEFT_OUT.fetch_add(left_out + 1, SeqCst);
+            is_cut = true;
+        }
         WAITING.fetch_sub(1, SeqCst);
     }
 }

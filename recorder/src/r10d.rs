@@ -8,6 +8,7 @@ use std::sync::atomic::AtomicBool;
 use std::sync::mpsc::channel;
 
 use clap::Parser;
+use nix::sys::signal::{SigSet, Signal};
 use r10_recorder::clock::Counter;
 use r10_recorder::control::{self, Asking};
 use r10_recorder::feed::Came;
@@ -105,6 +106,12 @@ fn ignores_hangups() -> bool {
 
 fn serve(settings: Settings) -> Result<bool, String> {
     watchdog::start();
+    // in the background of a terminal a read or a write there fails, or is done, and does not halt the recording; threads begin with
+    // what is blocked here
+    let mut of_terminal = SigSet::empty();
+    of_terminal.add(Signal::SIGTTIN);
+    of_terminal.add(Signal::SIGTTOU);
+    of_terminal.thread_block().map_err(|it| it.to_string())?;
     let ending = Arc::new(AtomicBool::new(false));
     let hangup = Some(SIGHUP).filter(|_| !ignores_hangups());
     for signal in [SIGTERM, SIGINT].into_iter().chain(hangup) {

@@ -145,6 +145,9 @@ impl Owner {
         let _ = sd_notify::notify(false, &[sd_notify::NotifyState::Status(&text)]);
         self.file = Some((files.len(), name));
         self.live.begin();
+        if let Some(to) = &mut self.acknowledge {
+            to.begin();
+        }
         self.state = State::Recording;
         self.began = Instant::now();
         self.has_news = true;

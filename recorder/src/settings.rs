@@ -207,6 +207,10 @@ pub const RATES: [u32; 13] = [1200, 2400, 4800, 9600, 19200, 38400, 57600, 11520
 
 /// Reads the text of a settings file. Paths that are not absolute are taken from the folder of the file.
 pub fn read(text: &str, folder: &Path) -> Result<Settings, Vec<Fault>> {
+    // each level is read one call deeper: a long row of brackets would use up the stack
+    if let Some(line) = line_too_deep(text) {
+        return Err(vec![Fault { line, text: "brackets or dots are nested too deep: settings have tables and lists of one level".to_string() }]);
+    }
     let document: Document = toml::from_str(text).map_err(|error| {
         let said = error.to_string();
         let said = said.rsplit_once(" at line").map_or(said.as_str(), |it| it.0);
@@ -226,6 +230,25 @@ pub fn read(text: &str, folder: &Path) -> Result<Settings, Vec<Fault>> {
     }
     reader.faults.sort_by_key(|it| it.line);
     if reader.faults.is_empty() { Ok(settings) } else { Err(reader.faults) }
+}
+
+/// The first line on which more brackets are open, or more dots stand, than any settings have. Those in texts count too.
+fn line_too_deep(text: &str) -> Option<usize> {
+    const MOST: usize = 500;
+    let mut open = 0usize;
+    let is_too_deep = |line: &str| {
+        let mut dots = 0;
+        line.bytes().any(|it| {
+            match it {
+                b'[' | b'{' => open += 1,
+                b']' | b'}' => open = open.saturating_sub(1),
+                b'.' => dots += 1,
+                _ => (),
+            }
+            open > MOST || dots > MOST
+        })
+    };
+    text.lines().position(is_too_deep).map(|it| it + 1)
 }
 
 /// Whether the library takes the settings of a script: of a region of one block it then says that this is another number of blocks.
@@ -636,6 +659,38 @@ input = { udp = \"127.0.0.1:20005\" }
         assert_eq!((it.medium, it.socket), (PathBuf::from("/f/m"), PathBuf::from("/f/c")));
         assert_eq!((it.commit, it.begin, it.channels.len()), (Duration::from_millis(100), Begin::Resume, 1));
         assert!(it.script.contains("blocks = 4096\ndirectory = 63\n"));
+    }
+
+    /// Each level is read one call deeper, and the stack has an end.
+    #[test]
+    fn what_is_nested_deep_is_refused_before_it_is_read() {
+        let rows = ["[".repeat(100_000), "{a=".repeat(100_000), "a.".repeat(100_000), "[\n".repeat(100_000)];
+        for row in rows {
+            for text in [format!("x = {row}"), format!("{GOOD}\n{row}"), format!("{GOOD}\n[{row}]")] {
+                let found = faults(&text);
+                assert!(found.len() == 1 && found[0].contains("nested too deep: settings have"), "{found:?}");
+            }
+        }
+        assert_eq!(faults(&format!("{GOOD}# {}\n", "[1. ".repeat(400))), [""; 0]);
+    }
+
+    /// What is sent to an address of this machine's own comes in where no address is given.
+    #[test]
+    fn what_goes_out_is_not_heard() {
+        let hears = |here: &str, to: &str| {
+            let text = GOOD.replace("127.0.0.1:20005", here);
+            read(&text, Path::new("/f")).unwrap().channels[0].hears(to.parse().unwrap())
+        };
+        assert!(hears("0.0.0.0:20005", "127.0.0.1:20005") && hears("0.0.0.0:20005", "255.255.255.255:20005"));
+        assert!(hears("[::]:20005", "127.0.0.1:20005") && hears("10.1.2.3:20005", "10.1.2.3:20005"));
+        assert!(!hears("0.0.0.0:20005", "127.0.0.1:20006") && !hears("10.1.2.3:20005", "127.0.0.1:20005"));
+        assert!(!hears("0.0.0.0:20005", "198.51.100.7:20005") && !hears("0.0.0.0:20005", "239.1.1.1:20005"));
+        // the address with which this machine would send to another one, where it has a network
+        let socket = std::net::UdpSocket::bind("0.0.0.0:0").unwrap();
+        if socket.connect("198.51.100.7:9").is_ok() {
+            let own = socket.local_addr().unwrap().ip();
+            assert!(hears("0.0.0.0:20005", &format!("{own}:20005")), "{own}");
+        }
     }
 
     #[test]

@@ -3,13 +3,31 @@ import fcntl
 import os
 import re
 import shlex
+import shutil
 import signal
 import socket
 import subprocess
+import sys
 import threading
+import time
 from typing import Optional
 
-from trying import HOST, LONG, Room, Service, channel, entries, files, load_numbers, must, settings, trial, udp_channels, until
+from trying import (
+    HOST,
+    LONG,
+    NotTried,
+    Room,
+    Service,
+    channel,
+    entries,
+    files,
+    load_numbers,
+    must,
+    settings,
+    trial,
+    udp_channels,
+    until,
+)
 
 # (fcntl has it from Python 3.10 on)
 F_SETPIPE_SZ = 1031
@@ -382,3 +400,131 @@ def a_flood(room: Room, count: int = 100_000) -> str:
     told = [number - before - 1 for (_, before, _), (_, number, _) in zip(found, found[1:])]
     must(told == [gap for _, _, gap in found[1:]], 'the file does not have the losses that lie between its messages')
     return f"{count} datagrams: {flooded['durable']} recorded, {flooded['lost']} counted as lost, {figures['memory_kib'] >> 10} MiB"
+
+
+@trial
+def what_goes_out_comes_not_in(room: Room) -> str:
+    """Packets that are sent to this machine's own address, or to all of its network, at a port of a channel would be recorded, sent
+    again and recorded again, until the medium is full."""
+    (port,) = room.ports(1)
+    text = f'[[channel]]\nid = 5\nkind = "message"\ninput = {{ udp = "0.0.0.0:{port}" }}\n'
+    service = Service(room, settings(text))
+    # (nothing is sent: this asks for the address with which it would be)
+    with socket.socket(socket.AF_INET, socket.SOCK_DGRAM) as it:
+        own = [HOST, '255.255.255.255']
+        try:
+            it.connect(('198.51.100.7', 9))
+            own.append(it.getsockname()[0])
+        except OSError:
+            pass
+    for address in own:
+        found = service.ask(f'.PUBLISH START {address} {port}')
+        must(found and found[0].startswith('E 01 ') and 'listens there' in found[0], f'{address}: {found}')
+    must(service.ask('.PUBLISH LIST') == [], 'it goes out all the same')
+    # to all of a network at another port it goes out: to this one machine, which hears it
+    with socket.socket(socket.AF_INET, socket.SOCK_DGRAM) as it:
+        it.settimeout(LONG)
+        it.bind(('127.255.255.255', 0))
+        must(service.ask(f'.PUBLISH START 127.255.255.255 {it.getsockname()[1]}') == [], 'it may not go out to all')
+        must(it.recv(2000)[:1] in (b'\x01', b'\x11'), 'what came is no datagram of format 1')
+    figures = service.figures()
+    must(figures['datagrams_out'] > 0 and figures['datagrams_dropped'] == 0, f'to all: {figures}')
+    service.end()
+    return f'{len(own)} addresses of its own'
+
+
+@trial
+def a_network_that_comes_later(room: Room) -> str:
+    """A machine that starts may have no address yet. What needs none is recorded meanwhile, and the rest once it is there."""
+    if os.geteuid() != 0 or not all(map(shutil.which, ('unshare', 'nsenter', 'ip'))):
+        raise NotTried('a network of its own wants root, unshare, nsenter and ip')
+    (port,) = room.ports(1)
+    here = '10.7.7.7'
+    text = channel(5, 'message', f'udp = "{here}:{port}"') + channel(6, 'message', 'lines = "pipe"')
+    text += channel(7, 'message', f'udp = "{here}:{port + 1}", group = "239.1.2.3"')
+    keys = {'metrics': f'{here}:{port}', 'control': f'tcp = "{here}:{port + 1}"\npeers = ["{here}"]'}
+    (room.folder / 'settings.toml').write_text(settings(text, **keys))
+    # (a network of its own has no addresses but those of the loop)
+    log = open(room.folder / 'log', 'wb')
+    command = ['unshare', '-n', 'sh', '-c', 'ip link set lo up && exec "$0" settings.toml', str(room.programs / 'r10d')]
+    child = room.start(command, cwd=room.folder, stderr=log)
+
+    def said(words: str) -> bool:
+        must(child.poll() is None, f"it ended: {(room.folder / 'log').read_text()}")
+        return words in (room.folder / 'log').read_text()
+
+    until(lambda: said('is ready'), 'it does not start without its addresses')
+    with open(room.folder / 'pipe', 'w') as pipe:
+        pipe.write('bytes = "41"\n')
+    service = Service.__new__(Service)
+    service.room, service.folder, service.child = room, room.folder, child
+    service.log_path, service.log_start = room.folder / 'log', 0
+    service.until(lambda it: it['channels'][1]['durable'] == 1, 'the channel that needs no address records nothing')
+    for what in ('channel 5: UDP', 'channel 7: UDP', 'control.tcp', 'metrics'):
+        until(lambda: said(what), f'{what} is not said to wait')
+    inside = ['nsenter', '-t', str(child.pid), '-n']
+    subprocess.run([*inside, 'ip', 'address', 'add', f'{here}/32', 'dev', 'lo'], check=True)
+    subprocess.run([*inside, 'ip', 'route', 'add', '224.0.0.0/4', 'dev', 'lo'], check=True)
+
+    def send() -> bool:
+        for at in (f'{here}/{port}', f'239.1.2.3/{port + 1}'):
+            subprocess.run([*inside, 'bash', '-c', f'echo -n hello > /dev/udp/{at}'], stderr=subprocess.DEVNULL)
+        return all(it['durable'] > 0 for it in service.figures()['channels'])
+
+    until(send, 'what has its address now records nothing')
+    for at, words in ((port, 'GET / HTTP/1.0\\r\\n\\r\\n'), (port + 1, '.STATUS\\n')):
+        script = f"exec 3<>/dev/tcp/{here}/{at} && printf '{words}' >&3 && head -c 3 <&3"
+        ran = until(lambda: subprocess.run([*inside, 'bash', '-c', script], capture_output=True).stdout, f'port {at} does not answer')
+        must(ran in (b'HTT', b'S 0'), f'port {at} answers {ran!r}')
+    service.end()
+    return 'a channel recorded before, two and both ports after'
+
+
+@trial
+def idle_peers_of_the_metrics(room: Room) -> str:
+    """Who connects to the metrics and asks nothing takes no answer away from who asks."""
+    (port,) = room.ports(1)
+    service = Service(room, settings(channel(5, 'message', 'lines = "pipe"'), metrics=f'{HOST}:{port}'))
+    idle = [socket.create_connection((HOST, port), LONG) for _ in range(10)]
+    start, longest = time.monotonic(), 0.0
+    for _ in range(5):
+        begin = time.monotonic()
+        with socket.create_connection((HOST, port), LONG) as it:
+            it.sendall(b'GET /metrics HTTP/1.0\r\n\r\n')
+            must(it.makefile('rb').read().startswith(b'HTTP/1.0 200 OK'), 'no answer')
+        longest = max(longest, time.monotonic() - begin)
+    # (ten one after another would be twenty seconds)
+    must(time.monotonic() - start < 15, f'five answers took {time.monotonic() - start:.1f} s')
+    for it in idle:
+        it.close()
+    service.end()
+    return f'ten idle ones, an answer within {longest:.2f} s'
+
+
+@trial
+def the_background_of_a_terminal(room: Room) -> str:
+    """With standard input as an input, a service in the background of a terminal is not halted when somebody types there."""
+    (room.folder / 'settings.toml').write_text(settings(channel(5, 'message', 'lines = "-"') + channel(6, 'message', 'lines = "pipe"')))
+    ours, theirs = os.openpty()
+    # the leader of a session has the terminal, and the service is a group in its background
+    leader = (
+        'import fcntl, os, subprocess, sys, termios; fcntl.ioctl(0, termios.TIOCSCTTY, 0); '
+        'sys.exit(subprocess.Popen(sys.argv[1:], preexec_fn=lambda: os.setpgid(0, 0), stderr=open("log", "wb")).wait() % 256)'
+    )
+    words = [sys.executable, '-c', leader, str(room.programs / 'r10d'), 'settings.toml']
+    child = room.start(words, cwd=room.folder, stdin=theirs, stdout=theirs, start_new_session=True)
+    os.close(theirs)
+    log = room.folder / 'log'
+    until(lambda: log.exists() and b'is ready' in log.read_bytes(), 'it does not start')
+    os.write(ours, b'bytes = "41"\n')
+    until(lambda: b'standard input cannot be read' in log.read_bytes(), 'it does not say so')
+    with open(room.folder / 'pipe', 'w') as pipe:
+        pipe.write('bytes = "42"\n')
+    service = Service.__new__(Service)
+    service.room, service.folder, service.child = room, room.folder, child
+    service.log_path, service.log_start = log, 0
+    service.until(lambda it: it['channels'][1]['durable'] == 1, 'nothing is recorded')
+    service.ask('.SHUTDOWN')
+    must(child.wait(LONG) == 0, f'status {child.returncode}')
+    os.close(ours)
+    return 'it records on'
