@@ -586,3 +586,77 @@ def block_devices(room: Room) -> str:
         room.clear()
         messages.append(on_a_device(room, sector))
     return f'sectors of 512 and of 4,096 bytes, {messages[0]} and {messages[1]} messages'
+
+
+def formats(room: Room) -> 'subprocess.CompletedProcess[str]':
+    words = [str(room.programs / 'r10d'), '--format', 'settings.toml']
+    return subprocess.run(words, cwd=room.folder, capture_output=True, text=True, timeout=LONG)
+
+
+@trial
+def what_is_not_the_recorders(room: Room) -> str:
+    """Files that are somebody's stay: one in place of the medium, and those beside it that have the names of what the service makes."""
+    medium, kept = room.folder / 'medium', b'a thesis, or a table of partitions\n' * 100
+    (room.folder / 'settings.toml').write_text(settings(channel(5, 'message', 'lines = "pipe"'), blocks=4096))
+    # where a mark of other data may stand: the table of partitions, ext4, btrfs
+    for at in (0, 512, 1080, (64 << 10) + 64):
+        text = bytearray(512 * 4096)
+        text[at : at + len(kept)] = kept
+        medium.write_bytes(text)
+        ran = formats(room)
+        must(ran.returncode == 3 and 'has something else in its first 128 KiB' in ran.stderr, f'--format over bytes at {at}: {ran}')
+        must(medium.read_bytes() == text, f'--format wrote over bytes at {at}')
+    medium.write_bytes(bytes(512 * 4096))
+    ran = formats(room)
+    must(ran.returncode == 0, f'--format of zeros: {ran}')
+    # what has the name under which a medium is made
+    medium.unlink()
+    (room.folder / 'medium.new').write_bytes(kept)
+    service = Service(room, wait=False)
+    must(service.child.wait(LONG) == 3 and 'there is another file of that name' in service.log(), f'{service.log()}')
+    must((room.folder / 'medium.new').read_bytes() == kept and not medium.exists(), 'a file medium.new is gone')
+    (room.folder / 'medium.new').rename(room.folder / 'medium.recording')
+    # what has the name of the mark: it is no mark, and stays
+    service = Service(room, settings(channel(5, 'message', 'lines = "pipe"'), blocks=4096, start='resume'))
+    must(service.ask('.STATUS')[0].startswith('S 01'), 'it records, and nothing was cut off')
+    service.ask('.RECORD')
+    service.ask('.STOP')
+    service.end()
+    must((room.folder / 'medium.recording').read_bytes() == kept, 'a file medium.recording is gone')
+    return 'nothing is written over'
+
+
+@trial
+def a_mounted_device(room: Room) -> str:
+    """A block device that is mounted, or a partition of it, is not recorded on, nor formatted; nor can one be mounted that is."""
+    if shutil.which('mkfs.ext4') is None:
+        raise NotTried('there is no mkfs.ext4')
+    loop = Loop(room, 16384, 512)
+    at = room.folder / 'mounted'
+    at.mkdir()
+    try:
+        subprocess.run(['mkfs.ext4', '-q', loop.device], check=True, stdout=subprocess.DEVNULL, stderr=subprocess.DEVNULL)
+        if subprocess.run(['mount', loop.device, str(at)], capture_output=True).returncode:
+            raise NotTried('nothing can be mounted here')
+        (room.folder / 'settings.toml').write_text(settings(channel(5, 'message', 'lines = "pipe"'), medium=loop.device, blocks=16384))
+        for words in ([], ['--format']):
+            command = [str(room.programs / 'r10d'), *words, 'settings.toml']
+            ran = subprocess.run(command, cwd=room.folder, capture_output=True, text=True, timeout=LONG)
+            must(ran.returncode == 3 and 'a partition of it is mounted' in ran.stderr, f'{words}: {ran}')
+        subprocess.run(['umount', str(at)], check=True)
+        ran = formats(room)
+        must(ran.returncode == 3 and 'has something else' in ran.stderr, f'--format over a file system: {ran}')
+        must(subprocess.run(['mount', loop.device, str(at)]).returncode == 0, 'the file system is gone')
+        subprocess.run(['umount', str(at)], check=True)
+        subprocess.run(['dd', 'if=/dev/zero', f'of={loop.device}', 'bs=128K', 'count=1', 'conv=notrunc,fsync'], check=True, stderr=subprocess.DEVNULL)
+        ran = formats(room)
+        must(ran.returncode == 0, f'--format of what was wiped: {ran}')
+        service = Service(room)
+        ran = subprocess.run(['mount', loop.device, str(at)], capture_output=True)
+        must(ran.returncode != 0, 'what is recorded on can be mounted')
+        service.end()
+    finally:
+        room.end_all()
+        subprocess.run(['umount', str(at)], capture_output=True)
+        loop.close()
+    return 'neither over the other'
