@@ -18,9 +18,8 @@ pub struct Acknowledge {
 
 impl Acknowledge {
     pub fn open(path: &Path) -> io::Result<Acknowledge> {
-        let to = open(path).map_err(|it| {
-            io::Error::new(it.kind(), format!("acknowledge = {path:?}: {it}; give a file that may be written"))
-        })?;
+        let to = open(path)
+            .map_err(|it| io::Error::new(it.kind(), format!("acknowledge = {path:?}: {it}; give a file that may be written")))?;
         Ok(Acknowledge { path: path.to_path_buf(), to: Some(to), lines: String::new() })
     }
 

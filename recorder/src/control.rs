@@ -159,12 +159,7 @@ pub fn start(settings: &Settings, asking: &Asking) -> io::Result<()> {
 
 /// Listens on TCP in a thread of this name. An address that the machine does not have yet is waited for there: nothing is recorded
 /// later for want of it.
-pub fn listen(
-    name: &str,
-    what: &str,
-    address: SocketAddr,
-    serve: impl FnOnce(TcpListener) + Send + 'static,
-) -> io::Result<()> {
+pub fn listen(name: &str, what: &str, address: SocketAddr, serve: impl FnOnce(TcpListener) + Send + 'static) -> io::Result<()> {
     let listener = match TcpListener::bind(address) {
         Ok(it) => Some(it),
         Err(error) if udp::may_come(&error) => None,

@@ -6,8 +6,10 @@ use std::sync::Arc;
 use std::sync::atomic::{AtomicU64, AtomicUsize, Ordering::Relaxed};
 use std::sync::mpsc::{Receiver, Sender, channel};
 use std::thread::Thread;
+use std::time::Duration;
 
 use crate::clock::Counter;
+use crate::inputs::AGAIN;
 
 /// What a message has besides its bytes.
 #[derive(Clone, Copy, Debug, PartialEq, Eq)]
@@ -98,14 +100,13 @@ impl Feed {
     /// A message came, and so many of its channel were lost before it. `channel` is its number among the feed's channels. Where
     /// there is no room it is lost too.
     pub fn message(&mut self, channel: usize, lost: u64, head: Head, bytes: &[u8]) {
-        let count = self.counter.count();
+        let (count, has_room) = (self.counter.count(), self.has_room(bytes.len()));
         let Some(it) = self.channels.get_mut(channel) else { return };
         it.came.messages.fetch_add(1, Relaxed);
         it.came.bytes.fetch_add(bytes.len() as u64, Relaxed);
         it.lost += lost;
         it.came.lost.fetch_add(lost, Relaxed);
-        let size = self.batch.size() + bytes.len() + size_of::<Item>();
-        if self.queued.load(Relaxed) + size > self.limit {
+        if !has_room {
             it.lost += 1;
             it.came.lost.fetch_add(1, Relaxed);
             return;
@@ -137,6 +138,32 @@ impl Feed {
         if let Some(it) = self.channels.get_mut(channel) {
             it.lost += count;
             it.came.lost.fetch_add(count, Relaxed);
+        }
+    }
+
+    fn has_room(&self, length: usize) -> bool {
+        self.queued.load(Relaxed) + self.batch.size() + length + size_of::<Item>() <= self.limit
+    }
+
+    /// Waits until a message of so many bytes has room: for an input that loses nothing by waiting.
+    pub fn wait_for_room(&mut self, length: usize) {
+        while !self.has_room(length) {
+            self.flush();
+            std::thread::sleep(Duration::from_millis(1));
+        }
+    }
+
+    /// Whether losses wait here, as the queue had no room for them.
+    pub fn has_losses(&self) -> bool {
+        self.channels.iter().any(|it| it.lost > 0)
+    }
+
+    /// The input has ended: what there is goes over, and with it the losses, for which no other message comes.
+    pub fn end(&mut self) {
+        self.flush();
+        while self.has_losses() {
+            std::thread::sleep(AGAIN);
+            self.flush();
         }
     }
 
@@ -207,6 +234,45 @@ mod tests {
         assert_eq!(next.items.iter().map(|it| it.lost).collect::<Vec<_>>(), [4, 0]);
         assert_eq!(next.bytes, b"nextone more");
         assert_eq!(came.lost.load(Relaxed), lost + 5);
+    }
+
+    /// An input that ends with a full queue has losses for which no other message comes: they are handed over once there is room.
+    #[test]
+    fn losses_at_the_end_of_an_input_are_handed_over() {
+        let (mut feed, outlet) = feed(std::thread::current(), Counter::new(), 1 << 12, &[(0, Arc::default())]);
+        for _ in 0..1000 {
+            feed.message(0, 0, HEAD, b"");
+            feed.flush();
+        }
+        assert!(feed.has_losses());
+        let thread = std::thread::spawn(move || feed.end());
+        let (mut messages, mut lost) = (0, 0);
+        while !thread.is_finished() || outlet.queued() > 0 {
+            if let Some(batch) = outlet.take() {
+                messages += batch.items.len() as u64;
+                lost += batch.items.iter().map(|it| it.lost).chain(batch.lost.iter().map(|it| it.1)).sum::<u64>();
+            }
+        }
+        assert!(messages > 0 && messages + lost == 1000, "{messages} messages, {lost} lost");
+    }
+
+    #[test]
+    fn an_input_that_waits_loses_nothing() {
+        let (mut feed, outlet) = feed(std::thread::current(), Counter::new(), 1 << 12, &[(0, Arc::default())]);
+        let thread = std::thread::spawn(move || {
+            for _ in 0..10_000 {
+                feed.wait_for_room(10);
+                feed.message(0, 0, HEAD, b"0123456789");
+            }
+            feed.end();
+        });
+        let (mut messages, mut most) = (0, 0);
+        while !thread.is_finished() || outlet.queued() > 0 {
+            most = most.max(outlet.queued());
+            messages += outlet.take().map_or(0, |it| it.items.len());
+        }
+        // (the room of a batch grows by doubling)
+        assert!(messages == 10_000 && most <= 2 << 12, "{messages} messages, {most} bytes");
     }
 
     /// Messages that come one by one are handed over one by one, and each takes more memory than its bytes.

@@ -71,7 +71,8 @@ fn write_down(from: &Receiver<String>) {
     for mut line in from {
         let left_out = LEFT_OUT.swap(0, SeqCst);
         if left_out > 0 {
-            let more = format!("{left_out} lines of the log were left out before this one: nobody read them, or they had no room\n");
+            let more =
+                format!("{left_out} lines of the log were left out before this one: nobody read them, or they had no room\n");
             line.insert_str(0, &if is_journal() { format!("<4>{more}") } else { more });
         }
         // one write for a line, so that those of threads and of other programs do not mix

@@ -37,17 +37,14 @@ fn open(path: &Path) -> io::Result<(File, bool)> {
     Ok((OpenOptions::new().read(true).write(is_pipe).open(path)?, is_pipe))
 }
 
-/// Waits until there is something to read. A pipe that has lost its name gets no more writers: once it is silent, it is given up.
-fn wait(file: &File, path: Option<&Path>) -> io::Result<()> {
-    loop {
-        match poll(&mut [PollFd::new(file.as_raw_fd(), PollFlags::POLLIN)], LOOK) {
-            Ok(0) if path.is_some_and(|it| !is_at(file, it)) => {
-                return Err(io::Error::new(io::ErrorKind::NotFound, "it was removed"));
-            }
-            Ok(0) | Err(Errno::EINTR) => (),
-            Ok(_) => return Ok(()),
-            Err(error) => return Err(error.into()),
-        }
+/// Waits until there is something to read, but not for long: whether there is. A pipe that has lost its name gets no more writers:
+/// once it is silent, it is given up.
+fn wait(file: &File, path: Option<&Path>) -> io::Result<bool> {
+    match poll(&mut [PollFd::new(file.as_raw_fd(), PollFlags::POLLIN)], LOOK) {
+        Ok(0) if path.is_some_and(|it| !is_at(file, it)) => Err(io::Error::new(io::ErrorKind::NotFound, "it was removed")),
+        Ok(0) | Err(Errno::EINTR) => Ok(false),
+        Ok(_) => Ok(true),
+        Err(error) => Err(error.into()),
     }
 }
 
@@ -73,14 +70,20 @@ pub fn run(path: Option<&Path>, mut feed: Feed, channels: &[Channel]) {
                 match ended {
                     Ok(()) if is_pipe => Err(io::ErrorKind::UnexpectedEof.into()),
                     // a file that was read in part is not read again: its lines would come twice
-                    Err(error) if !is_pipe => return warning!("{from} cannot be read to its end: {error}"),
+                    Err(error) if !is_pipe => {
+                        warning!("{from} cannot be read to its end: {error}");
+                        return feed.end();
+                    }
                     other => other,
                 }
             }
             Some(Err(error)) => Err(error),
         };
         match failed {
-            Ok(()) => return info!("{from} has ended: its channels get nothing more"),
+            Ok(()) => {
+                info!("{from} has ended: its channels get nothing more");
+                return feed.end();
+            }
             Err(error) if !was_said => {
                 warning!("{from} cannot be read: {error}; it is tried again until it can");
                 was_said = true;
@@ -95,13 +98,17 @@ pub fn run(path: Option<&Path>, mut feed: Feed, channels: &[Channel]) {
 fn read(mut from: BufReader<File>, at: Option<&Path>, name: &str, feed: &mut Feed, channels: &[Channel]) -> io::Result<()> {
     let only = if channels.len() == 1 { channels.first().map(|it| it.id) } else { None };
     let (mut line, mut number, mut bad) = (Vec::new(), 1u64, Seldom::default());
+    let is_file = from.get_ref().metadata().is_ok_and(|it| it.is_file());
     // whether what comes is the rest of a line that was too long
     let mut is_rest = false;
     loop {
         let found = read_line(&mut from, &mut line, |file| {
-            // what came goes over before the thread may wait
+            // what came goes over before the thread may wait; losses may have to wait for room first
             feed.flush();
-            wait(file, at)
+            while !wait(file, at)? {
+                feed.flush();
+            }
+            Ok(())
         })?;
         let Some(is_whole) = found else {
             feed.flush();
@@ -124,6 +131,10 @@ fn read(mut from: BufReader<File>, at: Option<&Path>, name: &str, feed: &mut Fee
         match text.and_then(|it| entries::read(it, only, kind_of)) {
             Ok(it) => {
                 let place = channels.iter().position(|channel| Some(channel.id) == it.channel).unwrap_or(0);
+                // a file stays where it is: it is read as fast as there is room
+                if is_file {
+                    feed.wait_for_room(it.bytes.len());
+                }
                 feed.message(place, 0, it.head, &it.bytes);
             }
             Err(why) => {

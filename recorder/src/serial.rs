@@ -15,6 +15,9 @@ use crate::inputs::{AGAIN, message_of};
 use crate::settings::Channel;
 use crate::{info, warning};
 
+/// How long a line is silent before losses are handed over again, in milliseconds.
+const LOOK: i32 = 1000;
+
 /// Where messages end in a stream of bytes.
 pub struct Framer {
     end: Option<u8>,
@@ -123,12 +126,15 @@ fn read(mut file: File, framer: &mut Framer, pause: Option<Duration>, feed: &mut
             Err(error) if error.kind() == io::ErrorKind::Interrupted => (),
             Err(error) if error.kind() == io::ErrorKind::WouldBlock => {
                 feed.flush();
+                let is_pause = framer.has_pause && !framer.bytes.is_empty();
                 let wait = match pause {
-                    Some(it) if framer.has_pause && !framer.bytes.is_empty() => it.as_millis() as i32,
+                    Some(it) if is_pause => it.as_millis() as i32,
+                    // (losses wait for room in the queue)
+                    _ if feed.has_losses() => LOOK,
                     _ => -1,
                 };
                 match poll(&mut [PollFd::new(file.as_raw_fd(), PollFlags::POLLIN)], wait) {
-                    Ok(0) => {
+                    Ok(0) if is_pause => {
                         framer.pause(|bytes| give(feed, channel, bytes));
                         feed.flush();
                     }

@@ -209,7 +209,10 @@ pub const RATES: [u32; 13] = [1200, 2400, 4800, 9600, 19200, 38400, 57600, 11520
 pub fn read(text: &str, folder: &Path) -> Result<Settings, Vec<Fault>> {
     // each level is read one call deeper: a long row of brackets would use up the stack
     if let Some(line) = line_too_deep(text) {
-        return Err(vec![Fault { line, text: "brackets or dots are nested too deep: settings have tables and lists of one level".to_string() }]);
+        return Err(vec![Fault {
+            line,
+            text: "brackets or dots are nested too deep: settings have tables and lists of one level".to_string(),
+        }]);
     }
     let document: Document = toml::from_str(text).map_err(|error| {
         let said = error.to_string();

@@ -427,3 +427,24 @@ def wrong_input_does_nothing(room: Room) -> str:
     for number in range(len(files((room.folder / 'medium').read_bytes()))):
         entries((room.folder / 'medium').read_bytes(), number)
     return '150 connections, 300 datagrams, 150 lines'
+
+
+@trial
+def files_and_floods_of_lines(room: Room) -> str:
+    """A file of lines is read as fast as there is room, and loses nothing. Of a pipe that ends in a flood all lines are recorded or
+    counted, also those for which no other line comes."""
+    count, queue = 100_000, 'queue_mib = 1\n'
+    (room.folder / 'file').write_text(''.join(f'bytes = "{number:08x}"\n' for number in range(count)))
+    text = channel(5, 'message', 'lines = "file"', queue) + channel(6, 'message', 'lines = "-"', queue)
+    with open(room.folder / 'file', 'rb') as lines:
+        flood = subprocess.Popen(['cat'], stdin=lines, stdout=subprocess.PIPE)
+    service = Service(room, settings(text, commit_ms=100), disk={'slow': 100_000}, stdin=flood.stdout)
+    figures = service.until(
+        lambda it: all(it['channels'][place]['durable'] + it['channels'][place]['lost'] == count for place in (0, 1)),
+        'what came is neither recorded nor counted',
+    )
+    flood.wait()
+    file, pipe = figures['channels']
+    must(file['lost'] == 0, f"of a file {file['lost']} lines are lost")
+    service.end()
+    return f"of {2 * count} lines {pipe['lost']} are lost, of the pipe"
