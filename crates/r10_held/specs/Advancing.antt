@@ -1,5 +1,5 @@
 -- How a player takes its next instalment.
-use Rattle.std.specs.Prelude.{◌≡◌, ℕ, ◌<◌, ◌≤◌, List, [], length, Result, Err, IfErr, OnOk}
+use Rattle.std.specs.Prelude.{◌≡◌, ℕ, ◌<◌, ◌≤◌, List, [], length, Result, Err, IfErr, IfOk, OnErr, OnOk}
 use mathlib.Core.List.{IsPrefix}
 use Rattle.r10_body.specs.Packets.{Packet}
 use Rattle.r10_body.specs.declared.refusal.Glance.{Glance}
@@ -13,6 +13,7 @@ use Rattle.r10_held.specs.LockFact.{LockFact}
 use Rattle.r10_held.specs.Naming.{ChannelRing}
 use Rattle.r10_held.specs.Publishing.{StaysPublished}
 use Rattle.r10_held.specs.State.{HeldState}
+use Rattle.r10_held.specs.declared.player.Player.{Player}
 use Rattle.r10_medium.specs.Disk.{Disk}
 
 -- a refusal is After only where this is so
@@ -46,3 +47,15 @@ pub record TakesInstalment (old new : Cursor) (n : ℕ) : Type 0 where
   pub advances : AdvancesReading old.reading new.reading packets
   pub place : (new.file ≡ old.file) × (new.generation ≡ old.generation)
   pub length_is : n ≡ length new.reading.queue
+
+-- A player's advance. What was seen before is a beginning of what is seen then; the cursor takes its next instalment, or stays.
+pub record AdvancesPlayer {M : Type 0} (disk : M → Disk) (rings : List ChannelRing) (before after : Player) (result : Result ℕ Refusal)
+    : Type 0 where
+  pub same : after.pass.cell ≡ before.pass.cell
+  pub seen : IsPrefix before.pass.seen after.pass.seen
+  pub advances : AdvancesUnderLock disk rings after.pass before.cursor after.cursor result
+  -- it is never refused as After
+  pub ahead : (seen : Glance) → result ≡ Err (Behind seen) → ⊥
+  pub takes : IfOk result (λ n. TakesInstalment before.cursor after.cursor n)
+  -- where it is refused, the cursor stays
+  pub cursor : OnErr result (after.cursor ≡ before.cursor)

@@ -1,13 +1,11 @@
 //! A reader beside a recorder under a lock.
 
-ghost use Rattle.std.specs.Prelude.{◌≡◌, ◌<◌, ◌≤◌, [], length, drop, slice_get, Err, IfErr, IfOk, OnErr, OnOk};
-ghost use mathlib.Core.List.{IsPrefix};
-ghost use Rattle.r10_body.specs.declared.refusal.Glance.{Glance as GlanceValue};
+ghost use Rattle.std.specs.Prelude.{◌≡◌, ◌<◌, ◌≤◌, [], drop, slice_get, Err, IfErr, OnOk};
 ghost use Rattle.r10_body.specs.declared.refusal.Refusal.TheVariants as refusals;
 ghost use Rattle.r10_gauge.specs.Published.{commits_of, last_triple};
 ghost use Rattle.r10_held.specs.Publishing.{StaysPublished};
 ghost use Rattle.r10_control.specs.Calls.{AdvancesRecorder};
-ghost use Rattle.r10_held.specs.Advancing.{AdvancesUnderLock, SaysBehind, TakesInstalment};
+ghost use Rattle.r10_held.specs.Advancing.{AdvancesPlayer, SaysBehind};
 
 use crate::cabinet::Cabinet;
 use crate::held::Held;
@@ -68,12 +66,7 @@ impl Player {
         cabinet: &Cabinet<M, N>,
     ) -> Result<usize, Refusal>
         requires { self.old.pass.cell ≡ cabinet.now }
-        ensures same { self.new.pass.cell ≡ self.old.pass.cell }
-        ensures seen { IsPrefix self.old.pass.seen self.new.pass.seen }
-        ensures advances { AdvancesUnderLock M.disk N.rings self.new.pass self.old.cursor self.new.cursor result }
-        ensures ahead { (seen : GlanceValue) → result ≡ Err (refusals.Behind seen) → ⊥ }
-        ensures takes { IfOk result (λ n. TakesInstalment self.old.cursor self.new.cursor n) }
-        ensures cursor { OnErr result (self.new.cursor ≡ self.old.cursor) }
+        ensures { AdvancesPlayer M.disk N.rings self.old self.new result }
     {
         let _seen = cabinet.glance(rt, &mut self.pass);
         cabinet.is_named();
