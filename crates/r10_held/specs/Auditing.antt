@@ -1,15 +1,21 @@
 -- When an audit is refused, and how it goes through instalments.
-use Rattle.std.specs.Prelude.{◌≡◌, ◌⊎◌, ℕ, ◌≤◌, Bool, List, [], ◌∷◌, ◌++◌, length, Option, None}
+use Rattle.std.specs.Prelude.{◌≡◌, ◌⊎◌, ◌↔◌, ℕ, ◌≤◌, Bool, List, [], ◌∷◌, ◌++◌, length, Option, None}
+use Rattle.std.specs.Prelude.{Result, IfErr, IfOk, IsTrue, OnOk}
 use Rattle.r10_body.specs.Packets.{Packet}
 use Rattle.r10_body.specs.declared.refusal.Refusal.{Refusal}
 use Rattle.r10_body.specs.declared.refusal.Refusal.TheVariants.{Failed, NotMounted, NoSuchFile, BadFile}
-use Rattle.r10_control.specs.Checks.{files_of}
-use Rattle.r10_control.specs.Reading.{IsReadAt, IsReadFileRefusal}
+use Rattle.r10_control.specs.Checks.{files_of, recorder_refusal}
+use Rattle.r10_control.specs.Reading.{IsReadAt, IsReadFileRefusal, OnlyReads, ShowsAt}
+use Rattle.r10_control.specs.Refused.{RefusesCall}
+use Rattle.r10_control.specs.State.{RecorderState}
 use Rattle.r10_count.specs.Checks.{first_broken}
+use Rattle.r10_count.specs.Count.{IsCount}
+use Rattle.r10_cursor.specs.Standing.{fresh_slot}
 use Rattle.r10_cursor.specs.declared.cursor.Cursor.{Cursor}
 use Rattle.r10_machine.specs.Checks.{is_working, mounted_checks}
+use Rattle.r10_machine.specs.declared.event.Event.TheVariants as events
 use Rattle.r10_refinement.specs.Kept.{Kept, Work, mode_of}
-use Rattle.r10_medium.specs.Disk.{Image}
+use Rattle.r10_medium.specs.Disk.{Disk, Image}
 use Rattle.r10_held.specs.Transcripts.{Agrees, AllAgree, IsPart}
 use Rattle.r10_held.specs.declared.transcript.Instalment.{Instalment}
 use Rattle.r10_held.specs.declared.transcript.Transcript.{Transcript}
@@ -71,3 +77,32 @@ pub record IsNext (packets : List Packet) (channels : List ℕ) (first last at :
 abbrev pub GoOn : List Packet → List ℕ → ℕ → ℕ → ℕ → List Instalment → Type 0
 GoOn packets channels first last at [] = Unit {0}
 GoOn packets channels first last at (i ∷ instalments) = IsNext packets channels first last at i × GoOn packets channels first last i.to instalments
+
+-- ---- the calls of an audit
+
+-- A cursor is opened again on a transcript's file, for its channels and its range; it has covered nothing.
+pub record OpensAgain {M L : Type 0} (disk : M → Disk) (t : Transcript) (before after : RecorderState M L) (answer : Result Cursor Refusal)
+    : Type 0 where
+  pub passed : OnOk answer (recorder_refusal before.kept (events.Cursor t.file t.channels t.first t.last) ≡ None)
+  pub opened : IfOk answer (λ c. c ≡ fresh_slot before.kept.generation t.channels t.file t.first t.last)
+  pub ready : IfOk answer (MayReadOn after.kept)
+  pub there : OnOk answer (IsReadAt before.kept.work (disk before.medium).blocks t.file)
+  pub refused : IfErr answer (RefusesCall disk (recorder_refusal before.kept (events.Cursor t.file t.channels t.first t.last))
+      (IsReadFileRefusal before.kept.work (disk before.medium).blocks t.file) before.kept after.kept before.medium after.medium)
+  pub counts : IsCount t.first × IsCount t.last
+  pub reads : OnlyReads disk before after answer
+
+-- An instalment is read again, where it goes on from where the cursor is; whether it is the same.
+pub record ReadsInstalment {M L : Type 0} (disk : M → Disk) (i : Instalment) (before after : RecorderState M L) (was next : Cursor)
+    (answer : Result Bool Refusal) : Type 0 where
+  pub same : (packets : List Packet) → ShowsAt before.kept.work (disk before.medium).blocks was.file packets
+      → was.reading.covered ≤ length packets
+      → IfOk answer (λ yes. IsTrue yes
+      ↔ IsNext packets was.reading.channels was.reading.from was.reading.to was.reading.covered i)
+  pub covers : (packets : List Packet) → ShowsAt before.kept.work (disk before.medium).blocks was.file packets
+      → was.reading.covered ≤ length packets → IfOk answer (λ yes. IsTrue yes → next ≡ at_place i.to was)
+  pub ready : OnOk answer (MayReadOn after.kept next)
+  pub file : next.file ≡ was.file
+  pub refused : IfErr answer (RefusesCall disk None (IsReadFileRefusal before.kept.work (disk before.medium).blocks was.file)
+      before.kept after.kept before.medium after.medium)
+  pub reads : OnlyReads disk before after answer

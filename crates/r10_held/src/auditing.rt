@@ -6,9 +6,9 @@ ghost use Rattle.r10_control.specs.Checks.{recorder_refusal};
 ghost use Rattle.r10_control.specs.Reading.{OnlyReads, IsReadFileRefusal, IsReadAt, ShowsAt};
 ghost use Rattle.r10_control.specs.Refused.{RefusesCall};
 ghost use Rattle.r10_count.specs.Count.{IsCount};
-ghost use Rattle.r10_cursor.specs.Standing.{fresh_slot};
 ghost use Rattle.r10_machine.specs.declared.event.Event.TheVariants as events;
-ghost use Rattle.r10_held.specs.Auditing.{AreAbsentOrRead, GoOn, IsAbsentOrRead, IsAuditRefusal, IsFirstRefused, IsNext, MayReadOn};
+ghost use Rattle.r10_held.specs.Auditing.{AreAbsentOrRead, GoOn, IsAbsentOrRead, IsAuditRefusal, IsFirstRefused, MayReadOn};
+ghost use Rattle.r10_held.specs.Auditing.{OpensAgain, ReadsInstalment};
 ghost use Rattle.r10_held.specs.Auditing.{at_place, audit_refusal, is_absence as told_absence};
 ghost use Rattle.r10_held.specs.Transcripts.{Agrees, AllAgree, beginning};
 
@@ -141,18 +141,7 @@ fn open_again<M: BlockMedium, L: LaneOut>(
     recorder: &mut Recorder<M, L>,
     transcript: &Transcript,
 ) -> Result<Cursor, Refusal>
-    ensures passed { OnOk result (recorder_refusal recorder.old.kept
-        (events.Cursor transcript.now.file transcript.now.channels transcript.now.first transcript.now.last) ≡ None) }
-    ensures opened { IfOk result (λ c. c ≡ fresh_slot recorder.old.kept.generation transcript.now.channels transcript.now.file
-        transcript.now.first transcript.now.last) }
-    ensures ready { IfOk result (MayReadOn recorder.new.kept) }
-    ensures there { OnOk result (IsReadAt recorder.old.kept.work (M.disk recorder.old.medium).blocks transcript.now.file) }
-    ensures refused { IfErr result (RefusesCall M.disk (recorder_refusal recorder.old.kept
-        (events.Cursor transcript.now.file transcript.now.channels transcript.now.first transcript.now.last))
-        (IsReadFileRefusal recorder.old.kept.work (M.disk recorder.old.medium).blocks transcript.now.file) recorder.old.kept
-        recorder.new.kept recorder.old.medium recorder.new.medium) }
-    ensures counts { IsCount transcript.now.first × IsCount transcript.now.last }
-    ensures reads { OnlyReads M.disk recorder.old recorder.new result }
+    ensures { OpensAgain M.disk transcript.now recorder.old recorder.new result }
 {
     let first = transcript.first.get();
     let last = transcript.last.get();
@@ -249,20 +238,7 @@ fn read_instalment<M: BlockMedium, L: LaneOut>(
     instalment: &Instalment,
 ) -> Result<bool, Refusal>
     requires { MayReadOn recorder.old.kept cursor.old }
-    ensures same { (packets : List StrictPacket)
-        → ShowsAt recorder.old.kept.work (M.disk recorder.old.medium).blocks cursor.old.file packets
-        → cursor.old.reading.covered ≤ length packets → IfOk result (λ yes. IsTrue yes ↔ IsNext packets cursor.old.reading.channels
-        cursor.old.reading.from cursor.old.reading.to cursor.old.reading.covered instalment.now) }
-    ensures covers { (packets : List StrictPacket)
-        → ShowsAt recorder.old.kept.work (M.disk recorder.old.medium).blocks cursor.old.file packets
-        → cursor.old.reading.covered ≤ length packets
-        → IfOk result (λ yes. IsTrue yes → cursor.new ≡ at_place instalment.now.to cursor.old) }
-    ensures ready { OnOk result (MayReadOn recorder.new.kept cursor.new) }
-    ensures file { cursor.new.file ≡ cursor.old.file }
-    ensures refused { IfErr result
-        (RefusesCall M.disk None (IsReadFileRefusal recorder.old.kept.work (M.disk recorder.old.medium).blocks cursor.old.file)
-        recorder.old.kept recorder.new.kept recorder.old.medium recorder.new.medium) }
-    ensures reads { OnlyReads M.disk recorder.old recorder.new result }
+    ensures { ReadsInstalment M.disk instalment.now recorder.old recorder.new cursor.old cursor.new result }
 {
     // For the proof: entries have one order.
     order_is_unique();
