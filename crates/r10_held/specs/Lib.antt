@@ -7,3 +7,4 @@ pub mod Outlets
 pub mod Advancing
 pub mod Auditing
 pub mod Transcripts
+pub mod Recorder

@@ -20,7 +20,7 @@ use std::sync::{Mutex, MutexGuard, Wait};
 #[derive(Drop)]
 pub struct Cabinet<M: BlockMedium, N: Rings> {
     lock: Mutex<Held<M, N>>,
-    watch: Sight<N>,
+    sight: Sight<N>,
 }
 
 impl<M: BlockMedium, N: Rings> Model for Cabinet<M, N> {
@@ -30,7 +30,7 @@ impl<M: BlockMedium, N: Rings> Model for Cabinet<M, N> {
 
     ghost coded = { table_id_coded };
 
-    ghost view = { λ c. c.watch };
+    ghost view = { λ c. c.sight };
 }
 
 impl<M: BlockMedium, N: Rings> Cabinet<M, N> {
@@ -51,12 +51,12 @@ impl<M: BlockMedium, N: Rings> Cabinet<M, N> {
     }
 
     /// A cabinet of parts that were one. It takes no memory.
-    pub fn of_parts(held: Held<M, N>, watch: Sight<N>) -> Cabinet<M, N>
-        ensures { result ≡ watch }
+    pub fn of_parts(held: Held<M, N>, sight: Sight<N>) -> Cabinet<M, N>
+        ensures { result ≡ sight }
     {
         Cabinet {
             lock: Mutex::new(held),
-            watch,
+            sight,
         }
     }
 
@@ -64,15 +64,15 @@ impl<M: BlockMedium, N: Rings> Cabinet<M, N> {
     pub fn into_parts(self) -> (Held<M, N>, Sight<N>)
         ensures { result.1 ≡ self }
     {
-        let Cabinet { lock, watch } = self;
-        (lock.into_inner(), watch)
+        let Cabinet { lock, sight } = self;
+        (lock.into_inner(), sight)
     }
 
     /// A law: the gauge is the one that is named.
     pub fn is_named(&self)
         ensures { self.now ≡ N.gauge }
     {
-        self.watch.is_named();
+        self.sight.is_named();
     }
 
     /// Waits for the lock.
@@ -89,7 +89,7 @@ impl<M: BlockMedium, N: Rings> Cabinet<M, N> {
         ensures last { result ≡ last_triple pass.new.seen }
         ensures numbered { AreNumbered pass.new.seen }
     {
-        self.watch.glance(rt, pass)
+        self.sight.watch.glance(rt, pass)
     }
 
     /// A pass that has seen the same, for another thread.
@@ -98,6 +98,6 @@ impl<M: BlockMedium, N: Rings> Cabinet<M, N> {
         ensures stays { pass.new ≡ pass.old }
         ensures other { result ≡ pass.old }
     {
-        self.watch.split(pass)
+        self.sight.watch.split(pass)
     }
 }

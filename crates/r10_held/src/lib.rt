@@ -24,6 +24,8 @@ pub use cabinet::Cabinet;
 pub use gauged::Gauged;
 pub use held::{Held, new_recorders_account_for_their_lanes};
 pub use player::Player;
+pub use r10_control::Recorder;
+pub use r10_cursor::Cursor;
 pub use rings::Rings;
 pub use sight::Sight;
 pub use transcript::{Instalment, Transcript};

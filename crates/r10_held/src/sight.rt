@@ -2,10 +2,9 @@
 
 ghost use Rattle.std.specs.Prelude.{◌≡◌, [], ◌∷◌, ◌++◌, ◌-◌, ◌^◌, length, min};
 ghost use mathlib.Core.List.{IsPrefix};
-ghost use Rattle.r10_gauge.specs.Published.{AreNumbered, commits_of, last_triple, triple};
+ghost use Rattle.r10_gauge.specs.Published.{commits_of, triple};
 
 use crate::rings::Rings;
-use r10_body::Glance;
 use r10_gauge::{Gauge, Pass, Watch};
 use std::marker::{Model, PhantomData};
 use std::sync::Wait;
@@ -75,7 +74,7 @@ impl<N: Rings> Publisher<N> {
 /// The end at which threads look, of the gauge which `N` names. Contracts see which gauge it is.
 #[derive(Drop)]
 pub struct Sight<N: Rings> {
-    watch: Watch,
+    pub(crate) watch: Watch,
     of: PhantomData<N>,
 }
 
@@ -108,25 +107,5 @@ impl<N: Rings> Sight<N> {
         ensures { self.now ≡ N.gauge }
     {
         let _ = &self.watch;
-    }
-
-    /// A glance, as `Watch::glance`.
-    pub(crate) fn glance<R: Wait>(&self, rt: &R, pass: &mut Pass) -> Glance
-        requires { pass.old.cell ≡ self.now }
-        ensures same { pass.new.cell ≡ pass.old.cell }
-        ensures seen { IsPrefix pass.old.seen pass.new.seen }
-        ensures last { result ≡ last_triple pass.new.seen }
-        ensures numbered { AreNumbered pass.new.seen }
-    {
-        self.watch.glance(rt, pass)
-    }
-
-    /// A pass that has seen the same, as `Watch::split`.
-    pub(crate) fn split(&self, pass: &mut Pass) -> Pass
-        requires { pass.old.cell ≡ self.now }
-        ensures stays { pass.new ≡ pass.old }
-        ensures other { result ≡ pass.old }
-    {
-        self.watch.split(pass)
     }
 }
