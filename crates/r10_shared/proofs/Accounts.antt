@@ -4,8 +4,8 @@ use Rattle.std.proofs.lemmas.Bool.{eqb-true}
 use Rattle.r10_body.specs.declared.entry.Entry.{Entry}
 use Rattle.r10_body.specs.declared.entry.Sample.{Sample}
 use Rattle.r10_body.specs.declared.spec.ChannelSpec.{ChannelSpec}
-use Rattle.r10_control.specs.Told.{number_on}
 use Rattle.r10_held.specs.Account.{ChannelAccount, ChannelAccounts, ChannelBound, ChannelBounds}
+use Rattle.r10_held.specs.Recorder.{number_on}
 use Rattle.r10_machine.specs.Machine.{saturated}
 use Rattle.r10_shared.proofs.Counting.{number_first, number_later}
 

@@ -6,15 +6,12 @@ use Rattle.std.proofs.lemmas.Bool.{eqb-true}
 use Rattle.r10_body.specs.Files.{on_channel}
 use Rattle.r10_body.specs.declared.entry.Entry.{Entry}
 use Rattle.r10_body.specs.declared.entry.Sample.{Sample}
-use Rattle.r10_control.specs.Own.{AreOwn}
-use Rattle.r10_control.specs.State.{RecorderState}
 use Rattle.r10_held.specs.Account.{ChannelAccounts, ChannelBounds, IsAccounted}
 use Rattle.r10_held.specs.LockFact.{LanesAccounted, outlet_received, outlet_spec}
 use Rattle.r10_held.specs.Naming.{AreNamed, ChannelRing, ring_for}
-use Rattle.r10_refinement.specs.Kept.{Kept, failed}
+use Rattle.r10_held.specs.Recorder.{AreOwn, Kept, RecorderState, entries_on, failed}
 use Rattle.r10_medium.specs.Disk.{Disk, Image}
 use Rattle.r10_port.specs.Ends.{Receiving, Ring, sent, unreceived}
-use Rattle.r10_control.specs.Taking.{entries_on}
 use Rattle.r10_shared.specs.Naming.{SendingLine}
 use Rattle.r10_machine.specs.Machine.{saturated}
 use Rattle.r10_held.proofs.Accounts.{all_within}

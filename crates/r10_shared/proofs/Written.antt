@@ -3,9 +3,8 @@ use Rattle.std.proofs.Common.{◌≡◌, ℕ, ◌<◌, List, [], ◌∷◌, ◌+
 use Rattle.std.specs.List.{AllByRecursion}
 use Rattle.atomic_table.specs.Seated.{TableId}
 use Rattle.std.proofs.lemmas.List.{append-nil, drop_all, get_or-map, length-map, map-append, take_all}
-use Rattle.r10_cursor.specs.Replays.{Reading as CursorReading}
-use Rattle.r10_cursor.specs.declared.cursor.Cursor.{Cursor}
 use Rattle.r10_held.specs.Advancing.{TakesInstalment}
+use Rattle.r10_held.specs.Recorder.{Cursor, Reading as CursorReading}
 use Rattle.r10_held.specs.declared.player.Player.{Player}
 use Rattle.r10_shared.specs.Readings.{EachGoesOn, HasReadAll, HasTaken, IsAlike, IsTakenFrom, ReadsFrom, ReadsOn}
 use Rattle.r10_shared.specs.declared.reading.Transcribing.{Transcribing}

@@ -3,13 +3,11 @@ use Rattle.std.specs.Prelude.{◌≡◌, ℕ, ◌+◌, ◌%◌, ◌^◌, Bool, t
 use Rattle.std.specs.List.{AllByRecursion}
 use Rattle.r10_body.specs.declared.refusal.Refusal.{Refusal}
 use Rattle.r10_body.specs.declared.spec.ChannelSpec.{ChannelSpec}
-use Rattle.r10_control.specs.Checks.{recorder_refusal}
-use Rattle.r10_control.specs.Effects.{CommitEffect, PumpEffect}
-use Rattle.r10_control.specs.Leading.{CallStepsTaking, none_taken}
-use Rattle.r10_control.specs.Taking.{CountsMoved, HadRoom, StepsByTaking}
 use Rattle.r10_held.specs.LockFact.{LockFact, outlet_quiet, outlet_spec}
 use Rattle.r10_held.specs.Naming.{ChannelRing}
 use Rattle.r10_held.specs.Publishing.{Publishes, StaysPublished}
+use Rattle.r10_held.specs.Recorder.{CallStepsTaking, CommitEffect, CountsMoved, HadRoom, PumpEffect, StepsByTaking, none_taken}
+use Rattle.r10_held.specs.Recorder.{recorder_refusal}
 use Rattle.r10_held.specs.State.{HeldState}
 use Rattle.r10_machine.specs.declared.event.Event.TheVariants as events
 use Rattle.r10_machine.specs.declared.reply.Reply.{Reply}

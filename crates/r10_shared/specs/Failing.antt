@@ -1,10 +1,8 @@
 -- What became of the messages of a session whose recorder failed.
 use Rattle.std.specs.Prelude.{◌≡◌, ℕ, ◌-◌, ◌^◌, ◌<◌, ◌≤◌, List, ◌++◌, length, Some, IsSomeAnd, slice_index_or}
 use Rattle.r10_body.specs.declared.entry.Sample.{Sample}
-use Rattle.r10_control.specs.State.{RecorderState}
-use Rattle.r10_control.specs.Told.{number_on}
 use Rattle.r10_held.specs.Naming.{ChannelRing}
-use Rattle.r10_refinement.specs.Kept.{Kept, Work, failed}
+use Rattle.r10_held.specs.Recorder.{Kept, RecorderState, Work, failed, number_on}
 use Rattle.r10_port.specs.Ends.{Receiving, sent}
 use Rattle.r10_shared.specs.Naming.{SendingLine}
 use Rattle.r10_shared.specs.Settling.{AreReady, HasDrained, receiving_of}

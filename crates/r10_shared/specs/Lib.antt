@@ -14,3 +14,4 @@ pub mod Sinks
 pub mod SinkLaws
 pub mod Settling
 pub mod Failing
+pub mod Recorder

@@ -1,14 +1,11 @@
 -- What an order asks of the recorder under the lock.
 use Rattle.std.specs.Prelude.{◌≡◌, Option, None, Some, Result, Ok, Err}
 use Rattle.r10_body.specs.declared.refusal.Refusal.{Refusal}
-use Rattle.r10_control.specs.Calls.{EffectBy, OwnsBy, RefusesBy}
-use Rattle.r10_control.specs.Checks.{recorder_refusal}
-use Rattle.r10_control.specs.Leading.{CallStepsTaking, none_taken}
-use Rattle.r10_control.specs.Refused.{nothing_lacks}
-use Rattle.r10_control.specs.Safely.{LeavesTaking, StopsSafely}
-use Rattle.r10_control.specs.Taking.{IsStopped, LeftNone, RefusesReadied, StepsByTaking, most_of}
 use Rattle.r10_held.specs.LockFact.{outlet_quiet, outlet_spec}
 use Rattle.r10_held.specs.Publishing.{Publishes, StaysPublished}
+use Rattle.r10_held.specs.Recorder.{AnswersSafely, CallStepsTaking, EffectBy, IsStopped, LeavesTaking, LeftNone, OwnsBy, RefusesBy}
+use Rattle.r10_held.specs.Recorder.{RefusesReadied, StepsByTaking, StopsSafely, most_of, none_taken, nothing_lacks}
+use Rattle.r10_held.specs.Recorder.{recorder_refusal}
 use Rattle.r10_held.specs.State.{HeldState}
 use Rattle.r10_machine.specs.Limits.{channel_ids}
 use Rattle.r10_machine.specs.Machine.{rising}
@@ -17,7 +14,6 @@ use Rattle.r10_machine.specs.declared.event.Event.TheVariants as events
 use Rattle.r10_machine.specs.declared.mode.Stopped.{Stopped}
 use Rattle.r10_machine.specs.declared.reply.Reply.{Reply}
 use Rattle.r10_machine.specs.declared.reply.Reply.TheVariants as replies
-use Rattle.r10_refinement.specs.Left.{AnswersSafely}
 use Rattle.r10_medium.specs.Disk.{Disk}
 use Rattle.r10_port.specs.Ends.{TookReceived, reached_by_outlet}
 use Rattle.r10_shared.specs.declared.order.Order.{Order}

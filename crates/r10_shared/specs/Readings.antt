@@ -2,8 +2,8 @@
 use Rattle.std.specs.Prelude.{◌≡◌, ℕ, List, [], ◌∷◌, ◌++◌, length, drop}
 use Rattle.std.specs.List.{AllByRecursion}
 use Rattle.r10_body.specs.Packets.{Packet, file_entries}
-use Rattle.r10_cursor.specs.declared.cursor.Cursor.{Cursor}
 use Rattle.r10_machine.specs.Replay.{Ordered, wanted}
+use Rattle.r10_held.specs.Recorder.{Cursor}
 use Rattle.r10_held.specs.declared.player.Player.{Player}
 use Rattle.r10_shared.specs.declared.reading.Transcribing.{Transcribing}
 use Rattle.r10_held.specs.declared.transcript.Instalment.{Instalment}

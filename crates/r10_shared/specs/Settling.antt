@@ -5,14 +5,11 @@ use Rattle.r10_body.specs.declared.entry.Entry.{Entry}
 use Rattle.r10_body.specs.declared.entry.Sample.{Sample}
 use Rattle.r10_body.specs.declared.refusal.Refusal.{Refusal}
 use Rattle.r10_body.specs.declared.refusal.Refusal.TheVariants.{Failed, OutOfMemory}
-use Rattle.r10_control.specs.Own.{AreOwn}
-use Rattle.r10_control.specs.Told.{number_on}
 use Rattle.r10_held.specs.Naming.{ChannelRing, ring_for}
+use Rattle.r10_held.specs.Recorder.{AreOwn, Kept, Work, entries_on, failed, number_on}
 use Rattle.r10_machine.specs.Machine.{saturated}
-use Rattle.r10_refinement.specs.Kept.{Kept, Work, failed}
 use Rattle.r10_medium.specs.Disk.{Image}
 use Rattle.r10_port.specs.Ends.{Receiving, Sending, sent, unreceived}
-use Rattle.r10_control.specs.Taking.{entries_on}
 use Rattle.r10_shared.specs.Naming.{SendingLine}
 use Rattle.r10_shared.specs.declared.reading.Transcribing.{Transcribing}
 use Rattle.r10_shared.specs.declared.report.FeedReport.{FeedReport}

@@ -2,7 +2,7 @@
 
 ghost use Rattle.std.specs.Prelude.{◌≡◌, ◌⊎◌, ◌↔◌, IfErr, IfOk, IsTrue};
 ghost use Rattle.r10_body.specs.declared.refusal.Refusal.TheVariants as refusals;
-ghost use Rattle.r10_refinement.specs.Kept.{failed};
+ghost use Rattle.r10_held.specs.Recorder.{failed};
 ghost use Rattle.r10_shared.specs.Failing.{AreMoved};
 ghost use Rattle.r10_shared.specs.Settling.{AreWrittenDown, IsEndRefusal, Settles, is_failed as told_failed};
 

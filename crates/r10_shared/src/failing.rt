@@ -1,7 +1,7 @@
 //! The end of a session whose recorder failed.
 
 ghost use Rattle.std.specs.Prelude.{◌≡◌, List, IfErr, IfOk};
-ghost use Rattle.r10_refinement.specs.Kept.{failed};
+ghost use Rattle.r10_held.specs.Recorder.{failed};
 ghost use Rattle.r10_port.specs.Ends.{Receiving};
 ghost use Rattle.r10_shared.specs.Failing.{FailedSettles, IsNotEnded};
 ghost use Rattle.r10_shared.specs.Settling.{AreWrittenDown};

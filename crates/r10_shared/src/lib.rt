@@ -36,7 +36,10 @@ pub use handing::Handing;
 pub use line::ChannelPort;
 pub use order::Order;
 pub use r10_gauge::{Gauge, Level, Levels, Pass, Watch};
-pub use r10_held::{Cabinet, Gauged, Held, Instalment, Player, Rings, Transcript};
+pub use r10_held::{
+    Cabinet, Cursor, Gauged, Held, Instalment, Player, Recorder, Rings, Transcript,
+    new_recorders_account_for_their_lanes,
+};
 pub use reading::Transcribing;
 pub use report::{FeedReport, SessionReport, audit};
 pub use rounds::{Recording, Round, Turn, go_round};

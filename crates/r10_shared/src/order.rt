@@ -1,8 +1,7 @@
 //! What control asks of the recorder.
 
 ghost use Rattle.std.specs.Prelude.{◌≡◌, IfErr, MatchResult, None, OnOk, Some};
-ghost use Rattle.r10_control.specs.Checks.{recorder_refusal};
-ghost use Rattle.r10_control.specs.Leading.{MachinesKeepShown};
+ghost use Rattle.r10_held.specs.Recorder.{MachinesKeepShown, recorder_refusal};
 ghost use Rattle.r10_shared.specs.Orders.{HasDone, LanesStayBut, LeavesAs, OwnsAs, Performs};
 ghost use Rattle.r10_shared.specs.Orders.{PublishesAs, RefusesAs, event_of, order_of};
 

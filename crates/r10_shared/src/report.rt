@@ -1,14 +1,12 @@
 //! What became of a session.
 
 ghost use Rattle.std.specs.Prelude.{◌≡◌, ◌↔◌, ◌-◌, IfErr, IfOk, IsTrue, None, OnOk, length};
-ghost use Rattle.r10_control.specs.Reading.{OnlyReads};
-ghost use Rattle.r10_control.specs.Refused.{RefusesCall};
 ghost use Rattle.r10_held.specs.Auditing.{AreAbsentOrRead, IsFirstRefused, audit_refusal};
+ghost use Rattle.r10_held.specs.Recorder.{OnlyReads, RefusesCall};
 ghost use Rattle.r10_held.specs.Transcripts.{AllAgree};
 
 use r10_body::{Refusal, Sample};
-use r10_control::Recorder;
-use r10_held::{Transcript, audit_all};
+use r10_held::{Recorder, Transcript, audit_all};
 use r10_lane::Spent;
 use r10_medium::BlockMedium;
 use std::alloc::Global;

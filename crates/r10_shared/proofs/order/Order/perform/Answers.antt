@@ -1,7 +1,5 @@
 use Rattle.std.proofs.Common.{List, ℕ, subst}
-use Rattle.r10_control.specs.Checks.{recorder_refusal}
-use Rattle.r10_control.specs.Refused.{RefusesCall}
-use Rattle.r10_control.specs.Started.{IsStartRefusal}
+use Rattle.r10_held.specs.Recorder.{IsStartRefusal, RefusesCall, recorder_refusal}
 use Rattle.r10_machine.specs.declared.event.Event.TheVariants as events
 use Rattle.r10_shared.proofs.order.Order.perform.Goals as goal
 
