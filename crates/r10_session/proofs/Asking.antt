@@ -1,10 +1,10 @@
 -- Orders, asked one after the other.
 use Rattle.std.proofs.Common.{◌≡◌, ℕ, ◌+◌, ◌<◌, ◌≤◌, List, [], ◌∷◌, ◌++◌, length, drop, get_or, append_assoc, refl, sym, ap, subst, ◌∙◌}
 use Rattle.std.proofs.lemmas.List.{append-nil, drop_all, drop_more}
-use Rattle.r10_held.specs.State.{HeldState}
 use Rattle.r10_machine.specs.declared.reply.Reply.{Reply}
 use Rattle.r10_medium.specs.Disk.{Disk}
 use Rattle.r10_session.specs.Answered.{Answered, Answers}
+use Rattle.r10_shared.specs.Recorder.{HeldState}
 use Rattle.r10_shared.specs.declared.order.Order.{Order}
 
 -- whatever is answered to the orders from a place on, after these it is what is answered to all

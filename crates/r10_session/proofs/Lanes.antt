@@ -8,8 +8,7 @@ use Rattle.std.proofs.lemmas.Map.Keys.{IsDistinct-head, IsDistinct-tail}
 use Rattle.r10_body.specs.declared.spec.ChannelSpec.{ChannelSpec}
 use Rattle.r10_session.specs.Ends.{ArePaired}
 use Rattle.r10_session.specs.declared.ends.Sender.{Sender}
-use Rattle.r10_held.specs.LockFact.{outlet_received, outlet_spec}
-use Rattle.r10_held.specs.Naming.{AreNamed, ChannelRing, ring_for}
+use Rattle.r10_shared.specs.Recorder.{AreNamed, ChannelRing, outlet_received, outlet_spec, ring_for}
 use Rattle.r10_machine.specs.Limits.{channel_ids}
 use Rattle.r10_port.specs.Ends.{Receiving, Ring}
 use Rattle.r10_session.specs.Lanes.{HasSender, HaveChannels, IsFresh, IsRingNamed, rings_of}

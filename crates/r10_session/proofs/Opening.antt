@@ -2,8 +2,7 @@
 use Rattle.std.proofs.Common.{◌≡◌, ℕ, ◌+◌, ◌<◌, ◌≤◌, List, [], ◌∷◌, ◌++◌, length, drop, get_or, append_assoc, refl, sym, ap, subst, ◌∙◌, Option, Result}
 use Rattle.std.proofs.lemmas.List.{append-nil, drop_all, drop_more}
 use Rattle.r10_body.specs.declared.refusal.Refusal.{Refusal}
-use Rattle.r10_cursor.specs.declared.cursor.Cursor.{Cursor}
-use Rattle.r10_held.specs.State.{HeldState}
+use Rattle.r10_shared.specs.Recorder.{Cursor, HeldState}
 use Rattle.r10_medium.specs.Disk.{Disk}
 use Rattle.r10_session.specs.Readers.{AreOpened, OpensCursor, cursors_in, refusal_of}
 use Rattle.r10_script.specs.declared.session.ReaderTable.{ReaderTable}

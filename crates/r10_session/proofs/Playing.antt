@@ -1,8 +1,7 @@
 -- Players, one after the other.
 use Rattle.std.proofs.Common.{◌≡◌, List, [], ◌∷◌, ◌++◌, map, append_assoc, sym, ap, ◌∙◌}
 use Rattle.std.proofs.lemmas.List.{map-append}
-use Rattle.r10_cursor.specs.declared.cursor.Cursor.{Cursor}
-use Rattle.r10_held.specs.declared.player.Player.{Player}
+use Rattle.r10_shared.specs.Recorder.{Cursor, Player}
 
 pub one_more : (players : List Player) (before rest all : List Cursor) (cursor : Cursor) (player : Player) → map (λ (p : Player). p.cursor) players ++ before ≡ all → before ≡ cursor ∷ rest → player.cursor ≡ cursor
     → map (λ (p : Player). p.cursor) (players ++ player ∷ []) ++ rest ≡ all

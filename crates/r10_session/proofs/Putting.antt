@@ -4,14 +4,11 @@ use Rattle.std.specs.List.{AllZip}
 use Rattle.r10_body.specs.declared.entry.Entry.{Entry}
 use Rattle.r10_body.specs.declared.refusal.Refusal.{Refusal}
 use Rattle.r10_body.specs.declared.spec.ChannelSpec.{ChannelSpec}
-use Rattle.r10_control.specs.Own.{AreOwn}
-use Rattle.r10_cursor.specs.declared.cursor.Cursor.{Cursor}
 use Rattle.r10_session.specs.declared.ended.Ended.{Ended}
 use Rattle.r10_session.specs.declared.ended.FeedEnd.{FeedEnd}
 use Rattle.r10_session.specs.declared.ended.Left.{Left}
 use Rattle.r10_session.specs.declared.ended.ReaderEnd.{ReaderEnd}
 use Rattle.r10_machine.specs.declared.reply.Reply.{Reply}
-use Rattle.r10_refinement.specs.Kept.{Kept}
 use Rattle.r10_medium.specs.Disk.{Image}
 use Rattle.r10_medium.specs.MemoryDisk.{memory_disk}
 use Rattle.r10_script.specs.declared.session.FeedTable.{FeedTable}
@@ -21,10 +18,9 @@ use Rattle.r10_session.specs.Came.{CameOf}
 use Rattle.r10_session.specs.Counting.{entries_in}
 use Rattle.r10_session.specs.Feeds.{FeedCame, feed_end}
 use Rattle.r10_session.specs.Readers.{AreRead, BeginsReading, IsReadOf, fill}
+use Rattle.r10_shared.specs.Recorder.{AllAgree, AreOwn, Cursor, Kept, Transcript}
 use Rattle.r10_shared.specs.declared.order.Order.{Order}
 use Rattle.r10_shared.specs.declared.report.FeedReport.{FeedReport}
-use Rattle.r10_held.specs.Transcripts.{AllAgree}
-use Rattle.r10_held.specs.declared.transcript.Transcript.{Transcript}
 
 pub put_together : {X : Type 0} (r : Result Left X) (specs : List ChannelSpec) (steps : List Order) (tables : List FeedTable) (readers : List ReaderTable) (kept : Kept) (image : Image) (own : List Entry) (replies : List Reply) (refused : List (Option Refusal))
     (cursors : List Cursor) (reports : List FeedReport) (transcripts : List Transcript) → BeginsReading memory_disk steps readers replies refused cursors → AreOwn kept image own → AllZip (FeedCame specs own) tables (map feed_end reports)

@@ -2,19 +2,14 @@
 use Rattle.std.proofs.Common.{◌≡◌, ℕ, ◌+◌, ◌<◌, suc, List, [], ◌∷◌, ◌++◌, length, map, get_or, refl, sym, ap, subst, ◌∙◌, arith, Option, Some, None, Result, Ok, Err}
 use Rattle.std.specs.List.{AllZip}
 use Rattle.r10_body.specs.declared.refusal.Refusal.{Refusal}
-use Rattle.r10_cursor.specs.Standing.{fresh_slot}
-use Rattle.r10_cursor.specs.declared.cursor.Cursor.{Cursor}
-use Rattle.r10_held.specs.State.{HeldState}
 use Rattle.r10_medium.specs.Disk.{Disk}
-use Rattle.r10_held.specs.declared.player.Player.{Player}
 use Rattle.r10_session.specs.Counting.{entries_in}
 use Rattle.r10_session.specs.Readers.{AreOpened, AreRead, IsReadBy, IsReadOf, OpensCursor, cursors_in, fill, refusal_of}
 use Rattle.r10_script.specs.declared.session.ReaderTable.{ReaderTable}
 use Rattle.r10_shared.specs.Readings.{EachGoesOn, HasReadAll}
+use Rattle.r10_shared.specs.Recorder.{Cursor, HeldState, Instalment, Player, Transcript, fresh_slot}
 use Rattle.r10_shared.specs.Settling.{IsWrittenDown}
 use Rattle.r10_shared.specs.declared.reading.Transcribing.{Transcribing}
-use Rattle.r10_held.specs.declared.transcript.Instalment.{Instalment}
-use Rattle.r10_held.specs.declared.transcript.Transcript.{Transcript}
 
 -- ---- from places to pairs
 

@@ -2,7 +2,7 @@
 use Rattle.std.proofs.Common.{◌≡◌, ℕ, ◌+◌, ◌-◌, ◌<◌, ◌^◌, min, List, [], ◌∷◌, ◌++◌, length, take, get_or, ap, ◌∙◌, arith}
 use Rattle.std.proofs.lemmas.List.{take_more}
 use Rattle.r10_session.specs.Counting.{entries_in, instalments_length}
-use Rattle.r10_held.specs.declared.transcript.Instalment.{Instalment}
+use Rattle.r10_shared.specs.Recorder.{Instalment}
 
 -- one instalment more
 entries_more : (instalments : List Instalment) (i : Instalment) → instalments_length (instalments ++ i ∷ []) ≡ instalments_length instalments + length i.entries

@@ -8,7 +8,7 @@ use Rattle.r10_body.specs.declared.spec.ChannelSpec.{ChannelSpec}
 use Rattle.r10_session.specs.Ends.{TakesOne, sender_place}
 use Rattle.r10_session.specs.declared.ends.Sender.{Sender}
 use Rattle.r10_session.proofs.Taking.{still_there}
-use Rattle.r10_held.specs.Naming.{ChannelRing, ring_for}
+use Rattle.r10_shared.specs.Recorder.{ChannelRing, ring_for}
 use Rattle.r10_port.specs.Ends.{Sending}
 use Rattle.r10_session.specs.Lanes.{HasSender, IsFresh, IsRingNamed, IsUnused}
 

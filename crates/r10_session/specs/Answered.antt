@@ -1,12 +1,11 @@
 -- What the recorder under the lock answered to orders.
 use Rattle.std.specs.Prelude.{◌≡◌, List, [], ◌∷◌, None, IfErr, OnOk, Result, Ok, Err}
 use Rattle.r10_body.specs.declared.refusal.Refusal.{Refusal}
-use Rattle.r10_control.specs.Checks.{recorder_refusal}
-use Rattle.r10_held.specs.State.{HeldState}
 use Rattle.r10_machine.specs.declared.reply.Reply.{Reply}
 use Rattle.r10_machine.specs.declared.reply.Reply.TheVariants as replies
 use Rattle.r10_medium.specs.Disk.{Disk}
 use Rattle.r10_shared.specs.Orders.{HasDone, LanesStayBut, OwnsAs, Performs, PublishesAs, RefusesAs, event_of}
+use Rattle.r10_shared.specs.Recorder.{HeldState, recorder_refusal}
 use Rattle.r10_shared.specs.declared.order.Order.{Order}
 
 -- the answer of a call as a reply

@@ -4,19 +4,15 @@ use Rattle.std.specs.List.{AllZip}
 use Rattle.r10_body.specs.declared.entry.Entry.{Entry}
 use Rattle.r10_body.specs.declared.refusal.Refusal.{Refusal}
 use Rattle.r10_body.specs.declared.spec.ChannelSpec.{ChannelSpec}
-use Rattle.r10_control.specs.Own.{AreOwn}
-use Rattle.r10_cursor.specs.declared.cursor.Cursor.{Cursor}
 use Rattle.r10_session.specs.declared.ended.Ended.{Ended}
-use Rattle.r10_refinement.specs.Kept.{Kept}
 use Rattle.r10_medium.specs.Disk.{Image}
 use Rattle.r10_medium.specs.MemoryDisk.{memory_disk}
 use Rattle.r10_script.specs.declared.session.FeedTable.{FeedTable}
 use Rattle.r10_script.specs.declared.session.ReaderTable.{ReaderTable}
 use Rattle.r10_session.specs.Feeds.{FeedCame}
 use Rattle.r10_session.specs.Readers.{AreRead, BeginsReading}
+use Rattle.r10_shared.specs.Recorder.{AllAgree, AreOwn, Cursor, Kept, Transcript}
 use Rattle.r10_shared.specs.declared.order.Order.{Order}
-use Rattle.r10_held.specs.Transcripts.{AllAgree}
-use Rattle.r10_held.specs.declared.transcript.Transcript.{Transcript}
 
 -- The steps were asked of a recorder under a lock, and it answered so; the readers' cursors were opened or refused after them.
 -- At the end, by the own files of a recorder over a medium with this image, this became of each feed's items, and this was read by

@@ -1,6 +1,6 @@
 -- How many entries were read.
 use Rattle.std.specs.Prelude.{ℕ, ◌+◌, ◌-◌, ◌^◌, min, List, [], ◌∷◌, length}
-use Rattle.r10_held.specs.declared.transcript.Instalment.{Instalment}
+use Rattle.r10_shared.specs.Recorder.{Instalment}
 
 -- how many entries instalments have
 abbrev pub instalments_length : List Instalment → ℕ

@@ -8,11 +8,11 @@ use Rattle.r10_body.specs.declared.spec.ChannelSpec.{ChannelSpec}
 use Rattle.r10_session.specs.declared.ended.FeedEnd.{FeedEnd}
 use Rattle.r10_machine.specs.Machine.{saturated}
 use Rattle.r10_port.specs.Ends.{Sending}
-use Rattle.r10_control.specs.Taking.{entries_on}
 use Rattle.r10_session.specs.Lanes.{IsUnused}
 use Rattle.r10_script.specs.declared.session.FeedTable.{FeedTable}
 use Rattle.r10_shared.specs.Feeding.{FedLine}
 use Rattle.r10_shared.specs.Naming.{SendingLine}
+use Rattle.r10_shared.specs.Recorder.{entries_on}
 use Rattle.r10_shared.specs.Settling.{IsSettledReport}
 use Rattle.r10_shared.specs.declared.report.FeedReport.{FeedReport}
 use Rattle.r10_shared.specs.declared.source.Tally.{Tally}

@@ -3,7 +3,7 @@ use Rattle.std.specs.Prelude.{◌≡◌, ◌==◌, ℕ, true, List, map, Some, I
 use Rattle.std.specs.List.{AllByRecursion, find, list_any}
 use Rattle.r10_body.specs.declared.spec.ChannelSpec.{ChannelSpec}
 use Rattle.r10_session.specs.declared.ends.Sender.{Sender}
-use Rattle.r10_held.specs.Naming.{ChannelRing, ring_for}
+use Rattle.r10_shared.specs.Recorder.{ChannelRing, ring_for}
 use Rattle.r10_machine.specs.Machine.{fresh_lane}
 use Rattle.r10_port.specs.Ends.{Receiving, Sending}
 use Rattle.r10_script.specs.declared.session.FeedTable.{FeedTable}

@@ -1,14 +1,8 @@
 -- Readers: their cursors, and what they come to.
 use Rattle.std.specs.Prelude.{◌≡◌, ℕ, List, [], ◌∷◌, ◌++◌, drop, slice_index_or, Option, None, Some, Result, Ok, Err}
 use Rattle.r10_body.specs.declared.refusal.Refusal.{Refusal}
-use Rattle.r10_control.specs.Checks.{recorder_refusal}
-use Rattle.r10_control.specs.Reading.{IsReadFileRefusal}
-use Rattle.r10_control.specs.Refused.{RefusesCall}
-use Rattle.r10_cursor.specs.Standing.{fresh_slot}
-use Rattle.r10_cursor.specs.declared.cursor.Cursor.{Cursor}
 use Rattle.r10_session.specs.declared.ended.ReaderEnd.{ReaderEnd}
 use Rattle.r10_session.specs.declared.ended.ReaderEnd.TheVariants as ends
-use Rattle.r10_held.specs.State.{HeldState}
 use Rattle.r10_machine.specs.declared.event.Event.TheVariants as events
 use Rattle.r10_machine.specs.declared.reply.Reply.{Reply}
 use Rattle.r10_medium.specs.Disk.{Disk}
@@ -16,8 +10,8 @@ use Rattle.r10_session.specs.Answered.{Answered}
 use Rattle.r10_session.specs.Counting.{entries_in}
 use Rattle.r10_script.specs.declared.session.ReaderTable.{ReaderTable}
 use Rattle.r10_shared.specs.Readings.{EachGoesOn}
+use Rattle.r10_shared.specs.Recorder.{Cursor, HeldState, IsReadFileRefusal, RefusesCall, Transcript, fresh_slot, recorder_refusal}
 use Rattle.r10_shared.specs.declared.order.Order.{Order}
-use Rattle.r10_held.specs.declared.transcript.Transcript.{Transcript}
 
 -- ---- cursors
 

@@ -5,10 +5,9 @@ ghost use Rattle.r10_session.specs.Answered.{Answers, Answered};
 ghost use Rattle.r10_shared.specs.Orders.{order_of};
 
 use r10_body::Refusal;
-use r10_held::{Held, Rings};
 use r10_machine::{Event, Reply};
 use r10_medium::BlockMedium;
-use r10_shared::Order;
+use r10_shared::{Held, Order, Rings};
 use std::alloc::{AllocError, Global};
 use std::sync::Wait;
 

@@ -8,13 +8,11 @@ ghost use Rattle.r10_session.specs.Readers.{AreOpened, BeginsReading, OpensCurso
 use crate::beginning::ask_all;
 use crate::ended::ReaderEnd;
 use r10_body::Refusal;
-use r10_cursor::Cursor;
 use r10_gauge::Pass;
-use r10_held::{Cabinet, Held, Player, Rings};
 use r10_machine::Reply;
 use r10_medium::BlockMedium;
 use r10_script::ReaderTable;
-use r10_shared::Order;
+use r10_shared::{Cabinet, Cursor, Held, Order, Player, Rings};
 use std::alloc::{AllocError, Global};
 use std::sync::Wait;
 

@@ -5,16 +5,15 @@ ghost use Rattle.r10_medium.specs.MemoryDisk.{memory_disk};
 ghost use Rattle.r10_session.specs.Counting.{entries_in};
 ghost use Rattle.r10_session.specs.Feeds.{feed_end};
 ghost use Rattle.r10_session.specs.Readers.{fill};
-ghost use Rattle.r10_held.specs.Transcripts.{AllAgree};
+ghost use Rattle.r10_shared.specs.Recorder.{AllAgree};
 
 use crate::ended::{Ended, FeedEnd, Left};
 use crate::fault::SessionFault;
 use crate::readers::reader_ends;
 use r10_body::Refusal;
-use r10_held::Transcript;
 use r10_machine::Reply;
 use r10_medium::Memory;
-use r10_shared::{FeedReport, SessionReport, audit};
+use r10_shared::{FeedReport, SessionReport, Transcript, audit};
 use std::alloc::{AllocError, Global};
 
 /// What a report tells of a feed.

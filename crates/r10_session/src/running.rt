@@ -2,14 +2,12 @@
 
 ghost use Rattle.std.specs.Prelude.{◌≡◌, [], All, IfOk, IsSome, List, Some, map};
 ghost use Rattle.std.specs.List.{AllByRecursion};
-ghost use Rattle.r10_held.specs.Account.{IsNew};
-ghost use Rattle.r10_held.specs.LockFact.{outlet_received, outlet_spec};
-ghost use Rattle.r10_held.specs.Naming.{AreNamed};
 ghost use Rattle.r10_medium.specs.MemoryDisk.{memory_disk};
 ghost use Rattle.r10_session.specs.Came.{CameOf};
 ghost use Rattle.r10_session.specs.Lanes.{HasSender, HaveChannels, IsFresh, IsRingNamed};
 ghost use Rattle.r10_script.specs.Session.{AreApart};
 ghost use Rattle.r10_shared.specs.Orders.{order_of};
+ghost use Rattle.r10_shared.specs.Recorder.{AreNamed, IsNew, outlet_received, outlet_spec};
 ghost use Rattle.r10_shared.specs.declared.order.Order.{Order as OrderValue};
 
 use crate::beginning::orders_of;
@@ -19,13 +17,11 @@ use crate::fault::SessionFault;
 use crate::feeds::run_tables;
 use crate::readers::{Begun, begin, players_of};
 use crate::reports::settle;
-use r10_control::Recorder;
-use r10_held::{Cabinet, Gauged, Rings, new_recorders_account_for_their_lanes};
 use r10_machine::Settings;
 use r10_medium::Memory;
 use r10_port::Outlet;
 use r10_script::{FeedTable, ReaderTable, SessionScript};
-use r10_shared::Order;
+use r10_shared::{Cabinet, Gauged, Order, Recorder, Rings, new_recorders_account_for_their_lanes};
 use std::alloc::{AllocError, Global};
 use std::marker::Brand;
 use std::sync::Wait;

@@ -4,16 +4,17 @@ ghost use Rattle.std.specs.Prelude.{◌≡◌, All, IfOk, IsSomeAnd, List};
 ghost use Rattle.std.specs.List.{AllZip};
 ghost use Rattle.r10_body.specs.declared.entry.Entry.{Entry as EntryValue};
 ghost use Rattle.r10_source.specs.declared.source.SourceItem.{SourceItem as TurnValue};
-ghost use Rattle.r10_control.specs.Own.{AreOwn};
 ghost use Rattle.r10_medium.specs.MemoryDisk.{memory_disk};
 ghost use Rattle.r10_session.specs.Feeds.{Comes, Zipped};
 ghost use Rattle.r10_session.specs.Readers.{IsReadOf};
+ghost use Rattle.r10_shared.specs.Recorder.{AreOwn};
 ghost use Rattle.r10_shared.specs.Settling.{AreWrittenDown, Settles};
 
 use crate::fault::SessionFault;
-use r10_held::{Cabinet, Player, Rings};
 use r10_medium::Memory;
-use r10_shared::{Feed, Open, Order, Session, SessionReport, end_session, run_session};
+use r10_shared::{
+    Cabinet, Feed, Open, Order, Player, Rings, Session, SessionReport, end_session, run_session,
+};
 use std::alloc::{AllocError, Global};
 use std::sync::Wait;
 use std::thread::Threads;

@@ -1,7 +1,7 @@
 use Rattle.std.proofs.Common.{◌≡◌, ap, ◌∙◌}
 use Rattle.std.proofs.lemmas.List.Elements.{All-push}
 use Rattle.r10_gauge.specs.Published.{LookingEnd}
-use Rattle.r10_held.specs.declared.player.Player.{Player}
+use Rattle.r10_shared.specs.Recorder.{Player}
 use Rattle.r10_session.proofs.Playing.{one_more}
 use Rattle.r10_session.proofs.readers.players_of.Goals as goal
 

@@ -2,7 +2,7 @@ use Rattle.std.proofs.Common.{◌≡◌, ◌+◌, ◌-◌, ◌<◌, ◌^◌, ℕ
 use Rattle.r10_session.proofs.Summing.{entries_at}
 use Rattle.r10_session.proofs.reports.entries_in.Goals as goal
 use Rattle.r10_session.specs.Counting.{entries_in}
-use Rattle.r10_held.specs.declared.transcript.Instalment.{Instalment}
+use Rattle.r10_shared.specs.Recorder.{Instalment}
 
 pub loop-instalment-preserved : goal.loop-instalment-preserved
 loop-instalment-preserved c =
