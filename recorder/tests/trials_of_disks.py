@@ -595,7 +595,8 @@ def formats(room: Room) -> 'subprocess.CompletedProcess[str]':
 
 @trial
 def what_is_not_the_recorders(room: Room) -> str:
-    """Files that are somebody's stay: one in place of the medium, and those beside it that have the names of what the service makes."""
+    """Files that are somebody's stay: one in place of the medium, and those beside it that have the names of what the service
+    makes."""
     medium, kept = room.folder / 'medium', b'a thesis, or a table of partitions\n' * 100
     (room.folder / 'settings.toml').write_text(settings(channel(5, 'message', 'lines = "pipe"'), blocks=4096))
     # where a mark of other data may stand: the table of partitions, ext4, btrfs
@@ -638,7 +639,8 @@ def a_mounted_device(room: Room) -> str:
         subprocess.run(['mkfs.ext4', '-q', loop.device], check=True, stdout=subprocess.DEVNULL, stderr=subprocess.DEVNULL)
         if subprocess.run(['mount', loop.device, str(at)], capture_output=True).returncode:
             raise NotTried('nothing can be mounted here')
-        (room.folder / 'settings.toml').write_text(settings(channel(5, 'message', 'lines = "pipe"'), medium=loop.device, blocks=16384))
+        text = settings(channel(5, 'message', 'lines = "pipe"'), medium=loop.device, blocks=16384)
+        (room.folder / 'settings.toml').write_text(text)
         for words in ([], ['--format']):
             command = [str(room.programs / 'r10d'), *words, 'settings.toml']
             ran = subprocess.run(command, cwd=room.folder, capture_output=True, text=True, timeout=LONG)
@@ -648,7 +650,8 @@ def a_mounted_device(room: Room) -> str:
         must(ran.returncode == 3 and 'has something else' in ran.stderr, f'--format over a file system: {ran}')
         must(subprocess.run(['mount', loop.device, str(at)]).returncode == 0, 'the file system is gone')
         subprocess.run(['umount', str(at)], check=True)
-        subprocess.run(['dd', 'if=/dev/zero', f'of={loop.device}', 'bs=128K', 'count=1', 'conv=notrunc,fsync'], check=True, stderr=subprocess.DEVNULL)
+        wipe = ['dd', 'if=/dev/zero', f'of={loop.device}', 'bs=128K', 'count=1', 'conv=notrunc,fsync']
+        subprocess.run(wipe, check=True, stderr=subprocess.DEVNULL)
         ran = formats(room)
         must(ran.returncode == 0, f'--format of what was wiped: {ran}')
         service = Service(room)

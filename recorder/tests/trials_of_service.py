@@ -474,7 +474,8 @@ def a_network_that_comes_later(room: Room) -> str:
     until(send, 'what has its address now records nothing')
     for at, words in ((port, 'GET / HTTP/1.0\\r\\n\\r\\n'), (port + 1, '.STATUS\\n')):
         script = f"exec 3<>/dev/tcp/{here}/{at} && printf '{words}' >&3 && head -c 3 <&3"
-        ran = until(lambda: subprocess.run([*inside, 'bash', '-c', script], capture_output=True).stdout, f'port {at} does not answer')
+        command = [*inside, 'bash', '-c', script]
+        ran = until(lambda: subprocess.run(command, capture_output=True).stdout, f'port {at} does not answer')
         must(ran in (b'HTT', b'S 0'), f'port {at} answers {ran!r}')
     service.end()
     return 'a channel recorded before, two and both ports after'
@@ -504,7 +505,8 @@ def idle_peers_of_the_metrics(room: Room) -> str:
 @trial
 def the_background_of_a_terminal(room: Room) -> str:
     """With standard input as an input, a service in the background of a terminal is not halted when somebody types there."""
-    (room.folder / 'settings.toml').write_text(settings(channel(5, 'message', 'lines = "-"') + channel(6, 'message', 'lines = "pipe"')))
+    text = settings(channel(5, 'message', 'lines = "-"') + channel(6, 'message', 'lines = "pipe"'))
+    (room.folder / 'settings.toml').write_text(text)
     ours, theirs = os.openpty()
     # the leader of a session has the terminal, and the service is a group in its background
     leader = (
