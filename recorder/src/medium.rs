@@ -79,6 +79,11 @@ impl Medium {
         self.path.display().to_string()
     }
 
+    /// Whether its path is one of a device, which is there or not, and is never made.
+    fn is_of_devices(&self) -> bool {
+        self.path.starts_with("/dev") && !self.path.starts_with("/dev/shm")
+    }
+
     /// Makes the file, where nothing of its name is there.
     pub fn make(&self) -> Result<(), Refusal> {
         match fs::metadata(&self.path) {
@@ -95,6 +100,8 @@ impl Medium {
                     self.name()
                 )));
             }
+            // (a file that is made there would be in memory)
+            Err(_) if self.is_of_devices() => return Ok(()),
             Err(_) => (),
         }
         let start = Instant::now();
@@ -260,6 +267,10 @@ impl Medium {
                 "the medium {} has fewer than {} blocks: give the number of blocks that it was made with",
                 self.name(),
                 self.blocks
+            )),
+            io::ErrorKind::NotFound if self.is_of_devices() => Refusal::Failed(format!(
+                "the medium {} is not there: plug the device in, or name another one",
+                self.name()
             )),
             io::ErrorKind::NotFound | io::ErrorKind::PermissionDenied => Refusal::Wrong(format!(
                 "the medium {} cannot be opened: {error}; let the service's user read and write it",

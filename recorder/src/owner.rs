@@ -148,6 +148,12 @@ pub struct Owner {
 /// How long batches are taken in before something else has its turn.
 pub(crate) const TURN: Duration = Duration::from_millis(20);
 
+/// Whether a file is as old as it may become. One without a message may become a day old, as each takes a place in the directory.
+fn is_old(age: Duration, file_for: Duration, has_messages: bool) -> bool {
+    const DAY: Duration = Duration::from_secs(24 * 60 * 60);
+    age >= if has_messages { file_for } else { file_for.max(DAY) }
+}
+
 impl Owner {
     pub fn new(
         settings: Settings,
@@ -280,7 +286,8 @@ impl Owner {
             if self.has_news && now >= self.committed + self.settings.commit {
                 self.commit()?;
             }
-            if now >= self.began + self.settings.file_for {
+            let has_messages = self.lanes.iter().any(|it| it.durable_in_file > 0);
+            if is_old(now.saturating_duration_since(self.began), self.settings.file_for, has_messages) {
                 self.next_file("has been recorded for as long as the settings say")?;
             }
         }
@@ -493,4 +500,18 @@ fn give(recorder: &mut Recorder, id: u16, item: &Item, bytes: &[u8]) -> Result<(
         Head::Message { data_error, format, sub } => Message::Message { data_error, format, sub, bytes },
     };
     recorder.offer(id, item.count, message)
+}
+
+#[cfg(test)]
+mod tests {
+    use super::*;
+
+    /// A recorder to which nothing comes would fill its directory with empty files.
+    #[test]
+    fn a_file_without_a_message_is_not_ended_for_its_age() {
+        let minutes = |it: u64| Duration::from_secs(60 * it);
+        for (age, has_messages, wanted) in [(59, true, false), (60, true, true), (60, false, false), (1440, false, true)] {
+            assert_eq!(is_old(minutes(age), minutes(60), has_messages), wanted, "{age} minutes");
+        }
+    }
 }

@@ -663,3 +663,20 @@ def a_mounted_device(room: Room) -> str:
         subprocess.run(['umount', str(at)], capture_output=True)
         loop.close()
     return 'neither over the other'
+
+
+@trial
+def a_device_that_is_not_there(room: Room) -> str:
+    """A device is never made: a file in its place would be in memory. Once it is there it is recorded on."""
+    # (a trial that fails leaves nothing there)
+    place = pathlib.Path('/dev') / f'r10-{os.getpid()}-{room.folder.name}'
+    try:
+        service = Service(room, settings(channel(5, 'message', 'lines = "pipe"'), medium=str(place), tries=1))
+        service.wait_for('is not there: plug the device in')
+        until(lambda: service.ask('.STATUS')[0].startswith('S 00'), 'it does not say that recording is down')
+        must(not place.exists(), 'a file is in the place of the device')
+        service.end(status=4)
+    finally:
+        if place.exists():
+            place.unlink()
+    return 'none is made'

@@ -289,7 +289,7 @@ def nobody_reads_what_it_says(room: Room) -> str:
 
 @trial
 def a_file_that_may_not_grow(room: Room) -> str:
-    """A limit of the size of files ends what is acknowledged, and not the service."""
+    """A limit of the size of files ends what is acknowledged, and not the service. With the next file it is tried again."""
     room.programs, programs = room.folder / 'limited', room.programs
     room.programs.mkdir()
     # (in units of 1,024 bytes: the medium is made before)
@@ -303,9 +303,14 @@ def a_file_that_may_not_grow(room: Room) -> str:
                 it.truncate(40000 << 10)
             continue
         (room.folder / 'pipe').write_text('states = 1\n')
-        service.wait_for('cannot be written down any more: File too large')
+        service.wait_for('cannot be written down: File too large')
         (room.folder / 'pipe').write_text('states = 2\n')
         service.until_durable(2)
+        os.truncate(room.folder / 'lines', 0)
+        service.ask('.STOP', '.RECORD')
+        (room.folder / 'pipe').write_text('states = 3\n')
+        service.until_durable(3)
+        until(lambda: (room.folder / 'lines').read_text() == '\ndurable 1 13 1\n', 'what is durable is not written down again')
         service.end()
     return 'it goes on'
 
