@@ -310,7 +310,7 @@ def a_file_that_may_not_grow(room: Room) -> str:
         service.ask('.STOP', '.RECORD')
         (room.folder / 'pipe').write_text('states = 3\n')
         service.until_durable(3)
-        until(lambda: (room.folder / 'lines').read_text() == '\ndurable 1 13 1\n', 'what is durable is not written down again')
+        until(lambda: (room.folder / 'lines').read_text() == '\ndurable 2 13 1\n', 'what is durable is not written down again')
         service.end()
     return 'it goes on'
 
