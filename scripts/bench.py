@@ -1,18 +1,20 @@
 #!/usr/bin/env python3
-"""Measures the proved program of crates/r10_bench beside the plain Rust program of bench/, and prints a table.
+"""Measures the proved program of crates/r10_bench beside the plain Rust program of bench/, and prints one table.
 
     scripts/bench.py [MESSAGES]                    three runs of each, in turn; of each measure the middle one
-    scripts/bench.py [MESSAGES] --instructions     instructions a message too, by valgrind, of smaller runs
-    scripts/bench.py [MESSAGES] --memory           the memory that a replay takes too, by bench/count_malloc.c
+    scripts/bench.py [MESSAGES] --instructions     instructions too, by valgrind, of smaller runs
+    scripts/bench.py [MESSAGES] --memory           memory too, by bench/count_malloc.c
     scripts/bench.py [MESSAGES] --lengths          recording alone, by the length of its messages; with --instructions those too
 
 MESSAGES is 1,000,000 where no number is given. The proved program is crates/r10_bench/out/r10_bench, or that of --proved. The plain
 one is built by cargo where it is not there or older than its source, without a registry; --plain names another. Both measure the
-processor time of their thread. A ratio is how fast the proved program is, of the plain one: at 0.50 it takes twice as long. How
-quick the machine was, by sums and by jumps through a table, is measured before and after. Status 1 where the file of one, its index
-or its replay has another size than that of the other.
+processor time of their thread. A ratio is how fast the proved program is, of the plain one: at 0.50 it takes twice as long, or
+twice the instructions or bytes. "Apart" is how far the runs of a measure lie apart, of 100: the greater of both programs. How quick
+the machine was, by sums and by jumps through a table, is measured before and after. With --runs 0 no time is measured. Status 1
+where the file of one, its index or its replay has another size than that of the other.
 """
 import argparse
+import concurrent.futures
 import os
 import pathlib
 import re
@@ -25,7 +27,7 @@ TOP = pathlib.Path(__file__).resolve().parent.parent
 PLAIN = TOP / 'bench' / 'target' / 'release' / 'r10_plain'
 PROVED = TOP / 'crates' / 'r10_bench' / 'out' / 'r10_bench'
 
-# Each measure: its name, what it is, and its unit.
+# What the kinds of messages are called by both programs.
 KINDS = {
     'UART messages': 'uart',
     'message channel messages': 'message',
@@ -40,10 +42,11 @@ FILES = (
     ('MIL-STD-1553 messages', 64, 4, 3), ('ARINC 429 words', 4, 4, 3),
     ('discrete states', 4, 4, 3),
 )
+# Each measure: its name, what it is, and its unit.
 MEASURES = [
     ('recorder', 'whole recorder, messages of 32 bytes: offer, pump, commit and stop', 'messages/s'),
     ('replay', 'replay of the closed file in one instalment', 'entries/s'),
-    ('replay-behind', 'replay behind commits, 4,096 entries each', 'entries/s'),
+    ('replay-behind', 'replay after each commit, 4,096 entries each', 'entries/s'),
     ('check', 'the closed file is judged before its replay', 'bytes/s'),
     ('channel', 'lane and builder, messages of 8 bytes', 'messages/s'),
     ('copy', 'plain copy of the same bytes', 'messages/s'),
@@ -74,11 +77,15 @@ LINES = (
 
 
 # Messages of several lengths, in bytes, which both programs measure.
+LENGTHS = (8, 16, 32, 39, 64, 255, 256, 1000, 60000)
 LENGTH_LINE = r'recorder: (\d+) messages of (\d+) bytes, .* us +(\d+) messages/s'
 
 # The numbers of messages of which instructions are counted; of long ones, of those with as many bytes as so many of 64.
 COUNTED = (65536, 131072)
 COUNTED_BY_LENGTH = (32768, 65536)
+
+# How often an entry is looked for, whatever the number of messages.
+SEARCHES = 10000
 
 
 def proved_figures(text):
@@ -151,6 +158,8 @@ def told(value, unit):
         return '%.2f µs' % (value / 1000) if value < 100000 else '%.0f µs' % (value / 1000)
     if unit == 'bytes/s':
         return '%.2f GB/s' % (value / 1e9)
+    if value < 1000000:
+        return '%.1f thousand %s' % (value / 1e3, unit)
     return '%.1f million %s' % (value / 1e6, unit)
 
 
@@ -161,24 +170,45 @@ def ratio(proved, plain, unit):
     return '%.2f' % (plain / proved if unit == 'ns' else proved / plain)
 
 
-def print_table(proved, plain):
-    """The table of the middle figures."""
-    print('| Measure | Proved | Plain | Ratio |\n|---|---|---|---|')
-    widest = 0
+def share(ours, theirs):
+    """How little the proved program takes, of the plain one: a ratio of instructions or bytes."""
+    return '%.2f' % (theirs / ours) if ours and theirs else '-'
+
+
+def few(value):
+    """A number of instructions or bytes: with two places where it is small."""
+    if value is None:
+        return '-'
+    return '%.2f' % value if value < 10 else format(round(value), ',')
+
+
+HEAD = ('| %s | r10 | Plain | Ratio | Apart | Instructions: r10 | Plain | Ratio |\n'
+        '|---|---|---|---|---|---|---|---|')
+
+
+def print_row(words, times, spread, unit, counted):
+    """A row: what is measured, its times, and its instructions where these were counted."""
+    ours, theirs = times
+    print('| %s | %s | %s | %s | %s | %s | %s | %s |' % (
+        words, told(ours, unit), told(theirs, unit), ratio(ours, theirs, unit), '-' if ours is None else spread,
+        few(counted[0]), few(counted[1]), share(*counted)))
+
+
+def print_table(proved, plain, counted):
+    """The table of the middle figures, with instructions by the names of their measures."""
+    print(HEAD % 'Measure')
     for name, words, unit in MEASURES:
         (ours, spread), (theirs, other) = middle(proved, name), middle(plain, name)
-        widest = max(widest, spread, other)
-        print('| %s | %s | %s | %s |' % (words, told(ours, unit), told(theirs, unit), ratio(ours, theirs, unit)))
-    print('\nThe runs of a measure lie up to %d of 100 apart.' % widest)
+        print_row(words, (ours, theirs), max(spread, other), unit, counted.get(name, (None, None)))
 
 
-def print_lengths(proved, plain):
-    """The table of recording by the length of messages."""
-    print('| Bytes of a message | Proved | Plain | Ratio |\n|---|---|---|---|')
-    for name in sorted(plain[0], key=lambda it: int(it.partition('-')[2])):
-        (ours, _), (theirs, _) = middle(proved, name), middle(plain, name)
-        print('| %s | %s | %s | %s |' % (name.partition('-')[2], told(ours, 'messages/s'), told(theirs, 'messages/s'),
-                                         ratio(ours, theirs, 'messages/s')))
+def print_lengths(proved, plain, counted):
+    """The table of recording by the length of messages, with instructions by their lengths."""
+    print(HEAD % 'Bytes of a message')
+    for length in LENGTHS:
+        name = 'length-%d' % length
+        (ours, spread), (theirs, other) = middle(proved, name), middle(plain, name)
+        print_row(format(length, ','), (ours, theirs), max(spread, other), 'messages/s', counted.get(length, (None, None)))
 
 
 def differing(proved, plain):
@@ -213,11 +243,11 @@ def print_machine(words, before):
 
 def spans(program, words, folder):
     """The instructions between two readings of the clock, by what is printed: a list for each part of the program that reads the
-    clock before it prints."""
-    log = pathlib.Path(folder) / 'callgrind'
+    clock before it prints. And what it prints."""
+    log = pathlib.Path(folder) / '-'.join(['callgrind', program.name] + words)
     marks = ['--dump-before=%s' % name for name in ('clock_gettime*', 'write', '__write', 'writev')]
-    output(['valgrind', '--tool=callgrind', '--combine-dumps=yes', '--callgrind-out-file=%s' % log] + marks + [program] + words,
-           stderr=subprocess.DEVNULL)
+    text = output(['valgrind', '--tool=callgrind', '--combine-dumps=yes', '--callgrind-out-file=%s' % log] + marks + [program] +
+                  words, stderr=subprocess.DEVNULL)
     found, here, mark = [], None, ''
     with log.open(encoding='utf-8', errors='replace') as lines:
         for line in lines:
@@ -231,76 +261,124 @@ def spans(program, words, folder):
                     found.append(here)
                 else:
                     here.append(int(line.split()[1]))
-    return [it for it in found if it]
+    log.unlink()
+    return [it for it in found if it], text
 
 
-def instructions(words, number, folder):
-    """The instructions of the whole recorder and of a replay, of both programs, with so many messages."""
-    _, _, recorder, replay, *_ = spans(words.proved, [number], folder)
-    proved = sum(recorder[::2]), sum(replay[2:4])
-    recorder, replay = spans(words.plain, [number, 'replay'], folder)
-    return proved, (sum(recorder[::2]), replay[2])
+def proved_instructions(words, number, folder):
+    """The instructions of each measure of the proved program, and its figures."""
+    (small, _, recorder, replay, follow, wide, narrow, close, *judged), text = spans(words.proved, [str(number)], folder)
+    found = {
+        'copy': sum(small[0::3]), 'channel': sum(small[1::3]), 'recorder': sum(recorder[::2]), 'check': replay[0],
+        'replay': sum(replay[2:4]), 'replay-behind': sum(follow[0::3]) + sum(follow[1::3]), 'close': close[-1],
+        'packets-20000': sum(wide[:-1:2]), 'find-20000': wide[-1], 'find-2000': narrow[-1],
+    }
+    for (kind, size, channels, flags), judging in zip(FILES, judged):
+        found['judge-%s-%d-%d-%d' % (KINDS[kind], channels, flags, size)] = judging[0]
+    return found, proved_figures(text)
 
 
-def print_instructions(words):
-    """Instructions a message: those of a run with more messages, less those of one with fewer, by the difference."""
-    with tempfile.TemporaryDirectory() as folder:
-        few, many = [instructions(words, number, folder) for number in COUNTED]
-    print('\n| Instructions a message | Proved | Plain | Ratio |\n|---|---|---|---|')
-    for at, name in enumerate(('whole recorder: offer, pump and commit', 'replay of the closed file in one instalment')):
-        proved, plain = [(more[at] - less[at]) / (COUNTED[1] - COUNTED[0]) for more, less in zip(many, few)]
-        print('| %s | %.0f | %.0f | %.2f |' % (name, proved, plain, plain / proved))
+def plain_instructions(words, number, folder):
+    """The same of the plain program."""
+    (small, recorder, replay, follow, wide, found_wide, _, narrow, close, *judged), text = spans(words.plain, [str(number)], folder)
+    found = {
+        'copy': sum(small[0::4]), 'channel': sum(small[2::4]), 'recorder': sum(recorder[::2]), 'check': replay[0],
+        'replay': replay[2], 'replay-behind': sum(follow[::2]), 'close': close[-1],
+        'packets-20000': sum(wide[::2]), 'find-20000': found_wide[0], 'find-2000': narrow[0],
+    }
+    for (kind, size, channels, flags), judging in zip(FILES, judged):
+        found['judge-%s-%d-%d-%d' % (KINDS[kind], channels, flags, size)] = judging[0]
+    return found, plain_figures(text)
 
 
-def instructions_by_length(program, words, folder):
-    """The instructions of a recording, by the length of its messages."""
-    return [sum(it[::2]) for it in spans(program, words, folder)]
+def instructions(words):
+    """Instructions of each measure: those of a run with more messages, less those of one with fewer, by the difference of messages,
+    or of the bytes of the file where it is judged. Those of a search, and of a packet in the index, are of the larger run alone.
+    Both programs run side by side."""
+    with tempfile.TemporaryDirectory() as folder, concurrent.futures.ThreadPoolExecutor(2) as both:
+        asked = [[both.submit(count, words, number, folder) for number in COUNTED]
+                 for count in (proved_instructions, plain_instructions)]
+        runs = [[it.result() for it in of_one] for of_one in asked]
+    files = [figures['recorder-file'] for _, figures in runs[0]]
+    found = {}
+    for name, _, _ in MEASURES:
+        pair = []
+        for (fewer, _), (more, _) in runs:
+            if name.startswith('find'):
+                pair.append(more[name] / SEARCHES)
+            elif name == 'close':
+                pair.append(more[name] / COUNTED[1])
+            elif name == 'check':
+                pair.append((more[name] - fewer[name]) / (files[1] - files[0]))
+            elif name.startswith('judge'):
+                pair.append((more[name] - fewer[name]) / (64 * (COUNTED[1] - COUNTED[0])))
+            else:
+                pair.append((more[name] - fewer[name]) / (COUNTED[1] - COUNTED[0]))
+        found[name] = tuple(pair)
+    return found
 
 
-def print_length_instructions(words):
+def length_instructions(words):
     """Instructions a message by its length: those of a run with more messages, less those of one with fewer."""
-    few, many = COUNTED_BY_LENGTH
     sent = [re.findall(LENGTH_LINE, output([words.proved, 'lengths', number])) for number in COUNTED_BY_LENGTH]
-    with tempfile.TemporaryDirectory() as folder:
-        ours = [instructions_by_length(words.proved, ['lengths', str(number)], folder) for number in (few, many)]
-        theirs = [instructions_by_length(words.plain, [str(number), 'lengths'], folder) for number in (few, many)]
-    print('\n| Instructions a message, by its bytes | Proved | Plain | Ratio |\n|---|---|---|---|')
+    with tempfile.TemporaryDirectory() as folder, concurrent.futures.ThreadPoolExecutor(2) as both:
+        ours = [both.submit(spans, words.proved, ['lengths', str(number)], folder) for number in COUNTED_BY_LENGTH]
+        theirs = [both.submit(spans, words.plain, [str(number), 'lengths'], folder) for number in COUNTED_BY_LENGTH]
+        ours, theirs = [[[sum(part[::2]) for part in it.result()[0]] for it in of_one] for of_one in (ours, theirs)]
+    found = {}
     for at, (less, more) in enumerate(zip(*sent)):
         number = int(more[0]) - int(less[0])
         if number > 0:  # (of the longest there are as many in both)
-            proved, plain = [(it[1][at] - it[0][at]) / number for it in (ours, theirs)]
-            print('| %s | %.0f | %.0f | %.2f |' % (more[1], proved, plain, plain / proved))
+            found[int(more[1])] = tuple((it[1][at] - it[0][at]) / number for it in (ours, theirs))
+    return found
 
 
-def most_asked(program, number, parts, shim, line):
+def most_asked(program, parts, shim, line):
     """How many bytes a program asks for at most, beyond those that it has, until it prints a line that begins so; and the text that
     it prints."""
-    ended = subprocess.run([str(program), str(number)] + parts, stdout=subprocess.PIPE, stderr=subprocess.PIPE,
+    ended = subprocess.run([str(program)] + parts, stdout=subprocess.PIPE, stderr=subprocess.PIPE,
                            env={**os.environ, 'LD_PRELOAD': str(shim)})
     if ended.returncode:
         sys.exit('bench: %s: status %d' % (program, ended.returncode))
     text = ended.stdout.decode()
     at = 0 if text.startswith(line) else text.index('\n' + line) + 1
-    asked = [tuple(map(int, it.split(b' ')[1:])) for it in ended.stderr.splitlines() if it.startswith(b'asked ')]
+    asked = [(0, 0, 0)] + [tuple(map(int, it.split(b' ')[1:])) for it in ended.stderr.splitlines() if it.startswith(b'asked ')]
     for (had, _, _), (_, most, written) in zip(asked, asked[1:]):
         if written == at:
             return most - had, text
     return None, text
 
 
+def medium_of(messages, size):
+    """The bytes of the medium on which so many messages of so many bytes are recorded, in both programs."""
+    return ((117 + size) * messages // 512 + 64) * 512
+
+
 def print_memory(words):
-    """The memory that the replay of a closed file takes, by its entries."""
+    """What is asked for at most: beyond the medium by a recording, an entry of a replay in one instalment beyond what the recorder
+    and its medium had, and a packet of a file of packets of one message each."""
+    number = words.messages
     with tempfile.TemporaryDirectory() as folder:
         shim = pathlib.Path(folder) / 'count_malloc.so'
         subprocess.run([os.environ.get('CC', 'cc'), '-O2', '-shared', '-fPIC', '-o', shim, TOP / 'bench' / 'count_malloc.c'],
                        check=True)
-        ours, text = most_asked(words.proved, words.messages, [], shim, 'replay: ')
-        theirs, other = most_asked(words.plain, words.messages, ['replay'], shim, 'check ')
+        ours, text = most_asked(words.proved, [str(number)], shim, 'replay: ')
+        theirs, other = most_asked(words.plain, [str(number), 'replay'], shim, 'check ')
         entries = proved_figures(text)['replay-entries'], plain_figures(other)['replay-entries']
-    bytes_each = ['-' if most is None else '%.0f' % (most / number) for most, number in zip((ours, theirs), entries)]
-    print('\nA replay of %s entries in one instalment asks for at most %s bytes an entry (proved) and %s (plain), beyond what the '
-          'recorder and its medium had.' % (
-        format(entries[0], ','), *bytes_each))
+        recorded = [most_asked(words.proved, [str(number)], shim, 'recorder: ')[0],
+                    most_asked(words.plain, [str(number), 'record'], shim, 'recorder ')[0]]
+        packets = [most_asked(words.proved, ['close', str(number)], shim, 'close: ')[0],
+                   most_asked(words.plain, [str(number), 'close'], shim, 'close ')[0]]
+    each = [most / count for most, count in zip((ours, theirs), entries)]
+    beyond = [(most - medium_of(number, 32)) / 1e6 for most in recorded]
+    books = [(most - medium_of(number, 32)) / 1e6 for most in packets]
+    print('\n| Memory asked for at most | r10 | Plain | Ratio |\n|---|---|---|---|')
+    print('| replay of %s entries in one instalment, bytes an entry | %.0f | %.0f | %s |' % (
+        format(entries[0], ','), *each, share(*each)))
+    print('| recording %s messages of 32 bytes and its stop, MB beyond the medium | %.2f | %.2f | %s |' % (
+        format(number, ','), *beyond, share(*beyond)))
+    print('| recording %s packets of one message each, and their index, MB beyond the medium | %.1f | %.1f | %s |' % (
+        format(number, ','), *books, share(*books)))
 
 
 def main(words):
@@ -328,16 +406,12 @@ def main(words):
     print_machine(words, before)
     print('The machine, a second: %s before, %s after.\n' % (first, state_of(words.plain)))
     if words.lengths:
-        print_lengths(proved, plain)
-        if words.instructions:
-            print_length_instructions(words)
+        print_lengths(proved, plain, length_instructions(words) if words.instructions else {})
         return 0
-    print_table(proved, plain)
+    print_table(proved, plain, instructions(words) if words.instructions else {})
     wrong = list(differing(proved, plain))
     for line in wrong:
         print(line)
-    if words.instructions:
-        print_instructions(words)
     if words.memory:
         print_memory(words)
     return int(bool(wrong))
