@@ -265,4 +265,17 @@ check "a tour that nobody reads ends without a word" is "$(cat "$room/errors")" 
 "$sources/scripts/tour.py" "$program" >/dev/full 2>"$room/errors"
 status=$? errors=$(cat "$room/errors")
 one_line "a tour onto a full disk" 3 "cannot write: No space left on device"
+printf '#!/bin/sh\necho >"%s"\nexec sleep 60\n' "$room/began" >"$room/slow"
+chmod +x "$room/slow"
+status=$(python3 - "$sources/scripts/tour.py" "$room/slow" "$room/began" 2>"$room/errors" <<'PY'
+import os, signal, subprocess, sys, time
+signal.signal(signal.SIGINT, signal.SIG_DFL)
+child = subprocess.Popen(sys.argv[1:3], stdout=subprocess.DEVNULL, start_new_session=True)
+while not os.path.exists(sys.argv[3]) and child.poll() is None:
+    time.sleep(0.01)
+os.killpg(child.pid, signal.SIGINT)
+print(child.wait())
+PY
+)
+check "a tour that is interrupted ends without a word" is "$status $(cat "$room/errors")" "130 "
 exit "$failed"
