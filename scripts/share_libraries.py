@@ -3,14 +3,15 @@
 gate's run that goes on there.
 
 A library is given where it was built of SOURCE's files as they stand, where all files of its crate and of those below are the same,
-and those below are the very same libraries; with a stamp, so that `rt check` and `rt lib` take it as built. It proves nothing: no
-verdict of `rt ci` rests on it. Prints how many were given.
+and those below are the very same libraries, half a minute after it was written. It gets a stamp, so that `rt check` and `rt lib`
+take it as built. It proves nothing: no verdict of `rt ci` rests on it. Prints how many were given.
 """
 import importlib.machinery
 import importlib.util
 import os
 import shutil
 import sys
+import time
 
 sys.dont_write_bytecode = True
 
@@ -62,6 +63,11 @@ def main():
                 return it.read() == stamp(crate)
         return max(os.path.getmtime(it) for it in rtlib.files_of(crate.folder)) <= os.path.getmtime(f"{crate.rlib}/format")
 
+    def is_settled(crate):
+        # (what is written at this moment may lack files, and would stay so)
+        files = (f"{below}/{name}" for below, folders, names in os.walk(crate.rlib) for name in (*folders, *names))
+        return time.time() - max(map(os.path.getmtime, files), default=0) > 30
+
     # (both before the folder changes: else a TOP such as '.' would be SOURCE, whose libraries would be removed)
     top, source = os.path.realpath(sys.argv[1]), os.path.realpath(sys.argv[2])
     if top == source:
@@ -70,7 +76,7 @@ def main():
     for name, crate in crates(top).items():
         other = theirs.get(name)
         if other is None or crate.is_program or crate.is_built() or not os.path.isfile(f"{other.rlib}/format") or stamp(
-                crate) != stamp(other) or not is_current(other):
+                crate) != stamp(other) or not is_current(other) or not is_settled(other):
             continue
         if any(not it.is_built() or not is_same(it, theirs[it.name]) for it in crate.below()):
             continue

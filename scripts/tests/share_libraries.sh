@@ -1,0 +1,56 @@
+#!/usr/bin/env bash
+# Tests of scripts/share_libraries.py over two checkouts of one crate, with a stand-in for the tool. Status 1 where one fails.
+set -u
+# shellcheck disable=SC2317 source=scripts/tests/kit.sh
+. "$(dirname "$(readlink -f "${BASH_SOURCE[0]}")")/kit.sh"
+mkdir -p "$room/kit"
+export PATH="$room/kit:$PATH"
+printf '#!/bin/sh\n' >"$room/kit/rt"
+chmod +x "$room/kit/rt"
+cat >"$room/kit/rtlib.py" <<'RTLIB'
+import os
+def text_of(file):
+    try:
+        with open(file) as it:
+            return it.read()
+    except OSError:
+        return None
+sum_of = text_of
+def files_of(folder):
+    yield f"{folder}/src/lib.rt"
+class Crate:
+    is_program = False
+    def __init__(self, folder):
+        self.folder, self.name, self.rlib = folder, "r10_low", f"{folder}/out/rlib/r10_low.rlib"
+    def stamp(self):
+        return text_of(f"{self.folder}/src/lib.rt")
+    def is_built(self):
+        return os.path.isdir(self.rlib) and text_of(f"{self.folder}/out/rlib/stamp") == self.stamp()
+    def below(self):
+        return []
+def crates_below(top):
+    return [Crate(f"{top}/crates/r10_low")]
+RTLIB
+for tree in one other; do
+    mkdir -p "$room/$tree/crates/r10_low/src"
+    echo low >"$room/$tree/crates/r10_low/src/lib.rt"
+done
+made=$room/other/crates/r10_low/out/rlib/r10_low.rlib given=$room/one/crates/r10_low/out/rlib
+share() { "$sources/scripts/share_libraries.py" "$room/one" "$room/other"; }
+
+check "a library that is not there is not given" is "$(share)" "0 libraries given"
+mkdir -p "$made"
+echo sum >"$made/format"
+check "one that is written at this moment is not given, as it may lack files" is "$(share)" "0 libraries given"
+touch -d '9 minutes ago' "$made/format" "$made"
+mkdir "$made/interface"
+echo all >"$made/interface/all"
+check "nor while a file of it is new" is "$(share)" "0 libraries given"
+touch -d '9 minutes ago' "$made/interface/all" "$made/interface" "$made/format" "$made"
+touch -d '10 minutes ago' "$room/other/crates/r10_low/src/lib.rt"
+check "it is given when it is whole" is "$(share)" "1 libraries given"
+check "with all its files and a stamp" is "$(cd "$given" && find . -type f | sort | tr '\n' ' ')" \
+    "./r10_low.rlib/format ./r10_low.rlib/interface/all ./stamp "
+check "and once" is "$(share)" "0 libraries given"
+# shellcheck disable=SC2154
+exit "$failed"
