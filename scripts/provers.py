@@ -1,7 +1,7 @@
 #!/usr/bin/env python3
 """Prints how many provers the gate may run side by side: one a processor, as many as memory holds, and at least one.
 
-    RT_JOBS=$(scripts/lanes.py) rt ci
+    RT_JOBS=$(scripts/provers.py) rt ci
 
 Without that number `rt ci` reckons from the length of each crate what its prover will hold: 9.9 GB for r10_control, which held 2.7
 (docs/GATE.md). Then the crates of the longest chain wait for memory that nobody uses. No prover of this repository has held more
