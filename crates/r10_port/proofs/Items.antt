@@ -1,5 +1,5 @@
 -- Items of a ring, one longer.
-use Rattle.std.proofs.Common.{◌≡◌, ℕ, ◌+◌, ◌≤◌, ◌<◌, List, [], ◌∷◌, ◌++◌, length, drop, Option, Some, None, slice_get, refl, sym, ap, subst, arith, length-append, ◌∙◌}
+use Rattle.std.proofs.Common.{◌≡◌, ℕ, zero, suc, ◌+◌, ◌≤◌, ◌<◌, List, [], ◌∷◌, ◌++◌, length, drop, max, Option, Some, None, slice_get, refl, sym, ap, subst, arith, length-append, length-drop, ◌∙◌}
 use Rattle.std.proofs.Math.Seq.{drop-append_seam}
 use Rattle.std.proofs.lemmas.Bool.{ltb-true}
 use Rattle.r10_count.specs.Count.{IsCount}
@@ -75,3 +75,9 @@ left_behind out out2 rest items items2 received sent fifo entries ends =
       known = known;
       count = omega (arith, ap length joined, length-append out rest, ap length parts, length-append (samples out) (samples rest), ap length known, entries, ends);
     }
+
+-- no more are left than the ring has places, and none on a channel without room
+pub few_left : (got sent : List Sample) (rest : List Item) (capacity places : ℕ) → IsLeft got sent rest → length rest ≤ places → places ≡ max capacity 1 → (capacity ≡ 0 → sent ≡ [])
+    → length (drop (length got) sent) ≤ capacity
+few_left got sent rest zero places left within is none = omega (arith, length-drop (length got) sent, ap length (none refl))
+few_left got sent rest (suc n) places left within is none = omega (arith, left.count, within, is)

@@ -29,6 +29,10 @@ Ring = Ptr × Ptr × Names × Global
 abbrev pub ring_of : End Item Global InOrder → Ring
 ring_of end = (end.words, end.slots, end.names, end.heap)
 
+-- how many places it has
+abbrev pub places : Ring → ℕ
+places ring = ring.2.0
+
 -- ---- the sending end
 
 -- the sending end: its ring, the lane as it would be had nothing been taken, and how many more the end knows to have room for

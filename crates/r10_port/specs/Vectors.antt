@@ -1,6 +1,9 @@
 -- A lane of two messages between two threads, call by call.
 use Rattle.std.specs.Prelude.{◌≡◌, ℕ, false, List, [], ◌∷◌, Option, Some, None, Ok, Err, refl}
 use Rattle.std.proofs.Common.{lit<, lit≤, arith}
+use Rattle.std.specs.declared.alloc.Global.{Global}
+use Rattle.rtrb.specs.Ends.{capacity_of}
+use Rattle.rtrb.specs.declared.end.End.{End}
 use Rattle.r10_body.specs.declared.entry.Sample.{Sample}
 use Rattle.r10_body.specs.declared.gap.Gap.{Gap}
 use Rattle.r10_body.specs.declared.gap.Gap.TheVariants.{Whole, Lost}
@@ -10,9 +13,11 @@ use Rattle.r10_body.specs.declared.message.Message.TheVariants.{Uart, Discrete}
 use Rattle.r10_body.specs.declared.refusal.Refusal.TheVariants.{WrongKind, BadMessage, CountBack, Overflow}
 use Rattle.r10_body.specs.declared.spec.ChannelSpec.{ChannelSpec}
 use Rattle.r10_machine.specs.Machine.{fresh_lane}
+use Rattle.r10_port.specs.declared.item.Item.{Item}
 use Rattle.r10_port.specs.declared.item.Item.TheVariants.{Announce, Entry}
+use Rattle.r10_port.specs.declared.rule.InOrder.{InOrder}
 use Rattle.r10_port.specs.Items.{ItemMayFollow}
-use Rattle.r10_port.specs.Ends.{Ring, Sending, Receiving, Offered, TookReceived, reached_by_outlet, next_known, unreceived, with_losses}
+use Rattle.r10_port.specs.Ends.{Ring, Sending, Receiving, Offered, TookReceived, places, reached_by_outlet, ring_of, next_known, unreceived, with_losses}
 
 abbrev channel : ChannelSpec
 channel = record { id = 5; kind = kinds.Uart; capacity = 2; check = 0; bytes = 524288; number = 65535; bits = 0 }
@@ -107,6 +112,11 @@ module _ (ring : Ring) where
 
   last_reached : reached_by_outlet (outlet ring (first ∷ second ∷ [])) ≡ 2
   last_reached = refl
+
+module _ (end : End Item Global InOrder) where
+  -- the places of a ring are the capacity that its ends have
+  places_are_the_capacity : places (ring_of end) ≡ capacity_of end
+  places_are_the_capacity = refl
 
 -- a channel is announced first, and then takes what it takes
 announced : ItemMayFollow [] (Announce channel)

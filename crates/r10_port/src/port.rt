@@ -27,8 +27,8 @@ pub struct Port {
 }
 
 impl Model for Port {
-    ghost use Rattle.std.specs.Prelude.{◌≡◌, ◌+◌, Some, None, length, min, slice_get};
-    ghost use Rattle.rtrb.specs.Ring.{sent as pushed, known_free};
+    ghost use Rattle.std.specs.Prelude.{◌≡◌, ◌+◌, [], Some, None, length, max, min, slice_get};
+    ghost use Rattle.rtrb.specs.Ring.{sent as pushed, known_free, producer_capacity};
     ghost use Rattle.r10_machine.specs.Machine.{saturated};
     ghost use Rattle.r10_port.specs.declared.item.Item.TheVariants.{Announce};
     ghost use Rattle.r10_port.specs.Items.{samples, last_count_or};
@@ -54,6 +54,8 @@ impl Model for Port {
       last : last_count_or None (samples (pushed p.producer)) ≡ p.last;
       counted : p.sent ≡ saturated (length (samples (pushed p.producer)));
       entries : length (pushed p.producer) ≡ length (samples (pushed p.producer)) + 1;
+      places : producer_capacity p.producer ≡ max p.spec.capacity 1;
+      room : p.spec.capacity ≡ 0 → samples (pushed p.producer) ≡ [];
     } };
 }
 

@@ -1,6 +1,6 @@
 //! Both ends in one thread again.
 
-ghost use Rattle.std.specs.Prelude.{◌≡◌, ◌<◌, ◌-◌, ◌++◌, [], ◌∷◌, IfOk, OnErr, length, take, vec_capacity};
+ghost use Rattle.std.specs.Prelude.{◌≡◌, ◌<◌, ◌≤◌, ◌-◌, ◌++◌, [], ◌∷◌, IfOk, OnErr, length, take, vec_capacity};
 ghost use Rattle.r10_port.specs.declared.item.Item.TheVariants.{Entry};
 ghost use Rattle.r10_port.specs.Items.{samples};
 ghost use Rattle.r10_port.specs.Ends.{TookReceived, sent, unreceived};
@@ -12,7 +12,8 @@ use r10_body::Sample;
 use std::alloc::{AllocError, Global};
 
 impl Outlet {
-    /// How many samples are left of a lane whose sending end is in this thread too. All of them are then known, and stay.
+    /// How many samples are left of a lane whose sending end is in this thread too: never more than the capacity. All of them are
+    /// then known, and stay.
     pub fn rest_len(&mut self, port: &mut Port) -> usize
         requires { self.old.ring ≡ port.old.ring }
         ensures took { TookReceived self.old [] self.new }
@@ -20,6 +21,7 @@ impl Outlet {
         ensures all { sent port.old ≡ self.old.received ++ unreceived self.old port.old }
         ensures known { samples self.new.ahead ≡ unreceived self.old port.old }
         ensures count { (result ≡ length (unreceived self.old port.old)) × (result ≡ length self.new.ahead) }
+        ensures few { length (unreceived self.old port.old) ≤ port.old.lane.spec.capacity }
     {
         self.consumer.slots_beside(&mut port.producer)
     }

@@ -1,4 +1,4 @@
-use Rattle.std.proofs.Common.{Some, Ok, Err, arith, subst, min, length-append, ◌∷◌, []}
+use Rattle.std.proofs.Common.{Some, Ok, Err, arith, subst, min, length-append, ◌∷◌, [], ◌∙◌}
 use Rattle.rtrb.specs.Ring.{sent, known_free}
 use Rattle.r10_port.specs.Ends.{Sending, Offered, ring_of}
 use Rattle.r10_body.specs.declared.refusal.Refusal.TheVariants.{Overflow}
@@ -18,6 +18,8 @@ invariant_of-self c =
       last = last_pushed items x;
       counted = omega (arith, one_more items x, c.saturating_add-self-inside.ensures, c.self.invariant.counted);
       entries = omega (arith, one_more items x, length-append items (Entry x ∷ []), c.self.invariant.entries);
+      places = c.push_within.ensures.ring.1 ∙ c.self.invariant.places;
+      room = λ none. absurd (omega (arith, none, c.in-Ok.ensures.ok.0));
     })
 
 pub returns-clause-offered : goal.returns-clause-offered
