@@ -1,4 +1,5 @@
 pub mod Work
+pub mod Keeping
 pub mod State
 pub mod Owns
 pub mod Leading

@@ -3,6 +3,7 @@
 #![tactic(auto)]
 
 mod clock;
+mod keeping;
 mod lifted;
 mod listing;
 mod mounting;

@@ -23,7 +23,7 @@ impl<M: BlockMedium, L: LaneOut> Recorder<M, L> {
     pub fn channels(&self) -> &[ChannelSpec]
         ensures { result.now ≡ self.now.kept.config.channels }
     {
-        self.settings.channels()
+        self.keeping.settings.channels()
     }
 
     /// The files in order, each with its name, its bytes, its blocks and whether it is closed; the one that is recorded is the
@@ -35,11 +35,11 @@ impl<M: BlockMedium, L: LaneOut> Recorder<M, L> {
         // For the proof: a step keeps a state sound; what is reported is the machine's; the channels are within limits.
         a_step_stays_sound();
         reports_are_steps();
-        let _channels = self.settings.channels();
-        if let Err(refusal) = check_mounted(mode_in(&self.work)) {
+        let _channels = self.keeping.settings.channels();
+        if let Err(refusal) = check_mounted(mode_in(&self.keeping.work)) {
             return Err(refusal);
         }
-        match list_in(self.alloc, &self.work) {
+        match list_in(self.alloc, &self.keeping.work) {
             Ok(infos) => Ok(infos),
             Err(_) => Err(Refusal::OutOfMemory),
         }

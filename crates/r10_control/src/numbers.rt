@@ -24,8 +24,8 @@ impl<M: BlockMedium, L: LaneOut> Recorder<M, L> {
         ensures { result ≡ last_shown self.now.kept.work }
     {
         // For the proof: the blocks are within limits.
-        let _blocks = self.settings.blocks();
-        last_in(&self.work)
+        let _blocks = self.keeping.settings.blocks();
+        last_in(&self.keeping.work)
     }
 
     /// How many entries of a channel were taken in, of all files since the recorder was made, up to `u64::MAX`. None where the
@@ -33,14 +33,22 @@ impl<M: BlockMedium, L: LaneOut> Recorder<M, L> {
     pub fn taken(&self, channel: u16) -> Option<u64>
         ensures { result ≡ number_on channel self.now.kept.config.channels self.now.kept.taken }
     {
-        number_of(self.settings.channels(), self.taken.as_slice(), channel)
+        number_of(
+            self.keeping.settings.channels(),
+            self.keeping.taken.as_slice(),
+            channel,
+        )
     }
 
     /// How many of these erases took, up to `u64::MAX`. None where the settings have no such channel. It takes no memory.
     pub fn erased(&self, channel: u16) -> Option<u64>
         ensures { result ≡ number_on channel self.now.kept.config.channels self.now.kept.erased }
     {
-        number_of(self.settings.channels(), self.erased.as_slice(), channel)
+        number_of(
+            self.keeping.settings.channels(),
+            self.keeping.erased.as_slice(),
+            channel,
+        )
     }
 }
 

@@ -30,7 +30,7 @@ impl<M: BlockMedium> Recorder<M, RingLane> {
     {
         // For the proof: an offer is a step of the machine; the channels are within limits.
         offers_are_steps();
-        let _channels = self.settings.channels();
+        let _channels = self.keeping.settings.channels();
         offer_to(&mut self.lanes, channel, count, message)
     }
 
@@ -45,7 +45,7 @@ impl<M: BlockMedium> Recorder<M, RingLane> {
     {
         // For the proof: a loss is a step of the machine; the channels are within limits.
         losses_are_steps();
-        let _channels = self.settings.channels();
+        let _channels = self.keeping.settings.channels();
         lose_in(&mut self.lanes, channel, lost)
     }
 

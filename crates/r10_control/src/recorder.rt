@@ -4,13 +4,11 @@ ghost use Rattle.std.specs.Prelude.{◌≡◌, ◌≤◌, [], length, map, repli
 ghost use Rattle.std.specs.List.{AllByRecursion};
 ghost use Rattle.r10_control.specs.Own.{AreOwn};
 ghost use Rattle.r10_refinement.specs.Kept.{unmounted};
-ghost use Rattle.r10_control.specs.Work.{work_of};
 
-use crate::clock::ClockTick;
+use crate::keeping::Keeping;
 use crate::lifted::Lifted;
 use crate::parting::all_spent;
 use crate::work::Doing;
-use r10_count::Count;
 use r10_cursor::Reader;
 use r10_lane::{LaneOut, Spent};
 use r10_machine::Settings;
@@ -26,51 +24,27 @@ use std::snapshot::Snapshot;
 /// is kept, and the medium's blocks, as they were.
 pub struct Recorder<M: BlockMedium, L: LaneOut> {
     pub(crate) alloc: Global,
-    pub(crate) settings: Settings,
-    pub(crate) work: Doing,
-    pub(crate) tick: Option<ClockTick>,
-    pub(crate) last_event: Option<Count>,
-    pub(crate) generation: u64,
-    pub(crate) taken: Vec<u64>,
-    pub(crate) erased: Vec<u64>,
-    pub(crate) found: Option<usize>,
+    pub(crate) keeping: Keeping,
     pub(crate) lanes: Vec<L>,
     pub(crate) reader: Reader,
     pub(crate) medium: M,
 }
 
 impl<M: BlockMedium, L: LaneOut> Model for Recorder<M, L> {
+    ghost use Rattle.r10_control.specs.Keeping.{kept_of};
     ghost use Rattle.r10_control.specs.Owns.{Owns};
     ghost use Rattle.r10_control.specs.State.{RecorderState};
-    ghost use Rattle.r10_control.specs.Work.{work_of};
 
     ghost Value = { RecorderState M L };
 
     ghost view = { λ r. record {
-      kept = record {
-        config = r.settings;
-        work = work_of r.work;
-        tick = r.tick;
-        last_event = r.last_event;
-        generation = r.generation;
-        taken = r.taken.items;
-        erased = r.erased.items;
-        found = r.found;
-      };
+      kept = kept_of r.keeping;
       lanes = r.lanes.items;
       medium = r.medium;
     } };
 
-    ghost invariant = { λ r. Owns L.spec_of L.reached (record {
-      config = r.settings;
-      work = work_of r.work;
-      tick = r.tick;
-      last_event = r.last_event;
-      generation = r.generation;
-      taken = r.taken.items;
-      erased = r.erased.items;
-      found = r.found;
-    }) (M.disk r.medium).blocks r.lanes.items r.reader.books };
+    ghost invariant = { λ r.
+        Owns L.spec_of L.reached (kept_of r.keeping) (M.disk r.medium).blocks r.lanes.items r.reader.books };
 }
 
 /// Letting a recorder go is one call, whatever it does, so that a body that holds one has no exit for each mode.
@@ -78,14 +52,7 @@ impl<M: BlockMedium + Drop, L: LaneOut + Drop> Drop for Recorder<M, L> {
     fn drop(self) {
         let Recorder {
             alloc: _,
-            settings: _,
-            work: _,
-            tick: _,
-            last_event: _,
-            generation: _,
-            taken: _,
-            erased: _,
-            found: _,
+            keeping: _,
             lanes: _,
             reader: _,
             medium: _,
@@ -135,14 +102,16 @@ impl<M: BlockMedium, L: LaneOut> Recorder<M, L> {
         };
         Ok(Recorder {
             alloc,
-            settings,
-            work: Doing::Unmounted,
-            tick: None,
-            last_event: None,
-            generation: 0,
-            taken,
-            erased,
-            found: None,
+            keeping: Keeping {
+                settings,
+                work: Doing::Unmounted,
+                tick: None,
+                last_event: None,
+                generation: 0,
+                taken,
+                erased,
+                found: None,
+            },
             lanes,
             reader: Reader::new(alloc),
             medium,
@@ -156,14 +125,7 @@ impl<M: BlockMedium, L: LaneOut> Recorder<M, L> {
     {
         let Recorder {
             alloc: _,
-            settings: _,
-            work: _,
-            tick: _,
-            last_event: _,
-            generation: _,
-            taken: _,
-            erased: _,
-            found: _,
+            keeping: _,
             lanes,
             reader: _,
             medium,
@@ -177,14 +139,7 @@ impl<M: BlockMedium, L: LaneOut> Recorder<M, L> {
     {
         let Recorder {
             alloc,
-            settings,
-            work,
-            tick,
-            last_event,
-            generation,
-            taken,
-            erased,
-            found,
+            keeping,
             lanes,
             reader,
             medium,
@@ -192,14 +147,7 @@ impl<M: BlockMedium, L: LaneOut> Recorder<M, L> {
         let was = Snapshot::of(&medium);
         let lifted = Lifted {
             alloc,
-            settings,
-            work,
-            tick,
-            last_event,
-            generation,
-            taken,
-            erased,
-            found,
+            keeping,
             lanes,
             reader,
             was,
@@ -221,28 +169,14 @@ impl<M: BlockMedium, L: LaneOut> Recorder<M, L> {
         };
         let Recorder {
             alloc,
-            settings,
-            work,
-            tick,
-            last_event,
-            generation,
-            taken,
-            erased,
-            found,
+            keeping,
             lanes,
             reader,
             medium,
         } = self;
         let parts = Recorder {
             alloc,
-            settings,
-            work,
-            tick,
-            last_event,
-            generation,
-            taken,
-            erased,
-            found,
+            keeping,
             lanes: spent,
             reader,
             medium,

@@ -67,18 +67,22 @@ impl<M: BlockMedium, L: LaneOut> Recorder<M, L> {
         // For the proof: a step keeps a state sound; what is reported is the machine's; the channels and blocks are within limits.
         a_step_stays_sound();
         reports_are_steps();
-        let _channels = self.settings.channels();
-        let _blocks = self.settings.blocks();
-        let mode = mode_in(&self.work);
-        let Ok(channels) = lanes_in(self.alloc, mode, &mut self.lanes, self.erased.as_slice())
-        else {
+        let _channels = self.keeping.settings.channels();
+        let _blocks = self.keeping.settings.blocks();
+        let mode = mode_in(&self.keeping.work);
+        let Ok(channels) = lanes_in(
+            self.alloc,
+            mode,
+            &mut self.lanes,
+            self.keeping.erased.as_slice(),
+        ) else {
             return Err(Refusal::OutOfMemory);
         };
         Ok(RecorderStatus {
             mode,
-            tick: tick_in(self.tick),
-            files: count_in(&self.work),
-            free: free_in(&self.settings, &self.work),
+            tick: tick_in(self.keeping.tick),
+            files: count_in(&self.keeping.work),
+            free: free_in(&self.keeping.settings, &self.keeping.work),
             channels: Items::of(channels),
         })
     }
@@ -95,22 +99,22 @@ impl<M: BlockMedium> Recorder<M, RingLane> {
         // For the proof: a step keeps a state sound; what is reported is the machine's; the channels and blocks are within limits.
         a_step_stays_sound();
         reports_are_steps();
-        let _channels = self.settings.channels();
-        let _blocks = self.settings.blocks();
-        let mode = mode_in(&self.work);
+        let _channels = self.keeping.settings.channels();
+        let _blocks = self.keeping.settings.blocks();
+        let mode = mode_in(&self.keeping.work);
         let Ok(channels) = channels_in(
             self.alloc,
             mode,
             self.lanes.as_slice(),
-            self.erased.as_slice(),
+            self.keeping.erased.as_slice(),
         ) else {
             return Err(Refusal::OutOfMemory);
         };
         Ok(Status {
             mode,
-            tick: tick_in(self.tick),
-            files: count_in(&self.work),
-            free: free_in(&self.settings, &self.work),
+            tick: tick_in(self.keeping.tick),
+            files: count_in(&self.keeping.work),
+            free: free_in(&self.keeping.settings, &self.keeping.work),
             channels: Items::of(channels),
         })
     }

@@ -3,8 +3,9 @@ use Rattle.r10_body.specs.declared.refusal.Refusal.TheVariants as refusals
 use Rattle.r10_count.specs.Checks.{first_broken}
 use Rattle.r10_machine.specs.Checks.{idle_checks}
 use Rattle.r10_machine.specs.Machine.{Machine}
-use Rattle.r10_refinement.specs.Kept.{Kept, mode_of, idle}
+use Rattle.r10_refinement.specs.Kept.{mode_of, idle}
 use Rattle.r10_refinement.specs.Means.{KeptStandsFor}
+use Rattle.r10_control.specs.Keeping.{kept_of}
 use Rattle.r10_control.specs.Leading.{MachinesKeepShown, KeptStepsTaking, none_taken}
 use Rattle.r10_control.specs.State.{RecorderState}
 use Rattle.r10_control.specs.Work.{work_of}
@@ -32,7 +33,7 @@ pub returns-in-Err-clause-does : goal.returns-in-Err-clause-does
 returns-in-Err-clause-does g c =
     let disk = g.M.BlockMedium.disk in
     let w = c.self.inside in
-    let k : Kept = record { config = w.settings; work = work_of w.work; tick = w.tick; last_event = w.last_event; generation = w.generation; taken = w.taken.items; erased = w.erased.items; found = w.found } in
+    let k = kept_of w.keeping in
     record {
       passed = search rules;
       refused = search rules;
@@ -47,7 +48,7 @@ returns-in-Err-clause-does g c =
           (refused_safely whichever k k events.Dismount c.in-Err.refusal (disk w.medium) (disk w.medium) refl (unchanged (disk w.medium)));
       effect = search rules;
       owned = subst (λ (v : RecorderState _ _). OwnStay v.kept (disk v.medium).blocks v.kept (disk v.medium).blocks) c.self.view_is (stay_same k (disk w.medium).blocks);
-      spares = subst (λ (v : RecorderState _ _). IdleSpares (with_shutdown 0xFF) v.kept.work (disk v.medium) (disk v.medium)) c.self.view_is (idle_spares_all (with_shutdown 0xFF) (work_of w.work) (disk w.medium));
+      spares = subst (λ (v : RecorderState _ _). IdleSpares (with_shutdown 0xFF) v.kept.work (disk v.medium) (disk v.medium)) c.self.view_is (idle_spares_all (with_shutdown 0xFF) k.work (disk w.medium));
       lanes = search rules;
       config = search rules;
     }
@@ -55,14 +56,14 @@ returns-in-Err-clause-does g c =
 pub returns-in-Ok-clause-does : goal.returns-in-Ok-clause-does
 returns-in-Ok-clause-does g c =
     let w = c.self.inside in
+    let k = kept_of w.keeping in
     let disk = g.M.BlockMedium.disk in
     let later = disk c.dismount.new.medium in
-    let k : Kept = record { config = w.settings; work = work_of w.work; tick = w.tick; last_event = w.last_event; generation = w.generation; taken = w.taken.items; erased = w.erased.items; found = w.found } in
+    let at : k.work ≡ idle c.in-Idle.directory = ap work_of c.in-Idle.is in
     record {
       passed = search rules;
       refused = search rules;
       steps =
-          let at : k.work ≡ idle c.in-Idle.directory = ap work_of c.in-Idle.is in
           subst (λ (v : RecorderState _ _). (m : Machine) → KeptStandsFor v.kept (disk v.medium).blocks (disk v.medium).failures m
           → KeptStepsTaking none_taken v.kept m events.Dismount replies.Done (record k { work = work_of c.set_work.new.work }) later.blocks later.failures) c.self.view_is
           (subst (λ (x : Doing). (m : Machine) → KeptStandsFor k (disk w.medium).blocks (disk w.medium).failures m → KeptStepsTaking none_taken k m events.Dismount replies.Done (record k { work = work_of x }) later.blocks later.failures) (sym c.set_work.ensures)
@@ -72,12 +73,11 @@ returns-in-Ok-clause-does g c =
           holds.says holds.found c.dismount.ensures.writes.counts.no_fewer));
       shown =
           subst (λ (v : RecorderState _ _). MachinesKeepShown v.kept (disk v.medium).blocks (disk v.medium).failures (disk c.dismount.new.medium).blocks) c.self.view_is
-          (λ m means. c.dismount.ensures.bytes w.settings m.files (holds_of w.settings (work_of w.work) c.in-Idle.directory (disk w.medium).blocks m.files (ap work_of c.in-Idle.is) means.files));
+          (λ m means. c.dismount.ensures.bytes k.config m.files (holds_of k.config k.work c.in-Idle.directory (disk w.medium).blocks m.files (ap work_of c.in-Idle.is) means.files));
       power_loss =
           subst (λ (v : RecorderState _ _). StaysSafe whichever v.kept events.Dismount replies.Done (disk v.medium) (record k { work = work_of c.set_work.new.work }) later) c.self.view_is
           (synced_safely whichever k (record k { work = work_of c.set_work.new.work }) events.Dismount replies.Done (disk w.medium) later c.in-Ok.ensures.directory.synced (makes_none whichever k events.Dismount (disk w.medium) later (idle_leaves k (disk w.medium) later c.in-Idle.directory (ap work_of c.in-Idle.is) (λ files held settled. c.dismount.ensures.moments k.config files held settled))));
       effect =
-          let at : k.work ≡ idle c.in-Idle.directory = ap work_of c.in-Idle.is in
           subst (λ (v : RecorderState _ _). DismountEffect v.kept (disk v.medium) (record k { work = work_of c.set_work.new.work }) later) c.self.view_is
           (subst (λ (x : Doing). DismountEffect k (disk w.medium) (record k { work = work_of x }) later) (sym c.set_work.ensures)
           (dismount_effect k (disk w.medium) later c.in-Idle.directory c.dismount.new.directory c.dismount.result at
@@ -93,7 +93,7 @@ returns-in-Ok-clause-does g c =
           (subst (λ (l : List ChainBlock). IsDirectory later.blocks l) c.in-Ok.ensures.done c.in-Ok.ensures.directory.directory) (ap work_of c.set_work.ensures) refl));
       spares =
           subst (λ (v : RecorderState _ _). IdleSpares (with_shutdown 0xFF) v.kept.work (disk v.medium) later) c.self.view_is
-          (idle_spares (with_shutdown 0xFF) (work_of w.work) c.in-Idle.directory (disk w.medium) later c.dismount.result (ap work_of c.in-Idle.is) c.dismount.ensures.turns);
+          (idle_spares (with_shutdown 0xFF) k.work c.in-Idle.directory (disk w.medium) later c.dismount.result (ap work_of c.in-Idle.is) c.dismount.ensures.turns);
       lanes = search rules;
       config = search rules;
     }
@@ -101,9 +101,9 @@ returns-in-Ok-clause-does g c =
 pub returns-in-Err-dismount-clause-does : goal.returns-in-Err-dismount-clause-does
 returns-in-Err-dismount-clause-does g c =
     let w = c.self.inside in
+    let k = kept_of w.keeping in
     let disk = g.M.BlockMedium.disk in
     let later = disk c.dismount.new.medium in
-    let k : Kept = record { config = w.settings; work = work_of w.work; tick = w.tick; last_event = w.last_event; generation = w.generation; taken = w.taken.items; erased = w.erased.items; found = w.found } in
     record {
       passed = search rules;
       refused = search rules;
@@ -118,7 +118,7 @@ returns-in-Err-dismount-clause-does g c =
           (c.in-Err-dismount.ensures.writes.counts.cause refl) (c.dismount.ensures.says k.config m.files (held k c.in-Idle.directory (disk w.medium).blocks m at means.files))));
       shown =
           subst (λ (v : RecorderState _ _). MachinesKeepShown v.kept (disk v.medium).blocks (disk v.medium).failures (disk c.dismount.new.medium).blocks) c.self.view_is
-          (λ m means. c.dismount.ensures.bytes w.settings m.files (holds_of w.settings (work_of w.work) c.in-Idle.directory (disk w.medium).blocks m.files (ap work_of c.in-Idle.is) means.files));
+          (λ m means. c.dismount.ensures.bytes k.config m.files (holds_of k.config k.work c.in-Idle.directory (disk w.medium).blocks m.files (ap work_of c.in-Idle.is) means.files));
       power_loss =
           subst (λ (v : RecorderState _ _). StaysSafe whichever v.kept events.Dismount (replies.Refused refusals.Medium) (disk v.medium) (record k { work = work_of c.set_work-in-Err-dismount.new.work }) later) c.self.view_is
           (failed_safely whichever k (record k { work = work_of c.set_work-in-Err-dismount.new.work }) events.Dismount (replies.Refused refusals.Medium) (disk w.medium) later (ap work_of c.set_work-in-Err-dismount.ensures) (makes_none whichever k events.Dismount (disk w.medium) later (idle_leaves k (disk w.medium) later c.in-Idle.directory (ap work_of c.in-Idle.is) (λ files held settled. c.dismount.ensures.moments k.config files held settled))));
@@ -128,7 +128,7 @@ returns-in-Err-dismount-clause-does g c =
           (stay_failed k (record k { work = work_of c.set_work-in-Err-dismount.new.work }) (disk w.medium).blocks (disk c.dismount.new.medium).blocks (ap work_of c.set_work-in-Err-dismount.ensures));
       spares =
           subst (λ (v : RecorderState _ _). IdleSpares (with_shutdown 0xFF) v.kept.work (disk v.medium) later) c.self.view_is
-          (idle_spares (with_shutdown 0xFF) (work_of w.work) c.in-Idle.directory (disk w.medium) later c.dismount.result (ap work_of c.in-Idle.is) c.dismount.ensures.turns);
+          (idle_spares (with_shutdown 0xFF) k.work c.in-Idle.directory (disk w.medium) later c.dismount.result (ap work_of c.in-Idle.is) c.dismount.ensures.turns);
       lanes = search rules;
       config = search rules;
     }

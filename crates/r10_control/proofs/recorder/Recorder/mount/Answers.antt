@@ -9,8 +9,9 @@ use Rattle.r10_body.specs.declared.refusal.Refusal.TheVariants as refusals
 use Rattle.r10_count.specs.Checks.{first_broken}
 use Rattle.r10_machine.specs.Checks.{unmounted_checks}
 use Rattle.r10_machine.specs.Machine.{Machine}
-use Rattle.r10_refinement.specs.Kept.{Kept, Work, mode_of, idle, failed}
+use Rattle.r10_refinement.specs.Kept.{mode_of, idle}
 use Rattle.r10_refinement.specs.Means.{KeptStandsFor}
+use Rattle.r10_control.specs.Keeping.{kept_of}
 use Rattle.r10_control.specs.Leading.{MachinesKeepShown, KeptStepsTaking, none_taken}
 use Rattle.r10_control.specs.Refused.{RefusesCall, IsMountRefusal}
 use Rattle.r10_control.specs.State.{RecorderState}
@@ -40,7 +41,7 @@ pub returns-in-Err : goal.returns-in-Err
 returns-in-Err g c =
     let disk = g.M.BlockMedium.disk in
     let w = c.self.inside in
-    let k : Kept = record { config = w.settings; work = work_of w.work; tick = w.tick; last_event = w.last_event; generation = w.generation; taken = w.taken.items; erased = w.erased.items; found = w.found } in
+    let k = kept_of w.keeping in
     record {
       does = record {
         passed = search rules;
@@ -56,7 +57,7 @@ returns-in-Err g c =
             (refused_safely whichever k k events.Mount c.in-Err.refusal (disk w.medium) (disk w.medium) refl (unchanged (disk w.medium)));
         effect = search rules;
         owned = subst (λ (v : RecorderState _ _). OwnStay v.kept (disk v.medium).blocks v.kept (disk v.medium).blocks) c.self.view_is (stay_same k (disk w.medium).blocks);
-        spares = subst (λ (v : RecorderState _ _). MountSpares v.kept.config.directory (disk v.medium) (disk v.medium)) c.self.view_is (mount_spares_all w.settings.directory (disk w.medium));
+        spares = subst (λ (v : RecorderState _ _). MountSpares v.kept.config.directory (disk v.medium) (disk v.medium)) c.self.view_is (mount_spares_all k.config.directory (disk w.medium));
         lanes = search rules;
         config = search rules;
       };
@@ -79,20 +80,20 @@ invariant_of-self-in-Err-Medium g c =
 pub returns-in-Ok : goal.returns-in-Ok
 returns-in-Ok g c =
     let w = c.self.inside in
+    let k = kept_of w.keeping in
     let disk = g.M.BlockMedium.disk in
     let later = disk c.mount.new.medium in
-    let k : Kept = record { config = w.settings; work = work_of w.work; tick = w.tick; last_event = w.last_event; generation = w.generation; taken = w.taken.items; erased = w.erased.items; found = w.found } in
+    let mounted = subst (λ (n : ℕ). IsMounted n (disk w.medium).blocks c.in-Ok.directory) c.directory.ensures.value c.in-Ok.ensures.mounted in
+    let listed : listed_files c.in-Ok.directory ≡ listed_files mounted.chain = ap (λ (l : List ChainBlock). listed_files l) mounted.made_is ∙ files-with_shutdown 0x00 mounted.chain in
+    let few : min (length (listed_files c.in-Ok.directory)) (2 ^ 64 - 1) ≡ length (listed_files c.in-Ok.directory) = subst (λ (l : List DirectoryEntry). min (length l) (2 ^ 64 - 1) ≡ length l) (sym listed) (few_listed k.config (disk w.medium).blocks mounted.chain c.self.invariant.limits c.self.invariant.blocks mounted.usable) in
+    let first : c.found_first-self-inside.result ≡ option_or k.found (Some (length (listed_files c.in-Ok.directory))) = c.found_first-self-inside.ensures ∙ ap (λ (n : ℕ). option_or k.found (Some n)) few in
+    let fine : first_broken (unmounted_checks (mode_of k.work)) ≡ None = ap (λ mode. first_broken (unmounted_checks mode)) (sym c.mode_in.ensures) ∙ c.in_default.ensures in
+    let reserved : c.directory.result ≡ k.config.directory = c.directory.ensures.value in
     record {
       does = record {
         passed = search rules;
         refused = search rules;
         steps =
-            let mounted = subst (λ (n : ℕ). IsMounted n (disk w.medium).blocks c.in-Ok.directory) c.directory.ensures.value c.in-Ok.ensures.mounted in
-            let listed : listed_files c.in-Ok.directory ≡ listed_files mounted.chain = ap (λ (l : List ChainBlock). listed_files l) mounted.made_is ∙ files-with_shutdown 0x00 mounted.chain in
-            let few : min (length (listed_files c.in-Ok.directory)) (2 ^ 64 - 1) ≡ length (listed_files c.in-Ok.directory) =
-            subst (λ (l : List DirectoryEntry). min (length l) (2 ^ 64 - 1) ≡ length l) (sym listed) (few_listed k.config (disk w.medium).blocks mounted.chain c.self.invariant.limits c.self.invariant.blocks mounted.usable) in
-            let first : c.found_first-self-inside.result ≡ option_or k.found (Some (length (listed_files c.in-Ok.directory))) = c.found_first-self-inside.ensures ∙ ap (λ (n : ℕ). option_or k.found (Some n)) few in
-            let fine : first_broken (unmounted_checks (mode_of k.work)) ≡ None = ap (λ mode. first_broken (unmounted_checks mode)) (sym c.mode_in.ensures) ∙ c.in_default.ensures in
             subst (λ (v : RecorderState _ _). (m : Machine) → KeptStandsFor v.kept (disk v.medium).blocks (disk v.medium).failures m
             → KeptStepsTaking none_taken v.kept m events.Mount replies.Done (record k { work = work_of c.set_work.new.work; found = c.found_first-self-inside.result }) later.blocks later.failures) c.self.view_is
             (subst (λ (x : Doing). (m : Machine) → KeptStandsFor k (disk w.medium).blocks (disk w.medium).failures m → KeptStepsTaking none_taken k m events.Mount replies.Done (record k { work = work_of x; found = c.found_first-self-inside.result }) later.blocks later.failures) (sym c.set_work.ensures)
@@ -102,32 +103,17 @@ returns-in-Ok g c =
             mount_done c.a_step_stays_sound.ensures k (disk w.medium).blocks later.blocks (disk w.medium).failures later.failures m c.in-Ok.directory c.self.invariant.limits means fine
             (c.in-Ok.ensures.files.holds k.config m.files says.0 says.1 c.directory.ensures.value) c.mount.ensures.no_fewer)));
         shown =
-            let fine : first_broken (unmounted_checks (mode_of (work_of w.work))) ≡ None = ap (λ mode. first_broken (unmounted_checks mode)) (sym c.mode_in.ensures) ∙ c.in_default.ensures in
             subst (λ (v : RecorderState _ _). MachinesKeepShown v.kept (disk v.medium).blocks (disk v.medium).failures (disk c.mount.new.medium).blocks) c.self.view_is
-            (λ m means. c.mount.ensures.files.bytes w.settings m.files (says_of w.settings (work_of w.work) (disk w.medium).blocks m.files (unmounted_work (work_of w.work) fine) means.files));
+            (λ m means. c.mount.ensures.files.bytes k.config m.files (says_of k.config k.work (disk w.medium).blocks m.files (unmounted_work k.work fine) means.files));
         power_loss =
-            let fine : first_broken (unmounted_checks (mode_of k.work)) ≡ None = ap (λ mode. first_broken (unmounted_checks mode)) (sym c.mode_in.ensures) ∙ c.in_default.ensures in
             subst (λ (v : RecorderState _ _). StaysSafe whichever v.kept events.Mount replies.Done (disk v.medium) (record k { work = work_of c.set_work.new.work; found = c.found_first-self-inside.result }) later) c.self.view_is
             (synced_safely whichever k (record k { work = work_of c.set_work.new.work; found = c.found_first-self-inside.result }) events.Mount replies.Done (disk w.medium) later c.in-Ok.ensures.directory.synced (makes_none whichever k events.Mount (disk w.medium) later (unmounted_leaves k (disk w.medium) later (unmounted_work k.work fine) (λ files settled. c.mount.ensures.files.moments k.config files settled))));
         effect =
-            let reserved : c.directory.result ≡ k.config.directory = c.directory.ensures.value in
-            let mounted = subst (λ (n : ℕ). IsMounted n (disk w.medium).blocks c.in-Ok.directory) c.directory.ensures.value c.in-Ok.ensures.mounted in
-            let listed : listed_files c.in-Ok.directory ≡ listed_files mounted.chain = ap (λ (l : List ChainBlock). listed_files l) mounted.made_is ∙ files-with_shutdown 0x00 mounted.chain in
-            let few : min (length (listed_files c.in-Ok.directory)) (2 ^ 64 - 1) ≡ length (listed_files c.in-Ok.directory) =
-            subst (λ (l : List DirectoryEntry). min (length l) (2 ^ 64 - 1) ≡ length l) (sym listed) (few_listed k.config (disk w.medium).blocks mounted.chain c.self.invariant.limits c.self.invariant.blocks mounted.usable) in
-            let first : c.found_first-self-inside.result ≡ option_or k.found (Some (length (listed_files c.in-Ok.directory))) = c.found_first-self-inside.ensures ∙ ap (λ (n : ℕ). option_or k.found (Some n)) few in
             subst (λ (v : RecorderState _ _). MountEffect v.kept (disk v.medium) (record k { work = work_of c.set_work.new.work; found = c.found_first-self-inside.result }) later) c.self.view_is
             (subst (λ (x : Doing). MountEffect k (disk w.medium) (record k { work = work_of x; found = c.found_first-self-inside.result }) later) (sym c.set_work.ensures)
             (mount_effect k (disk w.medium) later c.in-Ok.directory c.mount.result (subst (λ (n : ℕ). IsMounted n (disk w.medium).blocks c.in-Ok.directory) reserved c.in-Ok.ensures.mounted)
             (λ chain usable. c.mount.ensures.turns chain (subst (λ (n : ℕ). IsUsable n (disk w.medium).blocks chain) (sym reserved) usable)) c.in-Ok.ensures.directory c.found_first-self-inside.result first));
         owned =
-            let fine : first_broken (unmounted_checks (mode_of k.work)) ≡ None = ap (λ mode. first_broken (unmounted_checks mode)) (sym c.mode_in.ensures) ∙ c.in_default.ensures in
-            let reserved : c.directory.result ≡ k.config.directory = c.directory.ensures.value in
-            let mounted = subst (λ (n : ℕ). IsMounted n (disk w.medium).blocks c.in-Ok.directory) c.directory.ensures.value c.in-Ok.ensures.mounted in
-            let listed : listed_files c.in-Ok.directory ≡ listed_files mounted.chain = ap (λ (l : List ChainBlock). listed_files l) mounted.made_is ∙ files-with_shutdown 0x00 mounted.chain in
-            let few : min (length (listed_files c.in-Ok.directory)) (2 ^ 64 - 1) ≡ length (listed_files c.in-Ok.directory) =
-            subst (λ (l : List DirectoryEntry). min (length l) (2 ^ 64 - 1) ≡ length l) (sym listed) (few_listed k.config (disk w.medium).blocks mounted.chain c.self.invariant.limits c.self.invariant.blocks mounted.usable) in
-            let first : c.found_first-self-inside.result ≡ option_or k.found (Some (length (listed_files c.in-Ok.directory))) = c.found_first-self-inside.ensures ∙ ap (λ (n : ℕ). option_or k.found (Some n)) few in
             let is = subst (λ (n : ℕ). IsMounted n (disk w.medium).blocks c.in-Ok.directory) reserved c.in-Ok.ensures.mounted in
             let turns = c.mount.ensures.turns is.chain (subst (λ (n : ℕ). IsUsable n (disk w.medium).blocks is.chain) (sym reserved) is.usable) in
             subst (λ (v : RecorderState _ _). OwnStay v.kept (disk v.medium).blocks (record k { work = work_of c.set_work.new.work; found = c.found_first-self-inside.result }) later.blocks) c.self.view_is
@@ -146,8 +132,8 @@ returns-in-Ok g c =
 pub returns-in-Err-BadDirectory : goal.returns-in-Err-BadDirectory
 returns-in-Err-BadDirectory g c =
     let w = c.self.inside in
+    let k = kept_of w.keeping in
     let disk = g.M.BlockMedium.disk in
-    let k : Kept = record { config = w.settings; work = work_of w.work; tick = w.tick; last_event = w.last_event; generation = w.generation; taken = w.taken.items; erased = w.erased.items; found = w.found } in
     let later = disk c.mount.new.medium in
     record {
       does = record {
@@ -177,9 +163,9 @@ returns-in-Err-BadDirectory g c =
 pub returns-in-Err-OutOfMemory : goal.returns-in-Err-OutOfMemory
 returns-in-Err-OutOfMemory g c =
     let w = c.self.inside in
+    let k = kept_of w.keeping in
     let disk = g.M.BlockMedium.disk in
     let later = disk c.mount.new.medium in
-    let k : Kept = record { config = w.settings; work = work_of w.work; tick = w.tick; last_event = w.last_event; generation = w.generation; taken = w.taken.items; erased = w.erased.items; found = w.found } in
     record {
       does = record {
         passed = search rules;
@@ -209,15 +195,15 @@ returns-in-Err-OutOfMemory g c =
 pub returns-in-Err-Medium : goal.returns-in-Err-Medium
 returns-in-Err-Medium g c =
     let w = c.self.inside in
+    let k = kept_of w.keeping in
     let disk = g.M.BlockMedium.disk in
     let later = disk c.mount.new.medium in
-    let k : Kept = record { config = w.settings; work = work_of w.work; tick = w.tick; last_event = w.last_event; generation = w.generation; taken = w.taken.items; erased = w.erased.items; found = w.found } in
+    let fine : first_broken (unmounted_checks (mode_of k.work)) ≡ None = ap (λ mode. first_broken (unmounted_checks mode)) (sym c.mode_in.ensures) ∙ c.in_default.ensures in
     record {
       does = record {
         passed = search rules;
         refused = search rules;
         steps =
-            let fine : first_broken (unmounted_checks (mode_of k.work)) ≡ None = ap (λ mode. first_broken (unmounted_checks mode)) (sym c.mode_in.ensures) ∙ c.in_default.ensures in
             subst (λ (v : RecorderState _ _). (m : Machine) → KeptStandsFor v.kept (disk v.medium).blocks (disk v.medium).failures m
             → KeptStepsTaking none_taken v.kept m events.Mount (replies.Refused refusals.Medium) (record k { work = work_of c.set_work-in-Err-Medium.new.work }) later.blocks later.failures) c.self.view_is
             (subst (λ (x : Doing). (m : Machine) → KeptStandsFor k (disk w.medium).blocks (disk w.medium).failures m → KeptStepsTaking none_taken k m events.Mount (replies.Refused refusals.Medium) (record k { work = work_of x }) later.blocks later.failures) (sym c.set_work-in-Err-Medium.ensures)
@@ -226,11 +212,9 @@ returns-in-Err-Medium g c =
             mount_fails c.a_step_stays_sound.ensures k (disk w.medium).blocks later.blocks (disk w.medium).failures later.failures m c.self.invariant.limits means fine c.mount.ensures.no_fewer
             (c.in-Err-Medium.ensures.cause (ap Err c.in-Err-Medium.field-0-is)) (c.mount.ensures.files.says k.config m.files says.0)));
         shown =
-            let fine : first_broken (unmounted_checks (mode_of (work_of w.work))) ≡ None = ap (λ mode. first_broken (unmounted_checks mode)) (sym c.mode_in.ensures) ∙ c.in_default.ensures in
             subst (λ (v : RecorderState _ _). MachinesKeepShown v.kept (disk v.medium).blocks (disk v.medium).failures (disk c.mount.new.medium).blocks) c.self.view_is
-            (λ m means. c.mount.ensures.files.bytes w.settings m.files (says_of w.settings (work_of w.work) (disk w.medium).blocks m.files (unmounted_work (work_of w.work) fine) means.files));
+            (λ m means. c.mount.ensures.files.bytes k.config m.files (says_of k.config k.work (disk w.medium).blocks m.files (unmounted_work k.work fine) means.files));
         power_loss =
-            let fine : first_broken (unmounted_checks (mode_of k.work)) ≡ None = ap (λ mode. first_broken (unmounted_checks mode)) (sym c.mode_in.ensures) ∙ c.in_default.ensures in
             subst (λ (v : RecorderState _ _). StaysSafe whichever v.kept events.Mount (replies.Refused refusals.Medium) (disk v.medium) (record k { work = work_of c.set_work-in-Err-Medium.new.work }) later) c.self.view_is
             (failed_safely whichever k (record k { work = work_of c.set_work-in-Err-Medium.new.work }) events.Mount (replies.Refused refusals.Medium) (disk w.medium) later (ap work_of c.set_work-in-Err-Medium.ensures) (makes_none whichever k events.Mount (disk w.medium) later (unmounted_leaves k (disk w.medium) later (unmounted_work k.work fine) (λ files settled. c.mount.ensures.files.moments k.config files settled))));
         effect = search rules;

@@ -5,14 +5,14 @@ use Rattle.r10_machine.specs.Machine.{Machine}
 use Rattle.r10_machine.specs.declared.event.Event.TheVariants as events
 use Rattle.r10_machine.specs.declared.mode.Mode.{Mode}
 use Rattle.r10_machine.specs.declared.reply.Reply.TheVariants as replies
-use Rattle.r10_refinement.specs.Kept.{Kept, mode_of}
+use Rattle.r10_refinement.specs.Kept.{mode_of}
 use Rattle.r10_refinement.specs.Means.{KeptStandsFor}
 use Rattle.r10_control.specs.Checks.{files_of}
+use Rattle.r10_control.specs.Keeping.{kept_of}
 use Rattle.r10_control.specs.Lanes.{WaitQuietly}
 use Rattle.r10_control.specs.Leading.{KeptStepsTaking, none_taken}
 use Rattle.r10_control.specs.State.{RecorderState}
 use Rattle.r10_control.specs.Told.{TellsLanes, TellsRecorder, without_lost}
-use Rattle.r10_control.specs.Work.{work_of}
 use Rattle.r10_control.specs.declared.status.LaneStatus.{LaneStatus}
 use Rattle.r10_control.specs.declared.status.RecorderStatus.{RecorderStatus}
 use Rattle.r10_control.proofs.Leading.{memory_leads}
@@ -23,20 +23,20 @@ use Rattle.r10_control.proofs.recorder.Recorder.status.Goals as goal
 pub invariant_of-self : goal.invariant_of-self
 invariant_of-self g c =
     let w = c.self.inside in
-    let k : Kept = record { config = w.settings; work = work_of w.work; tick = w.tick; last_event = w.last_event; generation = w.generation; taken = w.taken.items; erased = w.erased.items; found = w.found } in
+    let k = kept_of w.keeping in
     owns_looked g.L.LaneOut.took g.L.LaneOut.spec_of g.L.LaneOut.reached k (g.M.BlockMedium.disk w.medium).blocks w.reader.books w.lanes.items c.lanes_in.new.lanes.items g.met.L.LaneOut.keeps_spec g.met.L.LaneOut.rises c.lanes_in.ensures.took c.self.invariant
 
 pub invariant_of-self-2 : goal.invariant_of-self-2
 invariant_of-self-2 g c =
     let w = c.self.inside in
-    let k : Kept = record { config = w.settings; work = work_of w.work; tick = w.tick; last_event = w.last_event; generation = w.generation; taken = w.taken.items; erased = w.erased.items; found = w.found } in
+    let k = kept_of w.keeping in
     owns_looked g.L.LaneOut.took g.L.LaneOut.spec_of g.L.LaneOut.reached k (g.M.BlockMedium.disk w.medium).blocks w.reader.books w.lanes.items c.lanes_in.new.lanes.items g.met.L.LaneOut.keeps_spec g.met.L.LaneOut.rises c.lanes_in.ensures.took c.self.invariant
 
 pub returns-in_default : goal.returns-in_default
 returns-in_default g c =
     let w = c.self.inside in
+    let k = kept_of w.keeping in
     let disk = g.M.BlockMedium.disk in
-    let k : Kept = record { config = w.settings; work = work_of w.work; tick = w.tick; last_event = w.last_event; generation = w.generation; taken = w.taken.items; erased = w.erased.items; found = w.found } in
     record {
       does = record {
         told = search rules;
@@ -55,8 +55,8 @@ returns-in_default g c =
 pub returns : goal.returns
 returns g c =
     let w = c.self.inside in
+    let k = kept_of w.keeping in
     let disk = g.M.BlockMedium.disk in
-    let k : Kept = record { config = w.settings; work = work_of w.work; tick = w.tick; last_event = w.last_event; generation = w.generation; taken = w.taken.items; erased = w.erased.items; found = w.found } in
     let lane = g.L.LaneOut in
     record {
       does = record {

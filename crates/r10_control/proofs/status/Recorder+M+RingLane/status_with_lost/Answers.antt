@@ -1,14 +1,14 @@
 use Rattle.std.proofs.Common.{◌≡◌, ℕ, List, length, sym, ap, ◌∙◌, subst}
 use Rattle.r10_machine.specs.Machine.{Lane, Machine}
 use Rattle.r10_machine.specs.declared.mode.Mode.{Mode}
-use Rattle.r10_refinement.specs.Kept.{Kept, mode_of}
+use Rattle.r10_refinement.specs.Kept.{mode_of}
 use Rattle.r10_refinement.specs.Means.{KeptStandsFor}
 use Rattle.r10_control.specs.Checks.{files_of}
+use Rattle.r10_control.specs.Keeping.{kept_of}
 use Rattle.r10_control.specs.Lanes.{AreLanes, LeadsWith}
 use Rattle.r10_control.specs.Owns.{tick_count}
 use Rattle.r10_control.specs.State.{RecorderState}
 use Rattle.r10_control.specs.Told.{channels_in, free_in, status_in}
-use Rattle.r10_control.specs.Work.{work_of}
 use Rattle.r10_machine.specs.declared.event.Event.TheVariants as events
 use Rattle.r10_machine.specs.declared.reply.Reply.TheVariants as replies
 use Rattle.r10_machine.specs.declared.reply.Status.{Status}
@@ -18,7 +18,7 @@ use Rattle.r10_control.proofs.status.Recorder+M+RingLane.status_with_lost.Goals 
 pub returns-clause-told : goal.returns-clause-told
 returns-clause-told g c =
     let w = c.self.inside in
-    let k : Kept = record { config = w.settings; work = work_of w.work; tick = w.tick; last_event = w.last_event; generation = w.generation; taken = w.taken.items; erased = w.erased.items; found = w.found } in
+    let k = kept_of w.keeping in
     let all : c.count_in.result ≡ length (files_of k.work) = files_all _ _ _ _ _ _ c.blocks-blocks.result c.count_in.result c.self.invariant c.blocks-blocks.ensures.value c.blocks-blocks.ensures.range.0 c.blocks-blocks.ensures.range.1 c.count_in.ensures in
     let channels : c.of.result ≡ channels_in (mode_of k.work) w.lanes.items k.erased =
     c.of.ensures ∙ c.in-Ok.ensures
@@ -32,8 +32,8 @@ returns-clause-told g c =
 pub returns-clause-steps : goal.returns-clause-steps
 returns-clause-steps g c =
     let w = c.self.inside in
+    let k = kept_of w.keeping in
     let disk = g.M.BlockMedium.disk in
-    let k : Kept = record { config = w.settings; work = work_of w.work; tick = w.tick; last_event = w.last_event; generation = w.generation; taken = w.taken.items; erased = w.erased.items; found = w.found } in
     let status : Status = record { mode = c.mode_in-mode.result; tick = c.tick_in.result; files = c.count_in.result; free = c.free_in.result; channels = c.of.result } in
     let all : c.count_in.result ≡ length (files_of k.work) = files_all _ _ _ _ _ _ c.blocks-blocks.result c.count_in.result c.self.invariant c.blocks-blocks.ensures.value c.blocks-blocks.ensures.range.0 c.blocks-blocks.ensures.range.1 c.count_in.ensures in
     let channels : c.of.result ≡ channels_in (mode_of k.work) w.lanes.items k.erased =
