@@ -162,6 +162,13 @@ static bool is_left(const char *path, const char *fresh, const void *bytes, size
     return answer == -1 && why == EEXIST && there == length && memcmp(found, bytes, length) == 0 && access(path, F_OK) != 0;
 }
 
+/* Whether a disk that is not open closes no file of the program's: one that now has the number that its own had. */
+static bool closes_no_other(void) {
+    int mine = open("/dev/null", O_RDONLY);
+    r10_disk_close(&disk);
+    return fcntl(mine, F_GETFD) != -1 && close(mine) == 0;
+}
+
 int main(int count, char **words) {
     static uint8_t medium[1024];
     size_t taken, left, files, before;
@@ -191,6 +198,7 @@ int main(int count, char **words) {
     printf("of three programs at once one makes it: %s\n", is_made_once(words[1]) ? "yes" : "no");
 
     say("opened for more blocks than there are", r10_disk_open(&disk, words[1], BLOCKS + 1));
+    printf("closed all the same, it closes no other file: %s\n", closes_no_other() ? "yes" : "no");
     drops = 0;
     say("opened", r10_disk_open(&disk, words[1], BLOCKS));
     printf("the system's copies are dropped: %s\n", drops > 0 ? "yes" : "no");
@@ -269,6 +277,7 @@ int main(int count, char **words) {
     say("channel 5", (int)r10_channel_of(&recorder, 5, &channel));
     r10_close(&recorder);
     r10_disk_close(&disk);
+    printf("closed again, it closes no other file: %s\n", closes_no_other() ? "yes" : "no");
     unlink(words[1]);
     return 0;
 }

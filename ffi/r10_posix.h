@@ -70,6 +70,7 @@ static inline int r10_disk_drop(int file, int answer) {
 static inline int r10_disk_take(r10_disk *disk, int file, size_t blocks) {
     disk->operations = disk->blocks = disk->kept = 0;
     disk->failed = false;
+    disk->region.at = NULL;
     disk->file = file;
     if (flock(disk->file, LOCK_EX | LOCK_NB) != 0)
         return r10_disk_drop(disk->file, -1);
@@ -97,12 +98,17 @@ static inline int r10_disk_open(r10_disk *disk, const char *path, size_t blocks)
     struct stat found;
     bool is_device = stat(path, &found) == 0 && S_ISBLK(found.st_mode);
     int file = open(path, O_RDWR | O_CLOEXEC | (is_device ? O_EXCL : 0));
+    disk->region.at = NULL;
     return file < 0 ? -1 : r10_disk_take(disk, file, blocks);
 }
 
+/* Gives up the mapping and the file. One that is not open, as after an open that failed or a close, stays so. */
 static inline void r10_disk_close(r10_disk *disk) {
+    if (disk->region.at == NULL)
+        return;
     munmap(disk->region.at, disk->region.blocks * 512);
     close(disk->file);
+    disk->region.at = NULL;
 }
 
 /* Gives back the memory of what was written. It is right where no operation waits: the file then holds, block for block, what the region holds. A private page
