@@ -112,17 +112,23 @@ cp "$made/manual/zsh/"* "$share/zsh/site-functions"
 cp -r "$top/README.md" "$top/docs" "$top/examples" "$share/doc/r10"
 chmod -R u=rwX,go=rX "$whole"
 
+# A folder is in the list if it is r10's own, is made now, or was made by an earlier installation: it goes once it is empty.
+: >"$made/before"
+[ ! -f "$list" ] || LC_ALL=C sort "$list" >"$made/before"
 (
     cd "$whole"
     find ".$prefix" -mindepth 1 \( -type d -path '*r10*' -o ! -type d \) -print | sed 's/^\.//'
+    find ".$prefix" -type d -print | sed 's/^\.//' | while IFS= read -r name; do
+        if [ ! -d "$root$name" ] || grep -qxF -e "$name" "$made/before"; then
+            echo "$name"
+        fi
+    done
     echo "$prefix/share/r10/installed"
-) | sort >"$made/installed"
+) | LC_ALL=C sort -u >"$made/installed"
 install -m 644 "$made/installed" "$share/r10/installed"
 
 # What an earlier version had and this one has not goes.
-if [ -f "$list" ]; then
-    comm -23 "$list" "$made/installed" >"$made/gone"
-fi
+LC_ALL=C comm -23 "$made/before" "$made/installed" >"$made/gone"
 # (a file that is there is taken away first: a program that runs cannot be written to, and a library that one has mapped may not be)
 mkdir -p "$root$prefix" && cp -a --no-preserve=ownership --remove-destination "$whole$prefix/." "$root$prefix/" ||
     give_up 3 "not all could be written below $root$prefix: call it again, or with --uninstall"

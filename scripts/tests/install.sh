@@ -147,8 +147,9 @@ else
 fi
 
 touch "$root/usr/bin/other"
+# (the list may be of a call in another language: its order is another one then)
 printf '/usr/share/r10/gone\n' >>"$root/usr/share/r10/installed"
-sort -o "$root/usr/share/r10/installed" "$root/usr/share/r10/installed"
+sort -r -o "$root/usr/share/r10/installed" "$root/usr/share/r10/installed"
 touch "$root/usr/share/r10/gone"
 # an upgrade while what it upgrades runs: a file that is run cannot be written to, and one that is mapped may not be
 mkfifo "$room/script"
@@ -166,7 +167,7 @@ exec 8<&-
 check "a file that only an earlier version had goes" test ! -e "$root/usr/share/r10/gone"
 "$top/scripts/install.sh" --uninstall /usr "$root" >/dev/null
 check "it is removed by its list, and nothing else" is "$(find "$root" -type f -o -type l)" "$root/usr/bin/other"
-check "no folder of its own is left" is "$(find "$root" -type d -name '*r10*' | wc -l)" 0
+check "no folder that it made is left" is "$(find "$root" -mindepth 1 -type d | sort | tr '\n' ' ')" "$root/usr $root/usr/bin "
 "$top/scripts/install.sh" --uninstall /usr "$root" >"$room/said" 2>&1
 check "twice is an error of one line" is "$? $(wc -l <"$room/said")" "1 1"
 "$top/scripts/install.sh" relative >"$room/said" 2>&1
