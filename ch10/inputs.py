@@ -4,6 +4,7 @@ from __future__ import annotations
 import mmap
 import os
 import re
+import select
 import stat
 import sys
 from typing import Any, BinaryIO, List, Optional, Tuple
@@ -24,7 +25,23 @@ def given() -> Data:
     state = os.fstat(source.fileno())
     if stat.S_ISREG(state.st_mode) and state.st_size > MOST_HELD and os.lseek(source.fileno(), 0, os.SEEK_CUR) == 0:
         return mmap.mmap(source.fileno(), 0, access=mmap.ACCESS_READ)
-    return source.read()
+    return whole(source)
+
+
+def whole(source: BinaryIO) -> bytes:
+    """All that an input has. One that is set not to wait, as another program may leave it, gives what it has by now: it is asked
+    again until its end."""
+    if os.get_blocking(source.fileno()):
+        return source.read()
+    parts: List[bytes] = []
+    while True:
+        part = source.read()
+        if part:
+            parts.append(part)
+        elif part is None:
+            select.select([source], [], [])
+        else:
+            return b''.join(parts)
 
 
 def is_recording(data: Data) -> bool:

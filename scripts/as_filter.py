@@ -4,6 +4,7 @@ A status 1 is a judgement. So a wrong call is 2, a read or a write that failed i
 no line.
 """
 import os
+import select
 import sys
 
 
@@ -12,10 +13,18 @@ class Wrong(Exception):
 
 
 def given():
-    """What standard input has."""
+    """All that standard input has. One that is set not to wait gives what it has by now, and is asked again until its end."""
     if sys.stdin is None:
         raise OSError('standard input is closed')
-    return sys.stdin.buffer.read()
+    source, parts, waits = sys.stdin.buffer, [], os.get_blocking(sys.stdin.fileno())
+    while True:
+        part = source.read()
+        if part is None:
+            select.select([source], [], [])
+            continue
+        parts.append(part)
+        if waits or not part:
+            return b''.join(parts)
 
 
 def number(name, word):

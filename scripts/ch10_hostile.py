@@ -8,6 +8,7 @@ import sqlite3
 import subprocess
 import sys
 import tempfile
+from contextlib import suppress
 from typing import Callable, Iterator, List, Tuple
 
 from ch10 import script
@@ -138,13 +139,17 @@ def inputs_of_the_shell() -> Tuple[object, object]:
                      '"%s" csv --jobs 3 < flight.ch10 > /dev/full'):
             done = subprocess.run(['bash', '-c', 'set -o pipefail; ' + call % FILTER], cwd=folder, capture_output=True, timeout=60)
             found.append((done.returncode, done.stdout.decode(), done.stderr.decode()))
-        reader, writer = os.pipe()
-        done = subprocess.Popen([FILTER, 'summary', '--json'], stdin=reader, stdout=subprocess.PIPE)
-        os.close(reader)
-        for part in make.parts:
-            os.write(writer, part)  # as a recording that grows while it is read
-        os.close(writer)
-        packets = done.communicate()[0].count(b'"packets": 40')
+        packets = []
+        for waits in (True, False):
+            reader, writer = os.pipe()
+            os.set_blocking(reader, waits)
+            done = subprocess.Popen([FILTER, 'summary', '--json'], stdin=reader, stdout=subprocess.PIPE)
+            os.close(reader)
+            with suppress(BrokenPipeError):
+                for part in make.parts:
+                    os.write(writer, part)  # as a recording that grows while it is read
+            os.close(writer)
+            packets.append(done.communicate()[0].count(b'"packets": 40'))
     return (found, packets), ([
         (1, '', 'ch10: an empty input\n'), (1, '', 'ch10: an empty input\n'),
         (3, '', 'ch10: a read or a write failed: standard input is closed\n'),
@@ -152,7 +157,7 @@ def inputs_of_the_shell() -> Tuple[object, object]:
         (3, 'channel,name,count,t', ''), (0, '{"channel": 5, "name\n', ''), (0, '5,,3\n', ''),
         (2, '', "ch10: '.' is there already: give --out another name\n"),
         (3, '', 'ch10: a read or a write failed: unable to open database file\n'),
-        (3, '', 'ch10: a read or a write failed: No space left on device\n')], 1)
+        (3, '', 'ch10: a read or a write failed: No space left on device\n')], [1, 1])
 
 
 def memory() -> Tuple[object, object]:

@@ -237,6 +237,23 @@ for judge in judge_recording.py "judge_image.py files" read_chapter10.py; do
     "${words[@]}" <&- >/dev/null 2>"$room/errors"
     status=$? errors=$(cat "$room/errors")
     one_line "$judge without standard input" 3 "standard input is closed"
+    # (once what was written first has been read, the rest is written)
+    found=$(python3 - "$room/medium.img" "${words[@]}" <<'PY'
+import contextlib, fcntl, os, subprocess, sys, termios, time
+reader, writer = os.pipe()
+os.set_blocking(reader, False)
+child = subprocess.Popen(sys.argv[2:], stdin=reader, stdout=subprocess.PIPE, stderr=subprocess.STDOUT)
+data = open(sys.argv[1], 'rb').read()
+os.write(writer, data[:2000])
+while fcntl.ioctl(reader, termios.FIONREAD, bytes(4)) != bytes(4):
+    time.sleep(0.01)
+os.close(reader)
+with contextlib.suppress(BrokenPipeError), open(writer, 'wb') as it:
+    it.write(data[2000:])
+sys.stdout.buffer.write(child.communicate()[0])
+PY
+    )
+    check "$judge reads an input to its end that is set not to wait" is "$found" "$("${words[@]}" <"$room/medium.img" 2>&1)"
     mkfifo "$room/nothing"
     # (a shell that is not one of a terminal has what runs beside it ignore an interrupt)
     status=$(python3 - "${words[@]}" 3<>"$room/nothing" 2>"$room/errors" <<'PY'
