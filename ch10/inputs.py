@@ -18,14 +18,25 @@ MOST_FRONT = 16 << 20  # bytes in which a recording whose first bytes are damage
 
 
 def given() -> Data:
-    """Standard input: read whole, or mapped where it is a file of more than 64 MiB."""
+    """Standard input: read whole, or mapped where it is a file or a disk of more than 64 MiB."""
     if sys.stdin is None:
         raise OSError('standard input is closed')
     source = sys.stdin.buffer
-    state = os.fstat(source.fileno())
-    if stat.S_ISREG(state.st_mode) and state.st_size > MOST_HELD and os.lseek(source.fileno(), 0, os.SEEK_CUR) == 0:
-        return mmap.mmap(source.fileno(), 0, access=mmap.ACCESS_READ)
+    size = size_of(source.fileno())
+    if size > MOST_HELD and os.lseek(source.fileno(), 0, os.SEEK_CUR) == 0:
+        return mmap.mmap(source.fileno(), size, access=mmap.ACCESS_READ)
     return whole(source)
+
+
+def size_of(file: int) -> int:
+    """The bytes of a file, or of a disk, of which the system says them at its end alone; 0 of anything else."""
+    state = os.fstat(file)
+    if not stat.S_ISBLK(state.st_mode):
+        return state.st_size if stat.S_ISREG(state.st_mode) else 0
+    place = os.lseek(file, 0, os.SEEK_CUR)
+    size = os.lseek(file, 0, os.SEEK_END)
+    os.lseek(file, place, os.SEEK_SET)
+    return size
 
 
 def whole(source: BinaryIO) -> bytes:

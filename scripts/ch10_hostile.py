@@ -4,6 +4,7 @@ import datetime
 import os
 import pathlib
 import random
+import shutil
 import sqlite3
 import subprocess
 import sys
@@ -183,6 +184,26 @@ def memory() -> Tuple[object, object]:
     return most < 100 << 10, True
 
 
+def a_disk() -> Tuple[object, object]:
+    """A disk as the input is mapped, as a file is: a medium may be a part of a much larger one."""
+    ask = ('import resource, subprocess, sys; subprocess.run(sys.argv[2:], stdin=open(sys.argv[1], "rb"), '
+           'stdout=subprocess.DEVNULL); print(resource.getrusage(resource.RUSAGE_CHILDREN).ru_maxrss)')
+    with tempfile.NamedTemporaryFile() as held:
+        held.write(b''.join(flight(random.Random('disk'), 30)))
+        held.truncate(300 << 20)
+        made = subprocess.run(['losetup', '--find', '--show', held.name], capture_output=True, text=True) if shutil.which(
+            'losetup') and os.getuid() == 0 else None
+        if made is None or made.returncode:
+            print('NOT TRIED: a disk as the input (no loop device here)')
+            return True, True
+        device = made.stdout.strip()
+        try:
+            done = subprocess.run([sys.executable, '-c', ask, device, sys.executable, FILTER, 'setup'], capture_output=True)
+        finally:
+            subprocess.run(['losetup', '--detach', device])
+    return int(done.stdout) < 100 << 10, True
+
+
 # ---- the source
 
 def version() -> Tuple[object, object]:
@@ -222,4 +243,4 @@ def syntax() -> Tuple[object, object]:
 
 
 TRIALS: List[Callable] = [damaged_front, within_another, once_wrong, counter_anew, wrong_scripts, more_lost_than_a_column_takes,
-                          inputs_of_the_shell, memory, version, signatures, syntax]
+                          inputs_of_the_shell, memory, a_disk, version, signatures, syntax]
