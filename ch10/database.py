@@ -86,7 +86,7 @@ class Database:
 
 
 def as_sqlite(asked: Namespace, data: Data, out: Output) -> None:
-    if asked.out is None:
+    if not asked.out:
         raise Wrong('sqlite takes --out FILE; see ch10 sqlite --help')
     try:
         base = Database(asked.out)

@@ -136,7 +136,8 @@ def inputs_of_the_shell() -> Tuple[object, object]:
                      '"%s" csv --jobs 3 < flight.ch10 | head -c 20',
                      '"%s" json --jobs 99999 < flight.ch10 | tail -n 1 | cut -c 1-20',
                      'cat flight.ch10 | "%s" csv --jobs 2 | tail -n 1 | cut -c 1-4',
-                     '"%s" sqlite --out . < flight.ch10', '"%s" sqlite --out none/flight.db < flight.ch10',
+                     '"%s" sqlite --out . < flight.ch10', '"%s" sqlite --out "" < flight.ch10',
+                     '"%s" sqlite --out none/flight.db < flight.ch10',
                      '"%s" csv --jobs 3 < flight.ch10 > /dev/full'):
             done = subprocess.run(['bash', '-c', 'set -o pipefail; ' + call % FILTER], cwd=folder, capture_output=True, timeout=60)
             found.append((done.returncode, done.stdout.decode(), done.stderr.decode()))
@@ -157,6 +158,7 @@ def inputs_of_the_shell() -> Tuple[object, object]:
         (3, '', 'ch10: a read or a write failed: standard output is closed\n'),
         (3, 'channel,name,count,t', ''), (0, '{"channel": 5, "name\n', ''), (0, '5,,3\n', ''),
         (2, '', "ch10: '.' is there already: give --out another name\n"),
+        (2, '', 'ch10: sqlite takes --out FILE; see ch10 sqlite --help\n'),
         (3, '', 'ch10: a read or a write failed: unable to open database file\n'),
         (3, '', 'ch10: a read or a write failed: No space left on device\n')], [1, 1])
 
