@@ -5,6 +5,7 @@ alone.
 It is a start of the package `ch10` beside this folder, which says at `scripts/ch10.py --help` what there is.
 """
 import os
+import signal
 import sys
 
 if sys.version_info < (3, 7):
@@ -14,7 +15,13 @@ if sys.version_info < (3, 7):
 sys.dont_write_bytecode = True  # a filter leaves nothing behind
 sys.path[0] = os.path.dirname(os.path.dirname(os.path.realpath(__file__)))
 
+# an interrupt while the modules are read, which is most of a short call, ends it without a trace of Python's too
+MINDS_INTERRUPTS = signal.getsignal(signal.SIGINT) is signal.default_int_handler
+if MINDS_INTERRUPTS:
+    signal.signal(signal.SIGINT, signal.SIG_DFL)
 from ch10.command import main  # noqa: E402
 
+if MINDS_INTERRUPTS:
+    signal.signal(signal.SIGINT, signal.default_int_handler)
 if __name__ == '__main__':
     sys.exit(main(sys.argv[1:]))

@@ -163,6 +163,16 @@ def inputs_of_the_shell() -> Tuple[object, object]:
         (3, '', 'ch10: a read or a write failed: No space left on device\n')], [1, 1])
 
 
+def interrupted_early() -> Tuple[object, object]:
+    """An interrupt while the modules are read leaves no trace of Python's: the shell's status is 130."""
+    with tempfile.TemporaryDirectory() as folder:
+        pathlib.Path(folder, 'argparse.py').write_text('import os, time\nos.kill(os.getpid(), 2)\ntime.sleep(9)\n')
+        call = 'import os, signal, sys; signal.signal(2, signal.default_int_handler); os.execv(sys.argv[1], sys.argv[1:])'
+        done = subprocess.run([sys.executable, '-c', call, FILTER, 'summary'], stdin=subprocess.DEVNULL, capture_output=True,
+                              env=dict(os.environ, PYTHONPATH=folder))
+    return (done.returncode, done.stderr), (-2, b'')
+
+
 def memory() -> Tuple[object, object]:
     """Over a mapped file of 160 MiB no command holds more than a part of it. From Python 3.8 on."""
     if sys.version_info < (3, 8):
@@ -245,4 +255,4 @@ def syntax() -> Tuple[object, object]:
 
 
 TRIALS: List[Callable] = [damaged_front, within_another, once_wrong, counter_anew, wrong_scripts, more_lost_than_a_column_takes,
-                          inputs_of_the_shell, memory, a_disk, version, signatures, syntax]
+                          inputs_of_the_shell, interrupted_early, memory, a_disk, version, signatures, syntax]
