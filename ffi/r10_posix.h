@@ -10,7 +10,7 @@
  *     r10_close(&recorder);
  *     r10_disk_close(&disk);
  *
- * A program says `#define _GNU_SOURCE` before its first include. */
+ * A program in C says `#define _GNU_SOURCE` before its first include; g++ and clang++ say it by themselves. */
 #ifndef R10_POSIX_H
 #define R10_POSIX_H
 
