@@ -8,7 +8,7 @@ use std::path::{Path, PathBuf};
 use std::time::{Duration, Instant};
 
 use nix::sys::stat::{major, minor};
-use r10::{Disk, Error, Recorder};
+use r10::{Disk, Error, Recorder, Region};
 
 use crate::settings::Settings;
 use crate::{info, warning, watchdog};
@@ -283,9 +283,9 @@ impl Medium {
     /// Opens a recorder over the medium and mounts it. The directory is read plainly first: a block of a mapping that cannot be
     /// read ends a program.
     pub fn mount(&self) -> Result<Recorder, Refusal> {
-        let disk = self.take()?;
-        self.read_plainly(0..1 + self.directory as u64)?;
-        let mut recorder = Recorder::open(disk.into(), ROOM, &self.script)
+        let region = Region::from(self.take()?);
+        self.read_by(0..1 + self.directory as u64, |bytes, at| region.read_plainly(bytes, at))?;
+        let mut recorder = Recorder::open(region, ROOM, &self.script)
             .map_err(|(error, _)| Refusal::Wrong(format!("the recorder cannot be opened: {error}")))?;
         match recorder.mount() {
             Ok(()) => (),
@@ -314,13 +314,13 @@ impl Medium {
     }
 
     /// Reads blocks into nothing, so that one that cannot be read is found and named, where a mapping would end the program. What
-    /// was read stays in the system's cache.
-    pub fn read_plainly(&self, blocks: Range<u64>) -> Result<(), Refusal> {
-        let failed = |it: io::Error| Refusal::Failed(format!("the medium {} cannot be read: {it}", self.name()));
-        let file = File::open(&self.path).map_err(failed)?;
-        match first_unreadable(blocks.start * 512..blocks.end.min(self.blocks as u64) * 512, |bytes, at| {
-            file.read_exact_at(bytes, at)
-        }) {
+    /// was read stays in the system's cache. What is read is what is recorded on, whatever has the medium's path meanwhile.
+    pub fn read_plainly(&self, recorder: &Recorder, blocks: Range<u64>) -> Result<(), Refusal> {
+        self.read_by(blocks, |bytes, at| recorder.read_plainly(bytes, at))
+    }
+
+    fn read_by(&self, blocks: Range<u64>, read: impl Fn(&mut [u8], u64) -> io::Result<()>) -> Result<(), Refusal> {
+        match first_unreadable(blocks.start * 512..blocks.end.min(self.blocks as u64) * 512, read) {
             None => Ok(()),
             Some((block, error)) => Err(Refusal::Failed(format!(
                 "block {block} of the medium {} cannot be read: {error}; record on another disk, and copy this one with ddrescue",

@@ -235,9 +235,10 @@ impl Owner {
 
     /// Reads a file that is closed plainly, before it is read through the mapping, and says what is wrong with it.
     pub fn read_file_plainly(&mut self, file: usize) -> Result<Option<String>, Error> {
-        let files = self.recorder.as_mut().map_or(Ok(Vec::new()), r10::Recorder::files)?;
+        let Some(recorder) = &mut self.recorder else { return Ok(None) };
+        let files = recorder.files()?;
         let Some(found) = files.get(file).filter(|it| it.closed) else { return Ok(None) };
         let first = self.medium.first_block(&files[..file]);
-        Ok(self.medium.read_plainly(first..first + found.blocks).err().map(|it| it.text().to_string()))
+        Ok(self.medium.read_plainly(recorder, first..first + found.blocks).err().map(|it| it.text().to_string()))
     }
 }

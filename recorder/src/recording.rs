@@ -1,4 +1,5 @@
 //! What is recorded: lanes go into the file, commits make it durable, files begin and end.
+use std::ops::Range;
 use std::time::Instant;
 
 use r10::{Error, Queue};
@@ -41,13 +42,18 @@ impl Owner {
         Ok(())
     }
 
+    fn read_plainly(&self, blocks: Range<u64>) -> Result<(), Trouble> {
+        let Some(recorder) = &self.recorder else { return Ok(()) };
+        self.medium.read_plainly(recorder, blocks).map_err(|it| Trouble::Failed(it.text().to_string()))
+    }
+
     /// Reads plainly what the next step of a pump may write: it has to be within three quarters of [`AHEAD`].
     fn read_ahead(&mut self) -> Result<(), Trouble> {
         let blocks = self.settings.blocks as u64;
         let end = blocks.saturating_sub(self.recorder()?.status()?.free / 512);
         while self.ahead < blocks && end + AHEAD / 4 * 3 > self.ahead {
             let to = self.ahead + AHEAD;
-            self.medium.read_plainly(self.ahead..to).map_err(|it| Trouble::Failed(it.text().to_string()))?;
+            self.read_plainly(self.ahead..to)?;
             self.ahead = to;
         }
         Ok(())
@@ -131,7 +137,7 @@ impl Owner {
         self.tick()?;
         let files = self.recorder()?.files()?;
         let first = self.medium.first_block(&files);
-        self.medium.read_plainly(first..first + AHEAD).map_err(|it| Trouble::Failed(it.text().to_string()))?;
+        self.read_plainly(first..first + AHEAD)?;
         self.ahead = first + AHEAD;
         let name = name.map_or_else(|| fresh_name(&self.settings.prefix, &files), str::to_string);
         self.medium.keep(true);

@@ -25,7 +25,7 @@ impl Owner {
             && (cut.is_some() || self.lanes.iter().any(|it| !it.pending.is_empty()))
         {
             let first = self.medium.first_block(&files[..files.len() - 1]);
-            self.medium.read_plainly(first..first + file.blocks)?;
+            self.medium.read_plainly(&recorder, first..first + file.blocks)?;
         }
         if let Some(file) = cut {
             match recorder.seal() {

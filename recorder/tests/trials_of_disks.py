@@ -30,16 +30,24 @@ def a_second_service(room: Room) -> str:
 
 @trial
 def a_medium_that_is_removed(room: Room) -> str:
-    """A medium that somebody removes, or puts another file in the place of, is a line of the log."""
-    service = Service(room, settings(channel(13, 'discrete', 'lines = "pipe"')))
+    """A medium that somebody removes, or puts another file in the place of, is a line of the log. It is recorded on, however much
+    comes: who moves it back has all of it."""
+    ports = room.ports(1)
+    service = Service(room, settings(udp_channels(ports)))
     service.wait_for(': recording')
     (room.folder / 'medium').rename(room.folder / 'elsewhere')
     service.wait_for('was removed, or another file is there now')
     open_files = [os.readlink(it) for it in pathlib.Path(f'/proc/{service.child.pid}/fd').iterdir()]
     must(str(room.folder / 'elsewhere') in open_files, 'the service has no such file')
+    # (blocks are read some MiB before they are written)
+    load = room.load(ports, count=300, rate=600, size=60000)
+    load.wait()
+    figures = service.until_durable(300)
+    must(figures['failures'] == 0 and figures['state'] == 'recording', f'it is not recorded on: {figures}:\n{service.log()}')
     (room.folder / 'elsewhere').rename(room.folder / 'medium')
     service.end()
-    must(len(files((room.folder / 'medium').read_bytes())) == 1, 'it is not in the medium')
+    image = (room.folder / 'medium').read_bytes()
+    must(len(files(image)) == 1 and len(entries(image, 0, 5)) == figures['channels'][0]['durable'] > 200, 'it is not in the medium')
     return 'moved, and moved back'
 
 

@@ -214,6 +214,19 @@ impl Region {
         }
     }
 
+    /// Reads bytes from this place on by a call of the system, and not through the mapping: there a block that cannot be read ends
+    /// the program. It reads what was opened, also where that has lost its name, or another file has it.
+    pub fn read_plainly(&self, bytes: &mut [u8], at: u64) -> io::Result<()> {
+        match &self.kind {
+            Kind::Disk(disk) => disk.file.read_exact_at(bytes, at),
+            Kind::Memory(_) => {
+                let from = self.bytes().get(at as usize..).and_then(|it| it.get(..bytes.len())).ok_or(io::ErrorKind::UnexpectedEof)?;
+                bytes.copy_from_slice(from);
+                Ok(())
+            }
+        }
+    }
+
     pub(crate) fn write(&mut self, block: usize, bytes: &[u8]) -> io::Result<()> {
         if let Kind::Disk(disk) = &mut self.kind {
             disk.file.write_all_at(bytes, 512 * block as u64)?;

@@ -248,6 +248,11 @@ impl Recorder {
         self.region.bytes()
     }
 
+    /// Reads the disk by a call of the system, as [`Region::read_plainly`] does. What was not settled is not there yet.
+    pub fn read_plainly(&self, bytes: &mut [u8], at: u64) -> io::Result<()> {
+        self.region.read_plainly(bytes, at)
+    }
+
     /// The next run of blocks, whose bytes come to the front of the buffer, or the next sync. A buffer has room for a block at least.
     ///
     /// It is for a program with a disk of its own, over [`Region::memory`]. Over a [`Disk`] call [`Recorder::settle`]: a run that is taken here is not done there.
