@@ -75,8 +75,9 @@ impl Medium {
         }
     }
 
-    fn name(&self) -> String {
-        self.path.display().to_string()
+    /// Its path, as an answer's line takes it.
+    pub fn name(&self) -> String {
+        self.path.display().to_string().chars().map(|it| if it.is_control() { '?' } else { it }).collect()
     }
 
     /// Whether its path is one of a device, which is there or not, and is never made.
@@ -374,6 +375,12 @@ mod tests {
         assert_eq!(danger_of(Some(512)), None);
         assert!(danger_of(Some(4096)).unwrap().starts_with("its sectors are not of 512 bytes, but of 4096: "));
         assert!(danger_of(None).unwrap().starts_with("how large its sectors are is not known: "));
+    }
+
+    #[test]
+    fn a_path_with_an_end_of_a_line_does_not_end_an_answer() {
+        let medium = Medium { path: "a\n*\nb".into(), blocks: 99, directory: 1, script: String::new() };
+        assert_eq!(medium.name(), "a?*?b");
     }
 
     #[test]

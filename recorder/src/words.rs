@@ -135,7 +135,7 @@ impl Owner {
                 let _ = writeln!(out, "{:36} {}", format!("{} {}", it.0, it.1), it.2);
                 out
             }),
-            ".MEDIUM" => format!("{} {} {}\n", self.medium.path().display(), self.settings.blocks, self.settings.directory),
+            ".MEDIUM" => format!("{} {} {}\n", self.medium.name(), self.settings.blocks, self.settings.directory),
             ".SHUTDOWN" => {
                 info!("the service was asked to end");
                 self.ending.store(true, Relaxed);
