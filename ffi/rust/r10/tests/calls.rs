@@ -203,6 +203,9 @@ fn a_refused_opening_gives_the_region_back() {
         panic!("a region of another size was taken");
     };
     assert_eq!((error, region.bytes().len()), (Error::BLOCKS, 64 * 512));
+    let mut last = [1; 8];
+    assert!(region.read_plainly(&mut last, 64 * 512 - 8).is_ok() && last == [0; 8]);
+    assert!(region.read_plainly(&mut last, 64 * 512 - 7).is_err());
 }
 
 /// Of three that make a file at the same time one does, and the others leave it to that one.
@@ -250,6 +253,13 @@ fn a_file_has_one_program() -> Result<(), Box<dyn std::error::Error>> {
     let mut recorder = Recorder::open(Disk::open(&path, 64)?.into(), 4, SCRIPT).map_err(|(error, _)| error)?;
     recorder.mount()?;
     assert_eq!(recorder.find(0, 3, 0)?.map(|(_, entry)| entry.count), Some(1001));
+    // a plain read is of what was opened, whatever its name is now
+    let (moved, mut letters) = (path.with_extension("moved"), [0; 8]);
+    std::fs::rename(&path, &moved)?;
+    recorder.read_plainly(&mut letters, 512)?;
+    assert_eq!(&letters, b"FORTYtwo");
+    assert!(recorder.read_plainly(&mut letters, 64 * 512).is_err());
+    std::fs::rename(&moved, &path)?;
     assert!(Disk::open(&path, 65).is_err());
     assert!(Disk::open(&path, 0).is_err());
     drop(recorder);
