@@ -47,7 +47,8 @@ def a_medium_that_is_removed(room: Room) -> str:
     (room.folder / 'elsewhere').rename(room.folder / 'medium')
     service.end()
     image = (room.folder / 'medium').read_bytes()
-    must(len(files(image)) == 1 and len(entries(image, 0, 5)) == figures['channels'][0]['durable'] > 200, 'it is not in the medium')
+    durable = figures['channels'][0]['durable']
+    must(len(files(image)) == 1 and len(entries(image, 0, 5)) == durable > 200, 'it is not in the medium')
     return 'moved, and moved back'
 
 

@@ -158,16 +158,20 @@ def serial_lines(room: Room) -> str:
     """Messages of a serial line (a pseudo-terminal) end at a byte, a length or a pause, and a line that goes comes back."""
     masters = []
     text = ''
-    for n, how in enumerate(('end = 10', 'length = 4', 'pause_ms = 30, baud = 115200')):
+    for n, how in enumerate(('end = 10', 'length = 4', 'pause_ms = 30, baud = 115200', 'end = 10, baud = 9600')):
         master, slave = pty.openpty()
         masters.append((master, slave))
         # (as a program left it that minds the carrier)
         modes = termios.tcgetattr(slave)
         modes[2] &= ~termios.CLOCAL
         termios.tcsetattr(slave, termios.TCSANOW, modes)
-        text += channel(10 + n, 'uart', f'serial = "{os.ttyname(slave)}", {how}')
+        path = os.ttyname(slave)
+        if n == 3:
+            (room.folder / 'plug').symlink_to(path)
+            path = 'plug'
+        text += channel(10 + n, 'uart', f'serial = "{path}", {how}')
     service = Service(room, settings(text))
-    for n in range(3):
+    for n in range(4):
         service.wait_for(f'channel {10 + n}: reads')
         must(termios.tcgetattr(masters[n][1])[2] & termios.CLOCAL, 'the line minds a carrier')
     os.write(masters[0][0], b'$A,1\n$B')
@@ -181,14 +185,29 @@ def serial_lines(room: Room) -> str:
     # what has no `length` may be long
     os.write(masters[0][0], b'$' * 3000 + b'\n')
     service.until_durable(8)
+    # a line that goes amid a message, and comes back as another device, as a plug that is pulled does
+    os.write(masters[3][0], b'whole\npart')
+    service.until_durable(9)
+    for it in masters.pop():
+        os.close(it)
+    service.wait_for('cannot be read')
+    service.until_durable(10)
+    master, slave = pty.openpty()
+    masters.append((master, slave))
+    (room.folder / 'fresh').symlink_to(os.ttyname(slave))
+    (room.folder / 'fresh').rename(room.folder / 'plug')
+    until(lambda: service.log().count('channel 13: reads') == 2, 'the line is not read again')
+    os.write(master, b'again\n')
+    service.until_durable(11)
     service.end()
-    found = {n: [bytes.fromhex(it.words[-1]) for it in entries((room.folder / 'medium').read_bytes(), 0, n)] for n in (10, 11, 12)}
+    found = {n: [bytes.fromhex(it.words[-1]) for it in entries((room.folder / 'medium').read_bytes(), 0, n)] for n in (10, 11, 12, 13)}
     must(
         found
         == {
             10: [b'$A,1\n', b'$B,2\n', b'$' * 3000 + b'\n'],
             11: [b'1234', b'5678', b'\x03\x04\r\n'],
             12: [b'first', b'second'],
+            13: [b'whole\n', b'part', b'again\n'],
         },
         f'by serial lines came {found}',
     )
