@@ -2,19 +2,24 @@
 
 `scripts/ch10.py` starts it, or `python3 -m ch10` in the folder above. The modules, each standing on those above it:
 
-    standard     numbers in bytes, names of data types, what a fault is
+    standard     numbers in bytes, what a fault is
+    kinds        the kinds of entries, a row each: names, columns, tables, and which module reads them
     medium       the directory of an image, and its files
-    packets      the packets of a recording: headers, checksums, bodies as bytes
     times        civil times, and the clock that gives each count its civil time
+    buses        what the words of buses mean
+    stamps, kind_1553, kind_arinc, kind_uart, kind_message, kind_discrete, kind_time, kind_event
+                 how the entries of each kind are read, what they mean, and their rows
+    packets      the packets of a recording: headers, checksums, bodies as bytes
     bodies       what stands in a packet's body: its entries
     clocks       what times say of a clock: jumps, steps back, drift
     tmats        the setup text: attributes, names of channels and buses
     survey       one pass over a recording: what each channel has, what was passed over, its clocks and setup text
     replay       the entries of a recording in order, in parts that stand for themselves
-    buses, fields    what entries mean, and the columns that say so
+    fields       the columns of entries
     recording    the interface for other programs: files, packets and typed entries of an input
     inputs       what a call reads and writes
-    parallel, vector    lines by several processes, and by numpy; walk, which stands on packets and bodies, finds entries by numpy
+    parallel, vector    lines by several processes, and by numpy; walk, which stands on packets and bodies, finds entries by numpy;
+                        vector_1553, vector_arinc, vector_text and vector_discrete make the lines of the kinds
     table, lines, picture, cuts, database, script    the commands
     command      the words of a call
 

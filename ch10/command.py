@@ -10,8 +10,9 @@ import sys
 from typing import Any, BinaryIO, Callable, List, NoReturn, Optional, Tuple
 
 from .inputs import Output, given
-from .range_words import add_words, run_of
-from .standard import KIND_BY_NAME, Fault, Wrong
+from .kinds import BY_NAME, KINDS
+from .range_words import add_words, filled, run_of
+from .standard import Fault, Wrong
 
 
 class Help(Exception):
@@ -63,6 +64,11 @@ COMMANDS: List[str] = []
 
 
 class Parser(argparse.ArgumentParser):
+    def format_help(self) -> str:
+        if callable(self.epilog):  # a text that is made when it is asked for
+            self.epilog = self.epilog()
+        return argparse.ArgumentParser.format_help(self)
+
     def print_help(self, file: Any = None) -> None:
         raise Help(self.format_help())
 
@@ -106,7 +112,7 @@ def parser_of() -> 'Parser':
     top.add_argument('--version', action=Version, nargs=0, help='print the version')
     commands = top.add_subparsers(metavar='COMMAND', dest='command', required=True, parser_class=Parser, help=argparse.SUPPRESS)
 
-    def command(name: str, run: Callable, about: str, more: str = '') -> argparse.ArgumentParser:
+    def command(name: str, run: Callable, about: str, more: Any = '') -> argparse.ArgumentParser:
         made = commands.add_parser(name, prog='ch10 ' + name, allow_abbrev=False, description=about, epilog=more,
                                    formatter_class=argparse.RawDescriptionHelpFormatter)
         made.set_defaults(run=run)
@@ -121,8 +127,8 @@ def parser_of() -> 'Parser':
                           help='this channel alone; may be given again for another')
 
     def with_forms(made: argparse.ArgumentParser) -> None:
-        made.add_argument('--kind', choices=sorted(KIND_BY_NAME), metavar='K',
-                          help='the entries of this kind alone, with its columns: ' + ', '.join(sorted(KIND_BY_NAME)))
+        made.add_argument('--kind', choices=sorted(BY_NAME), metavar='K',
+                          help='the entries of this kind alone, with its columns: ' + ', '.join(sorted(BY_NAME)))
         made.add_argument('--raw', action='store_true', help='the values as they stand in the packets, as r10 play prints them')
         made.add_argument('--turned-labels', action='store_true',
                           help='labels of ARINC 429 whose first bit on the bus is the lowest of the word')
@@ -157,7 +163,7 @@ def parser_of() -> 'Parser':
                    'As in: ch10 tmats --hex < SCRIPT, which is what setup = "..." takes.')
     made.add_argument('--hex', action='store_true', help='as hex digits')
     made = going_on(command('sqlite', run_of('database', 'as_sqlite'), 'Writes the entries into a new database of SQLite.',
-                            SQLITE_MORE))
+                            sqlite_more))
     made.add_argument('--out', metavar='FILE', help='where the database is to be; there must be none')
     with_channels(made)
     made.add_argument('--turned-labels', action='store_true',
@@ -203,7 +209,7 @@ SVG_MORE = """A strip for each channel: bars of entries a second (of packets, in
 entry is read), with the highest beside it, and below them in red where messages
 were lost. Damaged stretches are shaded, and jumps of the clock marked.
 """
-SQLITE_MORE = """A table for each kind: uart, message, bus1553, arinc, discrete, time and event,
+SQLITE_MORE = """A table for each kind: %s,
 with the columns of csv --kind and the file's number before them (0 of a
 recording); lost is NULL if the recording has no number. Beside them: files,
 channels, losses, damage, clocks, clock_jumps and setup.
@@ -213,6 +219,11 @@ where it is not read, its own count), and the loss report before it; before them
 stand the setup and the last time before the range. The index is left out, for
 it would name other places.
 """
+
+
+def sqlite_more() -> str:
+    names = [kind.word for kind in KINDS]
+    return filled(SQLITE_MORE % ' and '.join((', '.join(names[:-1]), names[-1])))
 
 
 def hint(words: List[str]) -> str:

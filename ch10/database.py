@@ -7,19 +7,20 @@ import os
 import sqlite3
 from typing import Dict, Iterator, List, Optional, Tuple
 
-from .bodies import BODIES
 from .clocks import TimeLine
-from .fields import KINDS, REAL, TEXT, WHOLE, Reader, type_of
+from .fields import Reader
 from .inputs import Output, is_recording, listed, shown, the_file
+from .kinds import KINDS, REAL, TEXT, WHOLE
 from .medium import File, bytes_of
 from .packets import UNTOLD
 from .replay import Ordered, Part
-from .standard import BUS, Data, Fault, Wrong
+from .standard import Data, Fault, Wrong
 from .store_schema import MOST_NUMBER
 from .survey import Survey, name_of
 
 FRONT = (('file', WHOLE), ('channel', WHOLE), ('name', TEXT), ('count', WHOLE), ('time', TEXT), ('lost', WHOLE))
-TABLES = {kind: 'bus1553' if kind == BUS else body.name for kind, body in BODIES.items() if kind in KINDS}
+TABLES = {kind.type: kind.word for kind in sorted(KINDS, key=lambda kind: kind.type)}
+COLUMNS = {kind.type: FRONT + kind.columns for kind in KINDS}
 OTHERS = (
     ('files', (('file', WHOLE), ('name', TEXT), ('closed', WHOLE), ('bytes', WHOLE), ('packets', WHOLE), ('first', WHOLE),
                ('last', WHOLE), ('first_time', TEXT),
@@ -38,16 +39,12 @@ OTHERS = (
 )
 
 
-def columns_of(kind: int) -> List[Tuple[str, str]]:
-    return list(FRONT) + [(column, type_of(kind, column)) for column in KINDS[kind]]
-
-
 def schema() -> Iterator[str]:
     """The statements that make the tables."""
     for name, columns in OTHERS:
         yield 'CREATE TABLE "%s" (%s)' % (name, ', '.join('"%s" %s' % column for column in columns))
     for kind, name in TABLES.items():
-        yield 'CREATE TABLE "%s" (%s)' % (name, ', '.join('"%s" %s' % column for column in columns_of(kind)))
+        yield 'CREATE TABLE "%s" (%s)' % (name, ', '.join('"%s" %s' % column for column in COLUMNS[kind]))
 
 
 class Database:
@@ -65,7 +62,7 @@ class Database:
             self.base.execute(line)
         self.inserts = {name: 'INSERT INTO "%s" VALUES (%s)' % (name, ', '.join('?' * len(columns))) for name, columns in OTHERS}
         for kind, name in TABLES.items():
-            self.inserts[name] = 'INSERT INTO "%s" VALUES (%s)' % (name, ', '.join('?' * len(columns_of(kind))))
+            self.inserts[name] = 'INSERT INTO "%s" VALUES (%s)' % (name, ', '.join('?' * len(COLUMNS[kind])))
 
     def add(self, table: str, rows: List[tuple]) -> None:
         self.base.executemany(self.inserts[table], rows)

@@ -3,15 +3,12 @@ binary."""
 from __future__ import annotations
 
 import struct
-import sys
-from array import array
 from typing import Any, Callable, Dict, Iterable, Iterator, List, NamedTuple, Optional, Sequence, Set, Tuple
 
-from .bodies import BUS_ENTRY, entries, stamped, whole
-from .buses import RT_TO_RT, block_1553, command_1553, errors_429, layout_1553, word_429
+from .kinds import KINDS, by_type
 from .packets import UNTOLD, Packet, loss_of, lost_before
-from .standard import ARINC, BUS, COUNT_BITS, DISCRETE, EVENT, MESSAGE, TIME, UART
-from .store_schema import COMMON, ENTRIES, MOST_NUMBER
+from .stamps import Kept
+from .store_schema import COMMON, MOST_NUMBER
 from .times import Clock
 
 DAY = 864000000000  # in units of 100 ns, as times are counted here
@@ -24,110 +21,7 @@ FIXED = {'BIGINT': ('q', 8), 'INTEGER': ('i', 4), 'SMALLINT': ('h', 2), 'BOOLEAN
 # ---- reading; each row is the count and the table's own columns, some of which stand together in a tuple that is made once
 # for each value
 
-class Kept(dict):
-    """Values by a key, each made once; begun anew where there are very many."""
-
-    def __init__(self, make: Callable[[Any], Any]) -> None:
-        dict.__init__(self)
-        self.make = make
-
-    def __missing__(self, key: Any) -> Any:
-        if len(self) > 1 << 16:
-            self.clear()
-        self[key] = made = self.make(key)
-        return made
-
-
-def block_of(both: int) -> Tuple:
-    """Of gap times and block status the bus, the errors by name, the status, and the gaps in microseconds."""
-    bus, errors = block_1553(both & 0xFFFF)
-    return bus, errors or None, both & 0xFFFF, (both >> 16 & 0xFF) / 10, (both >> 24) / 10
-
-
-COMMANDS = Kept(command_1553)
-SECONDS = Kept(lambda word: (command_1553(word)[0], command_1553(word)[2]))
-BLOCKS = Kept(block_of)
-PLACES = Kept(lambda key: layout_1553(key[0], key[1], key[2] != 0))
-NO_COMMAND, NO_SECOND, NO_STATUS = command_1553(None), (None, None), (None, None)
-
-
-def bus_rows(packet: Packet, states: Dict[int, int]) -> List[Tuple]:
-    body, at, rows, turned = packet.body, 4, [], [turned_from(packet.body, 0), None]
-    unpack, add = BUS_ENTRY.unpack_from, rows.append
-    for _ in range(packet.word & 0xFFFFFF):
-        stamp, status, gap, size = unpack(body, at)
-        if at & 1 and turned[1] is None:
-            turned[1] = b'-' + turned_from(body, 1)
-        words = turned[at & 1][at + 14:at + 14 + (size & -2)]
-        at += 14 + size
-        if words:
-            command = words[0] << 8 | words[1]
-            second, first_status, second_status = PLACES[command, len(words) >> 1, status & RT_TO_RT]
-            add((stamp & COUNT_BITS, COMMANDS[command], NO_SECOND if second is None else SECONDS[word_at(words, second)],
-                 NO_STATUS if first_status is None else STATUSES[word_at(words, first_status), word_at(words, second_status)],
-                 BLOCKS[gap << 16 | status], words))
-        else:
-            add((stamp & COUNT_BITS, NO_COMMAND, NO_SECOND, NO_STATUS, BLOCKS[gap << 16 | status], b''))
-    return rows
-
-
-STATUSES = Kept(lambda both: both)
-
-
-def word_at(words: bytes, place: Optional[int]) -> Optional[int]:
-    return None if place is None else words[2 * place] << 8 | words[2 * place + 1]
-
-
-def turned_from(body: bytes, at: int) -> bytes:
-    """The words of a body from a place on, the high byte first."""
-    turned = array('H', body[at:at + (len(body) - at & -2)])
-    if sys.byteorder == 'little':
-        turned.byteswap()
-    return turned.tobytes()
-
-
-def arinc_of(key: int) -> Tuple:
-    """Of the three bits of a header and a word: what stands in the word, and what is wrong."""
-    head, word = key >> 32 << 21, key & 0xFFFFFFFF
-    label, sdi, data, ssm, parity = word_429(word)
-    return word, data, head >> 24, sdi, ssm, parity, head >> 21 & 1 == 1, label, errors_429(head, word) or None
-
-
-WORDS_429 = Kept(arinc_of)
-
-
-def arinc_rows(packet: Packet, states: Dict[int, int]) -> List[Tuple]:
-    count, rows = packet.counter, []
-    for head, word in struct.iter_unpack('<II', whole(packet.body, 8, packet.word & 0xFFFF)):
-        count += head & 0xFFFFF
-        rows.append((count, *WORDS_429[head >> 21 << 32 | word]))
-    return rows
-
-
-MESSAGE_ERRORS = (None, 'format error', 'data error', 'data error+format error')
-
-
-def text_rows(packet: Packet, states: Dict[int, int]) -> List[Tuple]:
-    """Of UART and of message channels."""
-    if packet.kind == UART:
-        return [(count, head >> 16 & 0x3FFF, 'parity error' if head >> 31 else None, bytes(data))
-                for count, head, data in stamped(packet.body, None)]
-    return [(count, head >> 16 & 0x3FFF, MESSAGE_ERRORS[head >> 30], bytes(data))
-            for count, head, data in stamped(packet.body, packet.word & 0xFFFF)]
-
-
-def discrete_rows(packet: Packet, states: Dict[int, int]) -> List[Tuple]:
-    rows, before = [], states.get(packet.channel)
-    for stamp, value in struct.iter_unpack('<QI', packet.body[4:]):
-        rows.append((stamp & COUNT_BITS, value, None if before is None else value ^ before))
-        before = value
-    if before is not None:
-        states[packet.channel] = before
-    return rows
-
-
-def other_rows(packet: Packet, states: Dict[int, int]) -> List[Tuple]:
-    return [(count, *values) for count, values in entries(packet)]
+ROWS, STATES = by_type('rows'), by_type('last_state')
 
 
 class Table(NamedTuple):
@@ -144,10 +38,7 @@ class Table(NamedTuple):
         return [name for name, _ in COMMON] + [name for name, _ in self.columns]
 
 
-READERS = {BUS: (bus_rows, (5, 2, 2, 5, 1)), ARINC: (arinc_rows, (1,)), UART: (text_rows, (1, 1)), MESSAGE: (text_rows, (1, 1)),
-           DISCRETE: (discrete_rows,),
-           TIME: (other_rows, (1,)), EVENT: (other_rows,)}
-TABLES = {kind: Table(*ENTRIES[kind], *read) for kind, read in READERS.items()}
+TABLES = {kind.type: Table(kind.table, kind.own, ROWS[kind.type], kind.together) for kind in KINDS}
 
 
 def flat(columns: Sequence[Sequence[Any]]) -> Iterator[Sequence[Any]]:
@@ -298,8 +189,8 @@ class Reader:
                     first = lost and min(lost, MOST_NUMBER)
                     yield packet.kind, [(self.number,) * size, own[0], times(own[0]), [first] + [0] * (size - 1),
                                         (packet.channel,) * size] + own[1:]
-            elif packet.kind == DISCRETE and packet.word is not None:
-                discrete_rows(packet, self.states)
+            elif packet.kind in STATES and packet.word is not None:
+                ROWS[packet.kind](packet, self.states)  # which takes note of the last one
             self.report = loss_of(packet)
             following = packet.offset + packet.length
 

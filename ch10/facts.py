@@ -10,8 +10,9 @@ from typing import Any, Callable, Dict, List, Optional, Tuple
 
 from .bodies import counts
 from .clocks import TimeLine
+from .kinds import by_type
 from .packets import HEADER, ONE_WORD, packet_at
-from .standard import ARINC, BUS, COUNT_BITS, DISCRETE, EVENT, INDEX, LOSS, MESSAGE, SETUP, TIME, UART, Fault, Wrong, little
+from .standard import INDEX, LOSS, SETUP, TIME, Fault, Wrong, little
 from .store_schema import MOST_NUMBER
 from .survey import REPORT_ROW, Row, Survey, ends_of, name_of
 from .times import Clock, civil, time
@@ -20,6 +21,7 @@ from .tmats import Names
 PART = 1 << 20
 MOST_IN_MEMORY = 1 << 24  # bytes
 SUMS = ('losses', 'lost', 'untold', 'jumps')
+NUMBERS, LAST_COUNTS = by_type('number_in'), by_type('last_count')
 MOST_CODE = 200
 NUMBERED = re.compile(r'-[0-9]+$').search
 
@@ -202,7 +204,7 @@ class StrictSurvey:
                 else:
                     row.lost += 1
                     row.untold += 1
-            number = entries_in(data, at, size, kind, word)
+            number = NUMBERS[kind](data, at + 24, size, word) if kind in NUMBERS else 0
             if number:
                 row.entries += number
                 if row.low is None:
@@ -226,26 +228,7 @@ class StrictSurvey:
 def last_count(data: Any, at: int, begin: int, end: int) -> int:
     """The count of the last entry of a packet of a strict recording."""
     packet = packet_at(data, at, begin, end, False)
-    if packet.kind == DISCRETE:
-        return little(packet.body, len(packet.body) - 12, 8) & COUNT_BITS
-    return counts(packet)[-1]
-
-
-def entries_in(data: Any, at: int, size: int, kind: int, word: int) -> int:
-    """How many entries a packet of a strict recording has."""
-    if kind == BUS:
-        return word & 0xFFFFFF
-    if kind in (MESSAGE, ARINC):
-        return word & 0xFFFF
-    if kind == DISCRETE:
-        return (size - 4) // 12
-    if kind == UART:
-        number, at, end = 0, at + 28, at + 24 + size
-        while at < end:
-            at += 13 + (data[at + 8] | data[at + 9] << 8) & -2
-            number += 1
-        return number
-    return 1 if kind in (TIME, EVENT) else 0
+    return LAST_COUNTS[packet.kind](packet.body) if packet.kind in LAST_COUNTS else counts(packet)[-1]
 
 
 def attributes_of(names: Names) -> List[Tuple[str, str]]:

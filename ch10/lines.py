@@ -9,13 +9,14 @@ from operator import itemgetter
 from typing import Any, Callable, Dict, Iterable, Iterator, Optional, Tuple, Union
 
 from . import vector
-from .bodies import BODIES, entries
-from .fields import COLUMNS, FRONT, KINDS, REAL, TEXT, TRUTH, WHOLE, Reader, type_of
+from .bodies import entries
+from .fields import COLUMNS, FRONT, Reader
 from .inputs import Output, one_part
+from .kinds import BY_NAME, KINDS, REAL, TEXT, TRUTH, VALUE, WHOLE, Kind
 from .packets import UNTOLD, Packet
 from .parallel import LEAST, MOST, in_order, processors
 from .replay import EACH, Ordered, Part
-from .standard import KIND_BY_NAME, Data
+from .standard import Data
 from .survey import Survey, ended_fields, stretch_fields
 from .times import Range
 from .vector import Vector
@@ -25,9 +26,7 @@ from .vector import Vector
 
 RAW = ('channel', 'count', 'time', 'lost', 'type', 'value', 'sub', 'parity', 'format', 'data_error', 'bus', 'high', 'status', 'gap',
        'number', 'occurrence')
-VALUES = ('bytes', 'words', 'data', 'states', 'civil')
-TRUTHS = ('parity', 'format', 'high', 'data_error')
-NUMBERS = ('sub', 'bus', 'number', 'occurrence')
+RAW += tuple(key for kind in KINDS for key, form in kind.keys if form != VALUE and key not in RAW)
 
 
 class RawCsv:
@@ -35,11 +34,10 @@ class RawCsv:
 
     def __init__(self) -> None:
         self.forms: Dict[int, Tuple[str, Callable]] = {}
-        for kind, body in BODIES.items():
-            if body.keys:
-                places = {'value' if key in VALUES else key: place for place, key in enumerate(body.keys)}
-                columns = [column for column in RAW[5:] if column in places]
-                self.forms[kind] = (',%s,%s' % (body.name, ','.join('%s' if column in places else '' for column in RAW[5:])),
+        for kind in KINDS:
+            places = {'value' if form == VALUE else key: place for place, (key, form) in enumerate(kind.keys)}
+            columns = [column for column in RAW[5:] if column in places]
+            self.forms[kind.type] = (',%s,%s' % (kind.name, ','.join('%s' if column in places else '' for column in RAW[5:])),
                                     itemgetter(*[places[column] for column in columns]))
 
     def title(self) -> Optional[str]:
@@ -72,18 +70,17 @@ class RawJson:
 
     def __init__(self) -> None:
         self.forms: Dict[int, Tuple[dict, Callable, Callable]] = {}
-        for kind, body in BODIES.items():
-            if body.keys:
-                truths = [place for place, key in enumerate(body.keys) if key in TRUTHS]
-                others = [place for place, key in enumerate(body.keys) if key not in TRUTHS]
-                made: Dict[Any, str] = {}
-                for held in product((0, 1), repeat=len(truths)):
-                    said = dict(zip(truths, held))
-                    places = ['"%s": %s' % (key, TRUTHS_TEXT[said[place]] if place in said else '%s' if key in NUMBERS else '"%s"')
-                              for place, key in enumerate(body.keys)]
-                    made[held[0] if len(held) == 1 else held] = '"type": "%s", %s}' % (body.name, ', '.join(places))
-                of_truths: Callable = itemgetter(*truths) if truths else no_truths
-                self.forms[kind] = made, of_truths, itemgetter(*others)
+        for kind in KINDS:
+            truths = [place for place, (_, form) in enumerate(kind.keys) if form == TRUTH]
+            others = [place for place, (_, form) in enumerate(kind.keys) if form != TRUTH]
+            made: Dict[Any, str] = {}
+            for held in product((0, 1), repeat=len(truths)):
+                said = dict(zip(truths, held))
+                places = ['"%s": %s' % (key, TRUTHS_TEXT[said[place]] if place in said else '%s' if form == WHOLE else '"%s"')
+                          for place, (key, form) in enumerate(kind.keys)]
+                made[held[0] if len(held) == 1 else held] = '"type": "%s", %s}' % (kind.name, ', '.join(places))
+            of_truths: Callable = itemgetter(*truths) if truths else no_truths
+            self.forms[kind.type] = made, of_truths, itemgetter(*others)
 
     def title(self) -> Optional[str]:
         return None
@@ -122,14 +119,14 @@ class Csv(RawCsv):
 
     quote = b''
 
-    def __init__(self, reader: Reader, kind: Optional[int] = None) -> None:
-        self.reader, self.kind = reader, kind
-        self.columns = COLUMNS if kind is None else FRONT + KINDS[kind]
+    def __init__(self, reader: Reader, only: Optional[Kind] = None) -> None:
+        self.reader = reader
+        self.columns = COLUMNS if only is None else FRONT + only.names
         self.shapes = {}
-        for each, columns in KINDS.items():
-            if kind in (None, each):
-                self.shapes[each] = ',%s,%s' % (BODIES[each].name,
-                                                ','.join('%s' if column in columns else '' for column in self.columns[len(FRONT):]))
+        for kind in KINDS:
+            if only in (None, kind):
+                cells = ['%s' if column in kind.names else '' for column in self.columns[len(FRONT):]]
+                self.shapes[kind.type] = ',%s,%s' % (kind.name, ','.join(cells))
 
     def title(self) -> Optional[str]:
         return ','.join(self.columns)
@@ -167,12 +164,13 @@ class Json(RawJson):
 
     quote = b'"'
 
-    def __init__(self, reader: Reader, kind: Optional[int] = None) -> None:
+    def __init__(self, reader: Reader, only: Optional[Kind] = None) -> None:
         self.reader, self.shapes, self.makers = reader, {}, {}
-        for each, columns in KINDS.items():
-            if kind in (None, each):
-                self.shapes[each] = '"type": "%s", %s}' % (BODIES[each].name, ', '.join('"%s": %%s' % column for column in columns))
-                self.makers[each] = [CELLS[type_of(each, column)] for column in columns]
+        for kind in KINDS:
+            if only in (None, kind):
+                cells = ', '.join('"%s": %%s' % column for column in kind.names)
+                self.shapes[kind.type] = '"type": "%s", %s}' % (kind.name, cells)
+                self.makers[kind.type] = [CELLS[form] for _, form in kind.columns]
 
     def front(self, channel: int) -> str:
         return '{"channel": %d, "name": %s, "count": ' % (channel, json.dumps(self.reader.names.channel(channel) or None))
@@ -224,11 +222,11 @@ def part_lines(form: Form, ordered: Ordered, part: Part, within: Range) -> bytes
 
 def form_of(asked: Namespace, survey: Survey, is_json: bool) -> Form:
     """What the lines look like that a call asks for."""
-    kind = KIND_BY_NAME[asked.kind] if asked.kind else None
+    only = BY_NAME[asked.kind] if asked.kind else None
     if asked.raw:
         return RawJson() if is_json else RawCsv()
     reader = Reader(survey.names, asked.turned_labels)
-    return Json(reader, kind) if is_json else Csv(reader, kind)
+    return Json(reader, only) if is_json else Csv(reader, only)
 
 
 def written(asked: Namespace, data: Data, out: Output, is_json: bool) -> Tuple[Survey, int]:

@@ -12,8 +12,9 @@ from .clocks import TimeLine
 from .entry_rows import END, FRONT, TABLES, Reader, days_of, flat, packed
 from .facts import sum_of
 from .inputs import Output
+from .kinds import by_type
 from .packets import loss_of, packets
-from .standard import DISCRETE, TIME, Fault
+from .standard import TIME, Fault
 from .store import Store, StoreError, open_store, partition_of
 from .times import Clock, time
 from .workers import Pool, Task, processors
@@ -26,6 +27,8 @@ LARGE = 1 << 26  # bytes of a recording whose parts all workers read
 MOST_DAYS = 1000
 CHANGED = 'its entries are not those of the catalogue: was the file changed meanwhile?'
 SPREAD = 'its entries lie on too many days: they would take more than %d tables' % MOST_DAYS
+
+STATES = by_type('last_state')
 
 Days = FrozenSet[Tuple[str, str]]
 
@@ -61,8 +64,8 @@ class NotLoaded(Exception):
 # ---- where a recording is cut, and what has to be known at each cut
 
 class Layout:
-    """The cuts of a recording, at packets: of each where it stands, the loss report right before it, and the last states of each
-    channel of discretes."""
+    """The cuts of a recording, at packets: of each where it stands, the loss report right before it, and the last state of each
+    channel whose packets have one."""
 
     def __init__(self, data: Any, begin: int, end: int, passed: Dict[int, int]) -> None:
         self.cuts: List[Tuple[int, Optional[Tuple[int, int]], Dict[int, int]]] = []
@@ -77,8 +80,10 @@ class Layout:
             if packet.kind == TIME and packet.word is not None:
                 lines.setdefault(packet.channel, TimeLine(packet.channel)).add(packet.counter, time(packet.body, packet.word),
                                                                                packet.offset)
-            elif packet.kind == DISCRETE and packet.word is not None and len(packet.body) > 4:
-                states[packet.channel] = int.from_bytes(packet.body[-4:], 'little')
+            elif packet.kind in STATES and packet.word is not None:
+                state = STATES[packet.kind](packet.body)
+                if state is not None:
+                    states[packet.channel] = state
         told = [line for line in lines.values() if line.told]
         self.clock = Clock(told) if told else None
         self.end = end - begin

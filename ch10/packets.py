@@ -5,8 +5,8 @@ import struct
 from collections import namedtuple
 from typing import Dict, Iterator, List, NamedTuple, Optional, Set, Tuple
 
-from .standard import (EVENT, INDEX, KNOWN, LOSS, MESSAGE, PATTERN, REPORT, SETUP, SPAN, SUMS, SYNC, TIME, UART, WIDTHS, Data,
-                       Fault, Key, Whose, find, let_go, little)
+from .kinds import KINDS, by_type
+from .standard import INDEX, LOSS, PATTERN, REPORT, SETUP, SPAN, SUMS, SYNC, WIDTHS, Data, Fault, Key, Whose, find, let_go, little
 
 HEADER = struct.Struct('<HHIIBBBBIHH')
 HEADER_WORDS = struct.Struct('<11H')
@@ -91,14 +91,9 @@ def need_sum(data: Data, at: int, length: int, size: int, check: int, here: int,
         raise Fault('a wrong data checksum', here, length, whose)
 
 
-# Of some types, whether a body's word selects a form that is not read here.
-FORMS = {
-    MESSAGE: lambda word, size: word & 0x30000,
-    UART: lambda word, size: not word >> 31,
-    INDEX: lambda word, size: word & 0x60000000,
-    TIME: lambda word, size: not word & 0x200 and size < 10,
-    EVENT: lambda word, size: word >> 31 and size < 4 + 20 * (word & 0xFFF),
-}
+# The types that are read, and of some of them whether a body's word selects a form that is not.
+KNOWN = frozenset([SETUP, INDEX] + [kind.type for kind in KINDS])
+FORMS = {INDEX: lambda word, size: word & 0x60000000, **by_type('is_other_form')}
 
 
 # ---- going on after damage

@@ -8,6 +8,8 @@ import os
 import re
 from typing import Any, Callable
 
+from .kinds import KINDS
+
 VERDICTS = ('strict', 'lenient', 'faulty', 'unjudged')
 
 DATABASE = """The database is a file of SQLite (--db range.sqlite) or a server of PostgreSQL
@@ -57,9 +59,18 @@ def run_of(module: str, name: str) -> Callable[..., None]:
 LOAD_MORE = """What is not in the catalogue is added first. The entries of a channel of a
 recording are loaded once: given again they are no second ones, and what a run
 that was stopped had not loaded whole it had not loaded at all. The tables:
-entry_1553, entry_arinc, entry_uart, entry_message, entry_discrete, entry_time,
-entry_event.
+%s.
 """
+
+
+def load_more() -> str:
+    return filled(LOAD_MORE % ', '.join(kind.table for kind in KINDS)) + DATABASE
+
+
+def filled(text: str) -> str:
+    """A text in lines as those of other help."""
+    import textwrap  # read when it is asked for
+    return textwrap.fill(text, 80) + '\n'
 
 
 REPORT_MORE = """As in: ch10 report flight/*.ch10 > report.html. It has an overview, a time line
@@ -102,7 +113,7 @@ def sum_front(word: str) -> str:
 
 def add_words(commands: Any, Parser: Any, channel_number: Callable[[str], int]) -> None:
     """Registers the commands with those of a call."""
-    def command(of: Any, name: str, run: Any, about: str, more: str) -> Any:
+    def command(of: Any, name: str, run: Any, about: str, more: Any) -> Any:
         made = of.add_parser(name.split(' ')[-1], prog='ch10 ' + name, allow_abbrev=False, description=about, epilog=more,
                              formatter_class=argparse.RawDescriptionHelpFormatter)
         made.set_defaults(run=run, opens=True)
@@ -162,7 +173,7 @@ def add_words(commands: Any, Parser: Any, channel_number: Callable[[str], int]) 
                       help='JSON lines: one each for the recording, its places, channels, damaged stretches and attributes')
 
     made = command(commands, 'load', run_of('load', 'load'),
-                   'Puts the entries of recordings into tables of a database, one for each kind.', LOAD_MORE + DATABASE)
+                   'Puts the entries of recordings into tables of a database, one for each kind.', load_more)
     made.add_argument('inputs', nargs='+', metavar='INPUT', help='a recording, an image, or a folder')
     with_database(made)
     made.add_argument('--channel', type=channel_number, metavar='C', action='append',

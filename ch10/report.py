@@ -9,15 +9,17 @@ from collections import Counter
 from html import escape
 from typing import Any, Dict, Iterable, List, NamedTuple, Optional, Sequence, Tuple
 
-from .bodies import BUS_ENTRY, whole
 from .buses import ERRORS_1553, command_1553, word_429
 from .catalogue import Input, image_tasks, inputs_of, line_of, opened, title, unread
 from .facts import facts_of, nothing_in, program_of, verdict_of_image
 from .find import lost_text, verdict_text
 from .inputs import Output, is_recording
+from .kind_1553 import BUS_ENTRY
+from .kinds import ARINC, BUS
 from .packets import packets
 from .picture import Picture, marks
-from .standard import ARINC, BUS, Fault, Wrong
+from .stamps import whole
+from .standard import Fault, Wrong
 from .survey import Survey, ends_of, name_of
 from .table import clock_lines, said
 from .timeline import timeline

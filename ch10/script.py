@@ -6,13 +6,10 @@ import re
 from typing import Dict, Iterator, List, Tuple
 
 from .inputs import Output
-from .standard import Data, Fault
+from .kinds import BY_NAME, KINDS, Kind
+from .standard import TIME, Data, Fault
 
-# Of each kind of channel its channel data type, the attribute of its format with the format that r10 writes, and the group that
-# describes what it carries.
-KINDS = {'uart': ('UARTIN', 'UTF', 0, 'S'), '1553': ('1553IN', 'BTF', 1, 'B'), 'arinc': ('429IN', 'ABTF', 0, 'B'),
-         'discrete': ('DISIN', 'DTF', 1, ''),
-         'message': ('MSGIN', 'MTF', 0, 'S')}
+OF_SCRIPTS = {kind.name for kind in KINDS if kind.tmats and kind.type != TIME}
 LINE = re.compile(r'\s*(?:"(\w+)"|(\w+))\s*=\s*(?:"([^"]*)"|([0-9][0-9_]{0,30})|([^#]*?))\s*(?:#.*)?$')
 
 
@@ -57,7 +54,7 @@ def attributes_of(text: str) -> Iterator[Tuple[str, object]]:
     if any(mark in volume for mark in ';:\r\n'):
         raise Fault('the volume has a mark that a setup text cannot have in a value')
     for channel in channels:
-        if not isinstance(channel.get('kind'), str) or channel['kind'] not in KINDS or not is_whole(channel.get('id')):
+        if not isinstance(channel.get('kind'), str) or channel['kind'] not in OF_SCRIPTS or not is_whole(channel.get('id')):
             raise Fault('no script: a channel without an id, or of no kind that r10 has')
     yield 'G\\PN', volume
     yield 'G\\106', 17
@@ -69,16 +66,17 @@ def attributes_of(text: str) -> Iterator[Tuple[str, object]]:
     yield 'R-1\\N', 1 + len(channels)
     yield 'R-1\\EV\\E', 'T'
     yield 'R-1\\IDX\\E', 'T'
-    yield from track(1, clock, 'TIME', 'TIMEIN', 'TTF', 1)
+    yield from track(1, clock, 'TIME', BY_NAME['time'])
     links, groups = [], {'B': 0, 'S': 0}
     for number, channel in enumerate(channels, 2):
-        kind, format_name, form, group = KINDS[channel['kind']]
+        kind = BY_NAME[channel['kind']]
         name = '%s-%d' % (channel['kind'].upper(), channel['id'])
-        yield from track(number, channel['id'], name, kind, format_name, form)
+        yield from track(number, channel['id'], name, kind)
+        group = kind.tmats['group']
         if group:
             yield 'R-1\\CDLN-%d' % number, name
             groups[group] += 1
-            links += list(link('%s-%d' % (group, groups[group]), name, channel, tables))
+            links += list(link('%s-%d' % (group, groups[group]), name, channel['id'], kind, tables))
     yield from links
 
 
@@ -95,27 +93,27 @@ def buses_of(channel: int, tables: Dict[str, List[dict]]) -> List[int]:
     return sorted({item.get('bus', 0) for item in items if is_whole(item.get('bus', 0))}) or [0]
 
 
-def track(number: int, channel: int, name: str, kind: str, format_name: str, form: int) -> Iterator[Tuple[str, object]]:
+def track(number: int, channel: int, name: str, kind: Kind) -> Iterator[Tuple[str, object]]:
     yield 'R-1\\TK1-%d' % number, channel
     yield 'R-1\\CHE-%d' % number, 'T'
     yield 'R-1\\DSI-%d' % number, name
-    yield 'R-1\\CDT-%d' % number, kind
-    yield 'R-1\\%s-%d' % (format_name, number), form
+    yield 'R-1\\CDT-%d' % number, kind.tmats['data_type']
+    yield 'R-1\\%s-%d' % (kind.tmats['format_name'], number), kind.tmats['format']
 
 
-def link(group: str, name: str, channel: dict, tables: Dict[str, List[dict]]) -> Iterator[Tuple[str, object]]:
+def link(group: str, name: str, channel: int, kind: Kind, tables: Dict[str, List[dict]]) -> Iterator[Tuple[str, object]]:
     """The attributes of what a channel carries: its buses, or its stream of messages."""
     yield group + '\\DLN', name
     if group.startswith('S'):
         yield group + '\\NS\\N', 1
         yield group + '\\SNA-1', name
         return
-    buses = buses_of(channel['id'], tables) if channel['kind'] == 'arinc' else [0]
+    buses = buses_of(channel, tables) if kind.has_buses else [0]
     yield group + '\\NBS\\N', len(buses)
     for place, bus in enumerate(buses, 1):
         yield '%s\\BID-%d' % (group, place), bus
-        yield '%s\\BNA-%d' % (group, place), name if channel['kind'] == '1553' else '%s-%s' % (name, bus)
-        yield '%s\\BT-%d' % (group, place), '1553' if channel['kind'] == '1553' else 'A429'
+        yield '%s\\BNA-%d' % (group, place), '%s-%s' % (name, bus) if kind.has_buses else name
+        yield '%s\\BT-%d' % (group, place), kind.tmats['bus_type']
 
 
 def as_tmats(asked: Namespace, data: Data, out: Output) -> None:

@@ -1,5 +1,5 @@
-"""What the other modules share: what a fault is, numbers in bytes, and the names of the types of data that IRIG 106-17, chapter 11,
-has."""
+"""What the other modules share: what a fault is, numbers in bytes, and those types of data of IRIG 106-17, chapter 11, that are no
+kinds of channels (`ch10.kinds`), or more than that."""
 from __future__ import annotations
 
 import mmap
@@ -89,11 +89,9 @@ def digits(data: bytes) -> str:
 
 SYNC = 0xEB25
 PATTERN = b'\x25\xeb'  # its bytes
-LOSS, SETUP, EVENT, INDEX, TIME, BUS, DISCRETE, MESSAGE, ARINC, UART = 0x00, 0x01, 0x02, 0x03, 0x11, 0x19, 0x29, 0x30, 0x38, 0x50
+LOSS, SETUP, EVENT, INDEX, TIME = 0x00, 0x01, 0x02, 0x03, 0x11
 REPORT = bytes(4) + b'LOSS'  # what the body of a loss report begins with
 WIDTHS = (0, 1, 2, 4)
 SUMS = (None, 'B', 'H', 'I')
 COUNT_BITS = (1 << 48) - 1
 NONE_LATER = (1 << 64) - 1
-KIND_BY_NAME = {'time': TIME, 'event': EVENT, 'uart': UART, '1553': BUS, 'arinc': ARINC, 'discrete': DISCRETE, 'message': MESSAGE}
-KNOWN = frozenset((SETUP, EVENT, INDEX, TIME, BUS, DISCRETE, MESSAGE, ARINC, UART))

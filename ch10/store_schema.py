@@ -6,6 +6,7 @@ from __future__ import annotations
 
 from typing import List, NamedTuple, Sequence
 
+from .kinds import KINDS
 
 MOST_NUMBER = (1 << 63) - 1  # that a BIGINT takes
 CASE = str.maketrans('ABCDEFGHIJKLMNOPQRSTUVWXYZ', 'abcdefghijklmnopqrstuvwxyz')  # as lower() of both engines, for no other letters
@@ -138,31 +139,15 @@ LOADED = """CREATE TABLE loaded (
 COMMON = (('recording', 'BIGINT NOT NULL'), ('count', 'BIGINT NOT NULL'), ('time', '{time}'), ('lost', 'BIGINT'),
           ('channel', 'INTEGER NOT NULL'))
 
-# By data type the table and its own columns, with the names of `ch10 csv` where they are the same; those that may be NULL or vary
-# in length at the end.
-ENTRIES = {
-    0x19: ('entry_1553', (('rt', 'SMALLINT'), ('tr', '{text}'), ('sa', 'SMALLINT'), ('wc', 'SMALLINT'), ('mode', 'SMALLINT'),
-                          ('rt2', 'SMALLINT'), ('sa2', 'SMALLINT'),
-                          ('status1', 'INTEGER'), ('status2', 'INTEGER'), ('bus', '{text}'), ('errors', '{text}'),
-                          ('block_status', 'INTEGER'), ('gap1', 'REAL'),
-                          ('gap2', 'REAL'), ('words', '{bytes}'))),
-    0x38: ('entry_arinc',
-           (('word', 'BIGINT'), ('data', 'INTEGER'), ('bus', 'SMALLINT'), ('sdi', 'SMALLINT'), ('ssm', 'SMALLINT'),
-            ('parity', 'SMALLINT'),
-            ('high', 'BOOLEAN'), ('label', '{text}3'), ('errors', '{text}'))),
-    0x50: ('entry_uart', (('sub', 'SMALLINT'), ('errors', '{text}'), ('value', '{bytes}'))),
-    0x30: ('entry_message', (('sub', 'SMALLINT'), ('errors', '{text}'), ('value', '{bytes}'))),
-    0x29: ('entry_discrete', (('states', 'BIGINT'), ('changed', 'BIGINT'))),
-    0x11: ('entry_time', (('value', '{text}'),)),
-    0x02: ('entry_event', (('number', 'SMALLINT'), ('occurrence', 'INTEGER'))),
-}
+# By data type the table and its own columns, with the names of `ch10 csv` where they are the same.
+ENTRIES = {kind.type: (kind.table, kind.own) for kind in KINDS}
 
 
-def entry_tables(partitioned: bool) -> List[str]:
-    """The statements that make the tables of entries; in PostgreSQL with a partition for entries without a date, beside those of
-    days."""
+def entry_tables(step: int, partitioned: bool) -> List[str]:
+    """The statements of a step that make its tables of entries; in PostgreSQL with a partition for entries without a date, beside
+    those of days."""
     made = []
-    for name, columns in ENTRIES.values():
+    for name, columns in [(kind.table, kind.own) for kind in KINDS if kind.step == step]:
         made.append('CREATE TABLE %s (%s)%s' % (
             name, ', '.join('%s %s' % column for column in COMMON + columns), ' PARTITION BY RANGE (time)' if partitioned else ''))
         if partitioned:
@@ -190,6 +175,8 @@ QUESTIONS = (
 
 MIGRATIONS = (
     Migration(1, 'catalogue', (RECORDING, PLACE, CHANNEL, DAMAGE, ATTRIBUTE) + INDEXES),
-    Migration(2, 'entries', (LOADED,), postgresql=entry_tables(True), sqlite=entry_tables(False)),
+    Migration(2, 'entries', (LOADED,), postgresql=entry_tables(2, True), sqlite=entry_tables(2, False)),
     Migration(3, 'questions', QUESTIONS),
-)
+) + tuple(  # a table for each kind that is newer
+    Migration(step, 'entries', (), postgresql=entry_tables(step, True), sqlite=entry_tables(step, False))
+    for step in sorted({kind.step for kind in KINDS if kind.step > 3}))

@@ -7,11 +7,13 @@ from typing import Dict, List, Optional, Tuple
 from . import walk
 from .bodies import BODIES
 from .clocks import TimeLine
+from .kinds import by_type
 from .packets import UNTOLD, Packet, Resync, Stretch, loss_of, lost_before, packet_at
-from .standard import DISCRETE, INDEX, NONE_LATER, SETUP, SPAN, TIME, Damaged, Data, Fault, let_go
+from .standard import INDEX, NONE_LATER, SETUP, SPAN, TIME, Damaged, Data, Fault, let_go
 from .times import Clock, Time, time
 from .tmats import Names
 
+STATES = by_type('last_state')
 REPORT_ROW = 0x100  # in place of its data type, 0x00, which others have for something else
 FAMILIES = {0x00: 'computer', 0x08: 'pcm', 0x10: 'time', 0x18: '1553', 0x20: 'analog', 0x28: 'discrete', 0x30: 'message',
             0x38: 'arinc',
@@ -107,7 +109,7 @@ class Survey:
         self.fault: Optional[Fault] = None
         self.setup: Optional[bytes] = None
         self.lows, self.highs, self.places = array('Q'), array('Q'), array('Q')
-        self.states: List[Tuple[int, int, bytes]] = []  # of each packet of discretes its number, its channel and its last states
+        self.states: List[Tuple[int, int, int]] = []  # of each packet that has one its number, its channel and its last state
         self.times: List[TimeLine] = []
         self.by_key: Dict[Tuple[int, int], Row] = {}
         self.size = self.go(data, begin, end, goes_on)
@@ -190,8 +192,8 @@ class Survey:
                 line = TimeLine(packet.channel)
                 self.times.append(line)
             line.add(packet.counter, said, packet.offset)
-        elif kind == DISCRETE and number:
-            self.states.append((len(self.lows), packet.channel, bytes(packet.body[-4:])))
+        elif kind in STATES and number:
+            self.states.append((len(self.lows), packet.channel, STATES[kind](packet.body)))
         elif kind == SETUP and packet.word is not None and self.setup is None:
             self.setup = bytes(packet.body[4:])
         self.lows.append(low)

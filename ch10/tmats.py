@@ -5,8 +5,6 @@ import re
 from collections import OrderedDict
 from typing import Dict, Iterator, List, Optional, Tuple
 
-from .standard import ARINC, BUS, DISCRETE, MESSAGE, TIME, UART
-
 MOST_NAME = 40
 ATTRIBUTE = re.compile(r'[A-Z](-[0-9]+)?\\[^\s;:]+$').match
 TRACK = re.compile(r'(R-[0-9]+)\\TK1-([0-9]+)$').match
@@ -16,7 +14,6 @@ LINK = re.compile(r'(B-[0-9]+)\\DLN$').match
 FAMILY = {'TIMEIN': 0x10, 'PCMIN': 0x08, '1553IN': 0x18, 'ANAIN': 0x20, 'DISIN': 0x28, 'MSGIN': 0x30, '429IN': 0x38, 'VIDIN': 0x40,
           'IMGIN': 0x48, 'UARTIN': 0x50,
           '1394IN': 0x58, 'PARIN': 0x60, 'ETHIN': 0x68, 'TSPIN': 0x70, 'CANIN': 0x78}
-TYPES = {TIME: 'TIMEIN', BUS: '1553IN', DISCRETE: 'DISIN', MESSAGE: 'MSGIN', ARINC: '429IN', UART: 'UARTIN'}
 
 
 def attributes(data: bytes) -> 'OrderedDict[str, str]':

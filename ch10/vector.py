@@ -3,18 +3,23 @@
 A line is a row of pieces. The lines of some entries are given their places in one array of bytes first; then each piece of all of
 them is written, from left to right, but for the fronts of lines, which are written last. So a piece may be written with some bytes
 too many. What is rare is left to the plain way: types with few entries, and bodies of very long messages.
+
+What is of one kind is in a module of its own (`ch10.kinds` names it), which is read where numpy is there. It has these functions:
+
+    entries(vector, kind, packets)   the entries of some packets, a `Block`, and those packets that are left to the plain way;
+                                     of each packet its number, itself, and what was lost before it
+    pieces(vector, kind, block)      the pieces of the lines of such a block, from what was lost on
 """
 from __future__ import annotations
 
 from binascii import hexlify
+from importlib import import_module
 from typing import Any, Callable, Dict, Iterator, List, Optional, Tuple, Union, TYPE_CHECKING
 
 from . import walk
-from .buses import FLAGS_1553, ODD, RT_TO_RT, TURNED, block_1553, changed_bits, command_1553, named
-from .fields import MESSAGE_ERRORS
 from .inputs import HELD
+from .kinds import KINDS
 from .replay import Ordered, Part
-from .standard import ARINC, BUS, COUNT_BITS, DISCRETE, MESSAGE, UART
 from .times import DAY, civil
 from .walk import Array
 
@@ -33,10 +38,8 @@ def is_ready(size: int) -> bool:
 
 
 LONGEST = 512  # bytes of a text that are taken together; longer ones go the plain way
-SHORT = 64  # bytes of a text, of those that are written by themselves
 EACH = 4 << 20  # bytes of packets that a part has, or more
 TOGETHER = 40000  # entries whose lines are made at once
-MOST_WORDS = 40
 ROOM = bytes(4 * LONGEST)  # after bytes that pieces are parts of
 SECOND = 10 ** 7
 LAST_DAY = {True: 3652059, False: 366}
@@ -273,13 +276,10 @@ class Vector:
     def __init__(self, form: Meant, ordered: Ordered) -> None:
         self.form, self.ordered = form, ordered
         self.joints = {kind: [part.encode() for part in shape.split('%s')] for kind, shape in form.shapes.items()}
-        self.kinds = {UART: (self.texts, self.text_pieces), MESSAGE: (self.texts, self.text_pieces),
-                      BUS: (self.messages, self.message_pieces),
-                      ARINC: (self.words, self.word_pieces), DISCRETE: (self.states, self.state_pieces)}
+        self.kinds = {kind.type: import_module('.' + kind.vector, __package__) for kind in KINDS if kind.vector}
         self.tables: Dict[tuple, Table] = {}
         self.decimals = Decimals()
         self.sheet = Sheet()
-        self.places: Optional[Tuple[Array, Array]] = None  # by the command word of a bus
         self.codes: Dict[int, int] = {0: 0}  # of how many were lost; and the other way
         self.losses: List[int] = [0]
         self.numbers: Dict[int, int] = {}  # of channels; and the other way
@@ -302,7 +302,7 @@ class Vector:
         blocks: Dict[int, Block] = {}
         for kind in list(groups):
             while groups[kind]:
-                block, left = self.kinds[kind][0](kind, groups[kind])
+                block, left = self.kinds[kind].entries(self, kind, groups[kind])
                 plain += left
                 if not left:
                     break
@@ -332,7 +332,7 @@ class Vector:
 
     def page(self, blocks: Dict[int, Block], plain: tuple) -> Array:
         """The lines of some entries, as one array, which holds until the next one is made."""
-        made = [(block, self.front(block), self.kinds[kind][1](kind, block)) for kind, block in blocks.items()]
+        made = [(block, self.front(block), self.kinds[kind].pieces(self, kind, block)) for kind, block in blocks.items()]
         fronts = [sum_of(front, len(block.count)) for block, front, _ in made]
         lengths = [front + sum_of(pieces, len(front)) for (_, _, pieces), front in zip(made, fronts)]
         lengths.append(numpy.array([len(line) for line in plain[3]], numpy.int64))
@@ -461,10 +461,9 @@ class Vector:
             said += self.joints[kind][place] + self.form.cell(kind, place, value).encode('utf-8', 'replace')
         return said
 
-    # ---- UART and messages
-
     def walked(self, kind: int, packets: List[tuple], even_ends: bool) -> Tuple[bytes, Block]:
-        """The bodies of some packets put end to end, with zeros after the last, and their entries."""
+        """The bodies of some packets put end to end, with zeros after the last, and their entries, which have their lengths in
+        them."""
         bodies, starts, ends, at = [], [], [], 0
         for _, packet, _ in packets:
             body = packet.body
@@ -482,257 +481,6 @@ class Vector:
         block.columns['place'] = places
         block.count = walk.stamps(octets, places) if len(places) else places
         return data, block
-
-    def texts(self, kind: int, packets: List[tuple]) -> Tuple[Block, List[tuple]]:
-        """Entries of UART or of messages, and the packets with an entry that is too long."""
-        data, block = self.walked(kind, packets, False)
-        octets = numpy.frombuffer(data, numpy.uint8)
-        places = block.columns['place']
-        if not len(places):
-            return block, []
-        heads = walk.wide_view(octets, 4)[places + 8].view('<u4').astype(numpy.int64)
-        sizes = heads & 0xFFFF
-        long = numpy.unique(block.of[sizes > LONGEST])
-        if len(long):
-            return block, [packets[place] for place in long.tolist()]
-        classes = numpy.frombuffer(data.translate(CLASSES), numpy.uint8)
-        ends = numpy.stack([places + 12, places + 12 + sizes], 1).reshape(-1)
-        found = numpy.where(sizes > 0, numpy.bitwise_or.reduceat(classes, ends)[::2], 8)
-        prints = found & 8 == 0
-        is_json = bool(self.form.quote)
-        turned, wraps = prints & (found & 5 != 0), prints & (found & 3 != 0) & (not is_json)
-        starts, lengths = places + 12, numpy.where(prints, sizes, 0)
-        source, rest = data, numpy.flatnonzero(turned)
-        if len(rest):
-            escapes = JSON_ESCAPES if is_json else CSV_ESCAPES
-            texts = [data[start:start + size].decode('ascii').translate(escapes).encode('ascii')
-                     for start, size in zip(starts[rest].tolist(), sizes[rest].tolist())]
-            source = b''.join([data] + texts + [ROOM])
-            sizes_of = numpy.array([len(text) for text in texts], numpy.int64)
-            starts[rest], lengths[rest] = len(data) + numpy.cumsum(sizes_of) - sizes_of, sizes_of
-        block.columns.update(head=heads, size=sizes, wraps=wraps.astype(numpy.int64), start=starts, length=lengths)
-        self.sources[kind] = numpy.frombuffer(hexlify(data), numpy.uint8), numpy.frombuffer(source, numpy.uint8)
-        return block, []
-
-    def text_pieces(self, kind: int, block: Block) -> List[Piece]:
-        form, joints, columns = self.form, self.joints[kind], block.columns
-        quote, wrap = form.quote, form.quote or b'"'
-        sizes, lengths, wraps = columns['size'], columns['length'], columns['wraps']
-        digits, letters = self.sources[kind]
-
-        def last(key: int) -> bytes:
-            errors = MESSAGE_ERRORS[key >> 14 & 3] if kind == MESSAGE else ('', 'parity error')[key >> 15 & 1]
-            return (wrap if key >> 16 else quote) + joints[2] + self.cells(kind, 2, (key & 0x3FFF, errors)) + joints[4] + b'\n'
-
-        return [self.lost(kind, block, quote), Piece(digits, 2 * (columns['place'] + 12), 2 * int(sizes.max()), 2 * sizes),
-                self.table(('text', kind), lambda key: quote + joints[1] + (wrap if key else quote)).pieces(wraps),
-                Piece(letters, columns['start'], int(lengths.max()), lengths),
-                self.table(('last', kind), last).pieces(columns['head'] >> 16 | wraps << 16)]
-
-    # ---- MIL-STD-1553
-
-    def messages(self, kind: int, packets: List[tuple]) -> Tuple[Block, List[tuple]]:
-        """Messages, and the packets with one that is too long or stands at an odd place."""
-        data, block = self.walked(kind, packets, True)
-        places = block.columns['place']
-        if not len(places):
-            return block, []
-        words = numpy.frombuffer(data, '<u2', len(data) // 2)
-        at = places >> 1
-        number = (words[at + 6] >> 1).astype(numpy.int64)
-        is_left = (number > MOST_WORDS) | (places & 1 != 0)
-        if is_left.any():
-            return block, [packets[place] for place in numpy.unique(block.of[is_left]).tolist()]
-        status, gap = words[at + 4].astype(numpy.int64), words[at + 5].astype(numpy.int64)
-        at += 7
-        has = number > 0
-        command = words[at].astype(numpy.int64) * has
-        second, one, two = self.layout(command, number, status)
-        first = 1 + (one == 1)
-        between = numpy.flatnonzero(second == 1)
-        first[between] = 2 + (number[between] > 2)
-        hole = numpy.where(two >= 0, two, numpy.where(one >= first, one, number))
-        many, rest = hole - first * has, numpy.maximum(number - hole - 1, 0)
-
-        def word(place: Array) -> Array:
-            return numpy.where(place >= 0, words[at + numpy.maximum(place, 0)], 1 << 16).astype(numpy.int64)
-
-        self.sources[kind] = numpy.frombuffer(hexlify(words.byteswap()), numpy.uint8)
-        block.columns.update(start=4 * (at + first), many=many, then=4 * (at + hole + 1), rest=rest, number=number,
-                             status=status, gap=gap,
-                             command=command, other=word(second) if len(between) else numpy.full(len(number), 1 << 16),
-                             one=word(one),
-                             two=word(two) if len(between) else numpy.full(len(number), 1 << 16))
-        return block, []
-
-    def layout(self, command: Array, number: Array, status: Array) -> Tuple[Array, Array, Array]:
-        """Where the second command word and the status words stand, or -1: as `ch10.buses.layout_1553`."""
-        if self.places is None:
-            every = numpy.arange(1 << 16)
-            rt, sends, sa, low = every >> 11, every >> 10 & 1, every >> 5 & 31, every & 31
-            size = numpy.where(low == 0, 32, low)
-            one = numpy.where(sends == 1, 1, 1 + numpy.where((sa == 0) | (sa == 31), low >> 4, size))
-            self.places = numpy.where(rt == 31, LAST, one), numpy.where(rt == 31, LAST, 3 + size)
-        one, second, two = self.places[0][command], numpy.full(len(command), -1), numpy.full(len(command), -1)
-        one[one >= number] = -1
-        between = numpy.flatnonzero((status & RT_TO_RT != 0) & (number > 1))
-        if len(between):
-            number, last = number[between], self.places[1][command[between]]
-            second[between] = 1
-            one[between] = numpy.where(number > 2, 2, -1)
-            two[between] = numpy.where(number > last, last, -1)
-        return second, one, two
-
-    def message_pieces(self, kind: int, block: Block) -> List[Piece]:
-        form, joints, columns, reader = self.form, self.joints[kind], block.columns, self.form.reader
-        quote, has, command, many = form.quote, columns['number'] > 0, columns['command'], columns['many']
-
-        def block_of(key: int) -> bytes:
-            bus, errors = block_1553((key & 0x7FF) << 3)
-            return quote + joints[1] + self.cells(kind, 1, (bus, reader.bus_name(self.channels[key >> 11], None), errors))
-
-        def terminal(key: int) -> bytes:
-            return joints[4] + self.cells(kind, 4, command_1553(key << 5)[:3] if key < 2048 else (None, None, None))
-
-        def size(key: int) -> bytes:
-            return joints[7] + self.cells(kind, 7, command_1553((1 - (key >> 5)) << 5 | key & 31)[3:] if key < 64 else (None, None))
-
-        def other(key: int) -> bytes:
-            return joints[9] + self.cells(kind, 9, (key >> 5, key & 31) if key < 1024 else (None, None))
-
-        def gap(key: int) -> bytes:
-            return joints[14] + self.cells(kind, 14, ((key & 0xFF) / 10, (key >> 8) / 10)) + joints[16] + b'\n'
-
-        is_mode = (command >> 5 & 31 == 0) | (command >> 5 & 31 == 31)
-        other_word, one, two, status, gaps = columns['other'], columns['one'], columns['two'], columns['status'], columns['gap']
-        return [
-            self.lost(kind, block, quote), Piece(self.sources[kind], columns['start'], 4 * int(many.max()), 4 * many),
-            Piece(self.sources[kind], columns['then'], 4 * int(columns['rest'].max()), 4 * columns['rest']),
-            self.table(('block', kind), block_of).pieces(block.channel << 11 | status >> 3 & 0x7FF),
-            self.table(('terminal', kind), terminal).pieces(numpy.where(has, command >> 5, 2048)),
-            self.table(('size', kind), size).pieces(numpy.where(has, command & 31 | is_mode.astype(numpy.int64) << 5, 64)),
-            self.table(('other', kind),
-                       other).pieces(numpy.where(other_word < 1 << 16, other_word >> 6 & 0x3E0 | other_word >> 5 & 31, 1024)),
-            self.status_table(kind, 11).pieces(one), self.status_table(kind, 12).pieces(two),
-            self.table(('flags', kind), lambda key: joints[13] + self.cells(kind, 13, (named(key, FLAGS_1553),))).pieces(
-                ((one & 0xFFFF) * (one < 1 << 16) | (two & 0xFFFF) * (two < 1 << 16)) & 0x7FF),
-            self.table(('gap', kind), gap).pieces(gaps)]
-
-    def status_table(self, kind: int, place: int) -> Table:
-        """The texts of status words: four hex digits, and no cell where there is none, which is 1 << 16."""
-        if ('status', kind, place) not in self.tables:
-            front, end, none = self.joints[kind][place] + self.form.quote, self.form.quote, self.joints[kind][place] + self.cells(
-                kind, place, (None,))
-            wide = max(len(front) + 4 + len(end), len(none))
-            rows = numpy.zeros(((1 << 16) + 1, wide), numpy.uint8)
-            rows[:, :len(front)] = numpy.frombuffer(front, numpy.uint8)
-            digits = numpy.frombuffer(hexlify(numpy.arange(1 << 16, dtype='>u2').tobytes()), numpy.uint8).reshape(-1, 4)
-            rows[:-1, len(front):len(front) + 4] = digits
-            rows[:, len(front) + 4:len(front) + 4 + len(end)] = numpy.frombuffer(end, numpy.uint8)
-            rows[-1, :len(none)] = numpy.frombuffer(none, numpy.uint8)
-            lengths = numpy.full(len(rows), len(front) + 4 + len(end))
-            lengths[-1] = len(none)
-            self.tables['status', kind, place] = Table(lambda key: b'').fill(rows, lengths)
-        return self.tables['status', kind, place]
-
-    # ---- ARINC 429
-
-    def words(self, kind: int, packets: List[tuple]) -> Tuple[Block, List[tuple]]:
-        number = numpy.array([packet.word & 0xFFFF for _, packet, _ in packets], numpy.int64)
-        pairs = numpy.frombuffer(b''.join([packet.body[4:4 + 8 * (packet.word & 0xFFFF)] for _, packet, _ in packets]),
-                                 '<u4').reshape(-1, 2)
-        block = self.block(packets, number)
-        if not len(pairs):
-            block.count = numpy.zeros(0, numpy.int64)
-            return block, []
-        heads, words = pairs[:, 0].astype(numpy.int64), pairs[:, 1].astype(numpy.int64)
-        steps = numpy.cumsum(heads & 0xFFFFF)
-        first = numpy.minimum(numpy.cumsum(number) - number, len(pairs) - 1)
-        base = numpy.array([packet.counter for _, packet, _ in packets], numpy.int64) - steps[first] + (heads[first] & 0xFFFFF)
-        block.count = base[block.of] + steps
-        block.columns.update(head=heads, word=words)
-        return block, []
-
-    def word_pieces(self, kind: int, block: Block) -> List[Piece]:
-        form, joints, reader = self.form, self.joints[kind], self.form.reader
-        quote, heads, words = form.quote, block.columns['head'], block.columns['word']
-        odd = numpy.frombuffer(ODD, numpy.uint8)
-        even = 1 - (odd[words & 0xFFFF] ^ odd[words >> 16]).astype(numpy.int64)
-
-        def bus(key: int) -> bytes:
-            number = key >> 3 & 0xFF
-            errors = '+'.join(name for bit, name in ((2, 'format error'), (1, 'parity error'), (0, 'even parity'))
-                              if key >> bit & 1)
-            return quote + joints[1] + self.cells(kind, 1, (number, reader.bus_name(self.channels[key >> 11], number), errors))
-
-        def label(key: int) -> bytes:
-            return joints[4] + self.cells(kind, 4, ('%03o' % (TURNED[key & 0xFF] if reader.turned else key & 0xFF),
-                                                    key >> 8)) + joints[6]
-
-        def end(key: int) -> bytes:
-            return joints[7] + self.cells(kind, 7, (key >> 1 & 3, key >> 3, key & 1)) + joints[10] + b'\n'
-
-        return [
-            self.lost(kind, block, quote), hexes(words),
-            self.table(('bus', kind), bus).pieces(block.channel << 11 | (heads >> 22) << 1 | even),
-            self.table(('label', kind), label).pieces(words & 0x3FF), self.data_table().pieces(words >> 10 & 0x7FFFF),
-            self.table(('end', kind), end).pieces((words >> 29) << 1 | heads >> 21 & 1)]
-
-    def data_table(self) -> Table:
-        """The numbers of 19 bits."""
-        if ('data',) not in self.tables:
-            rows = numpy.zeros((1 << 19, 6), numpy.uint8)
-            lengths = numpy.empty(len(rows), numpy.int64)
-            for size in range(1, 7):
-                low, high = 10 ** (size - 1) if size > 1 else 0, min(10 ** size, len(rows))
-                rows[low:high, :size] = self.decimals.right(numpy.arange(low, high), 2)[:, 8 - size:]
-                lengths[low:high] = size
-            self.tables['data',] = Table(lambda key: b'').fill(rows, lengths)
-        return self.tables['data',]
-
-    # ---- discretes
-
-    def states(self, kind: int, packets: List[tuple]) -> Tuple[Block, List[tuple]]:
-        number = numpy.array([(len(packet.body) - 4) // 12 for _, packet, _ in packets], numpy.int64)
-        data = b''.join([packet.body[4:4 + 12 * much] for (_, packet, _), much in zip(packets, number.tolist())])
-        found = numpy.frombuffer(data, [('stamp', '<u8'), ('states', '<u4')])
-        block = self.block(packets, number)
-        block.count = (found['stamp'] & COUNT_BITS).astype(numpy.int64)
-        if not len(found):
-            return block, []
-        states = found['states'].astype(numpy.int64)
-        first = numpy.cumsum(number) - number
-        before = numpy.roll(states, 1)
-        for place, (of, much) in enumerate(zip(packets, number.tolist())):
-            if much:
-                known = self.ordered.states.get(of[0])
-                before[first[place]] = states[first[place]] if known is None else known
-        block.columns.update(states=states, before=before,
-                             bits=numpy.array([packet.word >> 3 & 31 or 32 for _, packet, _ in packets], numpy.int64)[block.of])
-        return block, []
-
-    def state_pieces(self, kind: int, block: Block) -> List[Piece]:
-        joints, quote, columns = self.joints[kind], self.form.quote, block.columns
-        states, bits = columns['states'], columns['bits']
-        pairs = numpy.unpackbits(states.astype('>u4').view(numpy.uint8).reshape(-1, 4), axis=1) + 0x30
-        most = int(bits.max())
-        starts = numpy.arange(32, 32 * len(states) + 1, 32) - bits
-        differ = (columns['before'] ^ states) & ((1 << bits) - 1)
-        changed = [self.changes(kind, place, differ, states) for place in range(4) if (differ >> 8 * place & 0xFF).any()]
-        return [self.lost(kind, block, quote), hexes(states), Always(quote + joints[1] + quote),
-                Piece(padded(pairs.reshape(-1), 32), starts, most, None if int(bits.min()) == most else bits),
-                Always(quote + joints[2] + quote)] + changed + [Always(quote + joints[3] + b'\n')]
-
-    def changes(self, kind: int, place: int, differ: Array, states: Array) -> Piece:
-        """What changed of eight discretes, after a space where one before these did."""
-
-        def text(key: int) -> bytes:
-            said = changed_bits((key >> 8 & 0xFF ^ key & 0xFF) << 8 * place, (key & 0xFF) << 8 * place, 32)
-            return (b' ' if key >> 16 and said else b'') + said.encode()
-
-        now = differ >> 8 * place & 0xFF
-        is_first = differ & ((1 << 8 * place) - 1) == 0
-        return self.table(('changed', kind, place), text).pieces((now << 8 | states >> 8 * place & now) + ((1 << 16) * ~is_first))
 
 
 def hexes(words: Array) -> Piece:
@@ -753,11 +501,3 @@ def ranked(counts: Array, channels: Array, order: Array) -> Array:
         some = ranks[places]
         ranks[places] = some[numpy.lexsort((order[some], channels[some], counts[some]))]
     return ranks
-
-
-# Of each byte: 8 where it does not print, 4 where it is written as two, 1 for a quote, 2 for a comma.
-CLASSES = bytes(8 if not (0x20 <= value < 0x7F or value in (9, 10, 13)) else 4 if value in (9, 10, 13, 0x5C) else 1 if value == 0x22
-                else 2 if value == 0x2C else 0
-                for value in range(256))
-CSV_ESCAPES = {0x09: '\\t', 0x0D: '\\r', 0x0A: '\\n', 0x5C: '\\\\', 0x22: '""'}
-JSON_ESCAPES = {0x09: '\\\\t', 0x0D: '\\\\r', 0x0A: '\\\\n', 0x5C: '\\\\\\\\', 0x22: '\\"'}

@@ -1,11 +1,12 @@
 """Where the entries of many packets stand, found by numpy for all these packets at once."""
 from __future__ import annotations
 
-from typing import Any, Dict, List, Optional, Sequence, Set, Tuple
+from typing import Any, Callable, Dict, List, Optional, Sequence, Set, Tuple
 
 from .bodies import counts
+from .kinds import by_type
 from .packets import FORMS, HEADER, Packet
-from .standard import ARINC, BUS, COUNT_BITS, MESSAGE, SYNC, UART, WIDTHS, Data
+from .standard import COUNT_BITS, SYNC, WIDTHS, Data
 
 Array = Any  # of numpy
 numpy: Any = None  # until it is asked for: to start without it is quicker
@@ -29,9 +30,12 @@ def is_ready(size: int) -> bool:
 
 
 # Of the types whose entries have their lengths in them: the bytes before an entry's own, where its length stands, and whether
-# entries begin at even places.
-SHAPES: Dict[int, Tuple[int, int, bool]] = {UART: (12, 8, True), MESSAGE: (12, 8, True), BUS: (14, 12, False)}
-NUMBERS = {UART: None, MESSAGE: 0xFFFF, BUS: 0xFFFFFF}
+# entries begin at even places; and those bits of a body's word that say how many there are.
+SHAPES: Dict[int, Tuple[int, int, bool]] = by_type('SHAPE')
+NUMBERS: Dict[int, Optional[int]] = by_type('NUMBER')
+# Of some other types what finds number, lowest and highest count of the entries of some packets, by their places. Of each packet it
+# has the place, that of the end of the body, the word and the counter, and of the bytes the place that they begin at.
+AHEADS: Dict[int, Callable[[Array, int, List[tuple]], Dict[int, Tuple[int, int, int]]]] = by_type('ahead')
 
 
 def number_in(kind: int, word: int) -> Optional[int]:
@@ -150,7 +154,7 @@ class Ahead(Alone):
                 break
             if flags & 3 and not flags & 0x80 and 24 + size + WIDTHS[flags & 3] <= length:
                 sums[flags & 3].append((at, at + length))
-            if not flags & 0xC0 and size >= 4 and (kind in SHAPES or kind == ARINC):
+            if not flags & 0xC0 and size >= 4 and (kind in SHAPES or kind in AHEADS):
                 word = int.from_bytes(data[at + 24:at + 28], 'little')
                 if kind not in FORMS or not FORMS[kind](word, size):
                     kinds.setdefault(kind, []).append((at, at + 24 + size, word, low | high << 32))
@@ -158,7 +162,10 @@ class Ahead(Alone):
         self.known, self.until, self.summed = {}, max(at, begin + 24), set()
         octets = numpy.frombuffer(data, numpy.uint8, at - begin, begin)
         for kind, some in kinds.items():
-            (self.words if kind == ARINC else self.entries)(octets, begin, kind, some)
+            if kind in AHEADS:
+                self.known.update(AHEADS[kind](octets, begin, some))
+            else:
+                self.entries(octets, begin, kind, some)
         for check, some in enumerate(sums):
             if some:
                 self.sums(octets, begin, WIDTHS[check], numpy.array(some, numpy.int64))
@@ -183,10 +190,3 @@ class Ahead(Alone):
         lows[filled], highs[filled] = numpy.minimum.reduceat(found, first[filled]), numpy.maximum.reduceat(found, first[filled])
         for place, much, low, high in zip(has.tolist(), number[has].tolist(), lows[has].tolist(), highs[has].tolist()):
             self.known[some[place][0]] = much, low, high
-
-    def words(self, octets: Array, begin: int, _: int, some: List[tuple]) -> None:
-        for at, behind, word, counter in some:
-            number = word & 0xFFFF
-            if number and at + 28 + 8 * number <= behind:
-                gaps = numpy.frombuffer(octets, '<u4', 2 * number, at + 28 - begin)[::2] & 0xFFFFF
-                self.known[at] = number, counter + int(gaps[0]), counter + int(gaps.sum(dtype=numpy.int64))

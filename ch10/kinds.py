@@ -1,0 +1,114 @@
+"""The kinds of entries, a row each: their names, columns and tables, and the modules that read them.
+
+A row has what is known without reading an entry, for a call that reads none begins sooner so. A kind's entries are read by its
+module, by functions of these names. A body is a packet's bytes after its header, without filler and checksum; it begins with its
+word. Counts are in units of 100 ns.
+
+    read(body, word, counter)       of each entry its count, and the values of its keys
+    counts(body, word, counter)     the counts alone, which is faster
+    number_in(data, at, size, word)    how many entries a body of a strict recording has, of so many bytes from a place on
+    meanings(reader, packet, before)   of each entry its count, and its columns with what they mean; `reader` is a
+                                       `ch10.fields.Reader`, and `before` what `last_state` gave of the channel's packet before
+    rows(packet, states)            of each entry its count, and the columns of its table; those that stand together are a tuple
+
+and, where the kind asks for it, by these:
+
+    is_other_form(word, size)       whether the word of a body of so many bytes selects a form that is not read here
+    last_count(body)                the count of the last entry, where it is found sooner than all of them
+    last_state(body)                what has to be known of a packet before the channel's next one; None where it has no entry
+    ahead(octets, begin, some)      number, lowest and highest count of the entries of many packets, by numpy: see `ch10.walk`
+    SHAPE, NUMBER                   where the lengths of entries stand in them, by which `ch10.walk` finds them
+
+By numpy lines are made by a module of its own (`ch10.vector` says what it has). Without one a kind's lines are made entry by entry.
+"""
+from __future__ import annotations
+
+from importlib import import_module
+from typing import Any, Dict, Optional, Sequence, Tuple
+
+from .standard import EVENT, TIME
+
+BUS, DISCRETE, MESSAGE, ARINC, UART = 0x19, 0x29, 0x30, 0x38, 0x50
+WHOLE, REAL, TRUTH, TEXT, VALUE = 'INTEGER', 'REAL', 'BOOLEAN', 'TEXT', 'value'  # VALUE: a text, what the message itself is
+Columns = Tuple[Tuple[str, str], ...]  # of each its name and its form
+
+
+class Kind:
+    """A kind of entries.
+
+    .type      the data type of its packets (chapter 11)
+    .name      what csv, json and a script call it
+    .module    what reads it, a module of this package
+    .keys      the values of an entry as they stand in its packet, which are those of `r10 play`, each with its form
+    .columns   of csv, json and sqlite, each with its form; those that other kinds have too in the order of `ch10.fields.SHARED`
+    .own       the columns of its table in a database, each with its type; those that may be NULL or vary in length at the end
+    .together  how many of these stand together, each such group at the end of a row
+    .step      the step that makes this table (`ch10.store_schema`): one that no release has, for a kind that is new
+    .tmats     how a setup text (chapter 9) describes its channels, or None: `data_type`, the channel data type; `format_name`, the
+               attribute of the format; `format`, the one that r10 writes; `group`, of what a channel carries, or None: S, messages,
+               or B, buses, with their `bus_type`
+    .vector    what makes its lines by numpy, a module of this package, or None
+    """
+
+    def __init__(self, data_type: int, name: str, module: str, keys: Columns, columns: Columns, own: Columns,
+                 together: Sequence[int] = (), step: int = 2, tmats: Optional[Dict[str, Any]] = None,
+                 vector: Optional[str] = None) -> None:
+        self.type, self.name, self.module, self.vector = data_type, name, module, vector
+        self.keys, self.columns, self.own, self.together, self.step, self.tmats = keys, columns, own, together, step, tmats
+        self.names = tuple(column for column, _ in columns)
+        self.table = 'entry_' + name  # in a database of many recordings
+        self.word = name if name.isalpha() else 'bus' + name  # its table in a database of one
+        self.has_buses = ('bus', WHOLE) in keys  # whether each entry says of which bus it is
+
+
+KINDS = (
+    Kind(BUS, '1553', 'kind_1553',
+         keys=(('status', TEXT), ('gap', TEXT), ('words', VALUE)),
+         columns=(('value', TEXT), ('bus', TEXT), ('bus_name', TEXT), ('errors', TEXT), ('rt', WHOLE), ('tr', TEXT), ('sa', WHOLE),
+                  ('wc', WHOLE), ('mode', WHOLE), ('rt2', WHOLE), ('sa2', WHOLE), ('status1', TEXT), ('status2', TEXT),
+                  ('flags', TEXT), ('gap1', REAL), ('gap2', REAL)),
+         own=(('rt', 'SMALLINT'), ('tr', '{text}'), ('sa', 'SMALLINT'), ('wc', 'SMALLINT'), ('mode', 'SMALLINT'),
+              ('rt2', 'SMALLINT'), ('sa2', 'SMALLINT'), ('status1', 'INTEGER'), ('status2', 'INTEGER'), ('bus', '{text}'),
+              ('errors', '{text}'), ('block_status', 'INTEGER'), ('gap1', 'REAL'), ('gap2', 'REAL'), ('words', '{bytes}')),
+         together=(5, 2, 2, 5, 1), tmats=dict(data_type='1553IN', format_name='BTF', format=1, group='B', bus_type='1553'),
+         vector='vector_1553'),
+    Kind(ARINC, 'arinc', 'kind_arinc',
+         keys=(('bus', WHOLE), ('format', TRUTH), ('parity', TRUTH), ('high', TRUTH), ('data', VALUE)),
+         columns=(('value', TEXT), ('bus', WHOLE), ('bus_name', TEXT), ('errors', TEXT), ('label', TEXT), ('sdi', WHOLE),
+                  ('data', WHOLE), ('ssm', WHOLE), ('parity', WHOLE), ('high', TRUTH)),
+         own=(('word', 'BIGINT'), ('data', 'INTEGER'), ('bus', 'SMALLINT'), ('sdi', 'SMALLINT'), ('ssm', 'SMALLINT'),
+              ('parity', 'SMALLINT'), ('high', 'BOOLEAN'), ('label', '{text}3'), ('errors', '{text}')),
+         together=(1,), tmats=dict(data_type='429IN', format_name='ABTF', format=0, group='B', bus_type='A429'),
+         vector='vector_arinc'),
+    Kind(UART, 'uart', 'kind_uart',
+         keys=(('parity', TRUTH), ('sub', WHOLE), ('bytes', VALUE)),
+         columns=(('value', TEXT), ('text', TEXT), ('sub', WHOLE), ('errors', TEXT)),
+         own=(('sub', 'SMALLINT'), ('errors', '{text}'), ('value', '{bytes}')),
+         together=(1, 1), tmats=dict(data_type='UARTIN', format_name='UTF', format=0, group='S'), vector='vector_text'),
+    Kind(MESSAGE, 'message', 'kind_message',
+         keys=(('data_error', TRUTH), ('format', TRUTH), ('sub', WHOLE), ('bytes', VALUE)),
+         columns=(('value', TEXT), ('text', TEXT), ('sub', WHOLE), ('errors', TEXT)),
+         own=(('sub', 'SMALLINT'), ('errors', '{text}'), ('value', '{bytes}')),
+         together=(1, 1), tmats=dict(data_type='MSGIN', format_name='MTF', format=0, group='S'), vector='vector_text'),
+    Kind(DISCRETE, 'discrete', 'kind_discrete',
+         keys=(('states', VALUE),),
+         columns=(('value', TEXT), ('bits', TEXT), ('changed', TEXT)),
+         own=(('states', 'BIGINT'), ('changed', 'BIGINT')),
+         tmats=dict(data_type='DISIN', format_name='DTF', format=1, group=None), vector='vector_discrete'),
+    Kind(TIME, 'time', 'kind_time',
+         keys=(('civil', VALUE),),
+         columns=(('value', TEXT),),
+         own=(('value', '{text}'),),
+         together=(1,), tmats=dict(data_type='TIMEIN', format_name='TTF', format=1, group=None)),
+    Kind(EVENT, 'event', 'kind_event',
+         keys=(('number', WHOLE), ('occurrence', WHOLE)),
+         columns=(('number', WHOLE), ('occurrence', WHOLE)),
+         own=(('number', 'SMALLINT'), ('occurrence', 'INTEGER'))),
+)
+BY_NAME = {kind.name: kind for kind in KINDS}
+
+
+def by_type(name: str) -> Dict[int, Any]:
+    """By data type what has this name in the module of the kind, of all kinds whose module has it."""
+    modules = {kind.type: import_module('.' + kind.module, __package__) for kind in KINDS}
+    return {data_type: getattr(module, name) for data_type, module in modules.items() if hasattr(module, name)}
