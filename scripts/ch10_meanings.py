@@ -14,8 +14,9 @@ import xml.etree.ElementTree as tree
 from typing import Callable, Iterator, List, Tuple
 
 from ch10 import command, lines, script, vector, walk
-from ch10_recordings import SECOND, SETUP_TEXT, Maker, bus_message, civil_body, flight, foreign
+from ch10_recordings import SECOND, SETUP_TEXT, Maker, civil_body, flight, foreign
 from check_cases import letters, number
+from made_kinds import NAMES, bus_message
 
 MOMENT = datetime.datetime(2024, 2, 29, 12, 34, 56)
 
@@ -243,9 +244,9 @@ def database() -> Tuple[object, object]:
         status, _, line = run(['sqlite', '--keep-going', '--out', path], data)
         again = run(['sqlite', '--out', path], data)[0]
         base = sqlite3.connect(path)
-        for kind in ('uart', 'message', '1553', 'arinc', 'discrete', 'time', 'event'):
+        for kind in NAMES + ('time', 'event'):
             columns = rows_of(['csv', '--keep-going', '--kind', kind], data)
-            table = 'bus1553' if kind == '1553' else kind
+            table = kind if kind.isalpha() else 'bus' + kind
             names = [name for name in columns[0] if name != 'type']
             for row in base.execute('SELECT %s FROM "%s" ORDER BY rowid' % (', '.join('"%s"' % name for name in names), table)):
                 found.append((kind, *('' if cell is None else str(cell) for cell in row)))

@@ -5,9 +5,12 @@ import random
 from typing import List, Tuple
 
 from check_cases import letters, number
+from made_kinds import KINDS
 
 WIDTHS = (0, 1, 2, 4)
 SECOND = 10 ** 7
+BY_CHANNEL = {kind.channel: kind for kind in KINDS}
+CHANNELS = tuple(sorted(BY_CHANNEL))
 
 
 def summed(channel: int, sequence: int, kind: int, counter: int, body: bytes, check: int = 0, flags: int = 0, second: bytes = b'',
@@ -35,11 +38,6 @@ def day_body(day: int, clock: Tuple[int, int, int]) -> bytes:
     hours, minutes, seconds = clock
     words = int('%02d' % seconds, 16) << 8, int('%02d%02d' % (hours, minutes), 16), int('%03d' % day, 16)
     return number(1, 4) + b''.join(number(word, 2) for word in words) + bytes(2)
-
-
-def bus_message(count: int, status: int, gap: int, words: List[int]) -> bytes:
-    return number(count, 8) + number(status, 2) + number(gap, 2) + number(2 * len(words),
-                                                                          2) + b''.join(number(word, 2) for word in words)
 
 
 class Maker:
@@ -72,54 +70,16 @@ def flight(draw: random.Random, packets: int = 500, first: int = 0) -> List[byte
     while len(make.parts) < packets:
         if (count - start) % SECOND == 0:
             make.put(1, 0x11, count, civil_body(moment + datetime.timedelta(seconds=(count - start) // SECOND)), 3)
-        channel = draw.choice((5, 6, 7, 8, 9, 2))
+        channel = draw.choice(CHANNELS + (2,))
         some = sorted(draw.randrange(count, count + SECOND // 20) for _ in range(draw.randint(1, 12)))
         check = draw.choice((1, 2, 3))
-        if channel in (5, 6):
-            kind, front = (0x50, number(1 << 31, 4)) if channel == 5 else (0x30, number(len(some), 4))
-            text = [draw.choice((b'$GPGGA,%d', b'caf\xe9 %d', b'"%d",', b'%d\r\n')) % draw.randrange(10 ** 6) for _ in some]
-            make.put(channel, kind, some[0], front + b''.join(letters(at, said) for at, said in zip(some, text)), check)
-        elif channel == 7:
-            make.put(7, 0x19, some[0], number(len(some), 4) + b''.join(any_bus_message(draw, at) for at in some), check)
-        elif channel == 8:
-            body = number(len(some), 4) + b''.join(
-                number(draw.choice((1, 2)) << 24 | draw.choice((0, 0, 0, 1 << 22)) | (draw.randrange(1000) if place else 0), 4)
-                + number(draw.randrange(1 << 32), 4)
-                for place in range(len(some)))
-            make.put(8, 0x38, some[0], body, check)
-        elif channel == 9:
-            make.put(9, 0x29, some[0], number(8 << 3, 4) + b''.join(number(at, 8) + number(draw.randrange(256), 4) for at in some),
-                     check)
+        if channel in BY_CHANNEL:
+            kind = BY_CHANNEL[channel]
+            make.put(channel, kind.data_type, some[0], kind.flight_body(draw, some), check)
         else:
             make.put(2, 0x02, some[0], number(1, 4) + number(some[0], 8) + number(1 << 28 | draw.randrange(1 << 12), 4), check)
         count += SECOND // 20
     return make.parts
-
-
-def any_bus_message(draw: random.Random, count: int) -> bytes:
-    """A message as a bus has it: of either direction, between terminals, of a mode code, to all, or in error."""
-    rt, sa, size = draw.randrange(31), draw.randrange(1, 31), draw.randint(1, 32)
-    data = [draw.randrange(65536) for _ in range(size)]
-    receive, send = rt << 11 | sa << 5 | size & 31, rt << 11 | 1 << 10 | sa << 5 | size & 31
-    bus = draw.choice((0, 0x2000))
-    which = draw.randrange(8)
-    if which == 0:
-        return bus_message(count, bus, 80, [receive] + data + [rt << 11])
-    if which == 1:
-        return bus_message(count, bus, 90, [send, rt << 11] + data)
-    if which == 2:
-        other = (rt + 1) % 31
-        return bus_message(count, bus | 0x800, 70 << 8 | 80,
-                           [receive, other << 11 | 1 << 10 | sa << 5 | size & 31, other << 11] + data + [rt << 11])
-    if which == 3:
-        return bus_message(count, bus, 60, [rt << 11 | 1 << 10 | 31 << 5 | 2, rt << 11])
-    if which == 4:
-        return bus_message(count, bus, 60, [rt << 11 | 1 << 10 | 0 << 5 | 18, rt << 11, 0x1234])
-    if which == 5:
-        return bus_message(count, bus, 0, [31 << 11 | sa << 5 | size & 31] + data)
-    if which == 6:
-        return bus_message(count, bus | 0x1200, 0, [send])
-    return bus_message(count, bus | 0x1038, 0, [draw.randrange(65536) for _ in range(draw.randrange(6))])
 
 
 # ---- recordings of others

@@ -37,6 +37,7 @@ import ch10_hostile  # noqa: E402
 import ch10_meanings  # noqa: E402
 import check_cases  # noqa: E402
 import judge_recording  # noqa: E402
+import made_kinds  # noqa: E402
 import play_cases  # noqa: E402
 from check_cases import FIRST, letters, lost, number, packet, told  # noqa: E402
 
@@ -113,11 +114,8 @@ class Stated:
 
 # ---- what a filter's output says, as r10's lines
 
-KEYS = {'uart': ('parity', 'sub', 'bytes'), '1553': ('status', 'gap', 'words'),
-        'arinc': ('bus', 'format', 'parity', 'high', 'data'),
-        'discrete': ('states',), 'message': ('data_error', 'format', 'sub', 'bytes'), 'time': ('civil',),
-        'event': ('number', 'occurrence')}
-VALUES = ('bytes', 'words', 'data', 'states', 'civil')
+KEYS = dict({kind.name: kind.keys for kind in made_kinds.KINDS}, time=('civil',), event=('number', 'occurrence'))
+VALUES = {kind.value for kind in made_kinds.KINDS} | {'civil'}
 
 
 def plain(value):
@@ -332,9 +330,8 @@ def compare_picture(said, lines, drawn=None):
 # ---- random scripts
 
 def script_of(draw):
-    """A script that records all five kinds into some files, with its setup texts by the files' names, and its reserved blocks."""
-    kinds = ['uart', '1553', 'arinc', 'discrete', 'message'] + [draw.choice(('uart', '1553', 'arinc', 'discrete', 'message'))
-                                                                for _ in range(draw.randrange(3))]
+    """A script that records all kinds into some files, with its setup texts by the files' names, and its reserved blocks."""
+    kinds = list(made_kinds.NAMES) + [draw.choice(made_kinds.NAMES) for _ in range(draw.randrange(3))]
     draw.shuffle(kinds)
     numbers = draw.sample(range(1, draw.choice((12, 65536))), len(kinds) + 2)
     reserved = draw.randint(1, 3)
@@ -346,7 +343,7 @@ def script_of(draw):
         lines += ['[[channel]]', 'id = %d' % channel, 'kind = "%s"' % kind, 'capacity = %d' % draw.randint(1, 6),
                   'check = %d' % draw.choice((0, 8, 16, 32)),
                   'bytes = %d' % draw.choice((128, 256, 524288)), 'number = %d' % draw.choice((1, 2, 5, 65535))]
-        lines += ['bits = %d' % draw.randint(1, 31)] if kind == 'discrete' else []
+        lines += made_kinds.BY_NAME[kind].random_settings(draw)
     clock = Clock(draw)
     steps, setups = ['do = "mount"'], {}
     for place in range(draw.randint(1, 4)):
@@ -392,34 +389,13 @@ def step_of(draw, clock, channels):
     if which < 0.02:
         return 'do = "lose"\nchannel = %d\ncount = %d' % (channel, draw.choice((0, 1, 40, 1 << 40)))
     if which < 0.76:
-        return '\n'.join(['do = "offer"', 'channel = %d' % channel,
-                          'count = %d' % clock.go_on(draw.choice((2, 2, 500, 90000, 1500000)))] + message_of(draw, kind))
+        lines = ['do = "offer"', 'channel = %d' % channel, 'count = %d' % clock.go_on(draw.choice((2, 2, 500, 90000, 1500000)))]
+        return '\n'.join(lines + made_kinds.BY_NAME[kind].offer(draw))
     if which < 0.88:
         return 'do = "pump"\nchannel = %d\nk = %d' % (channel, draw.randint(1, 5))
     if which < 0.92:
         return 'do = "event"\nnumber = %d\ncount = %d' % (draw.choice((0, 7, 4095)), clock.go_on(1000))
     return clock.tick() if which < 0.96 else 'do = "commit"'
-
-
-def truth(draw):
-    return draw.choice(('true', 'false'))
-
-
-def message_of(draw, kind):
-    if kind == 'uart':
-        return ['parity = ' + truth(draw), 'sub = %d' % draw.choice((0, 5, 16383)),
-                'bytes = "%s"' % draw.randbytes(draw.randrange(40)).hex()]
-    if kind == 'message':
-        return ['data = ' + truth(draw), 'format = ' + truth(draw), 'sub = %d' % draw.choice((0, 16383)),
-                'bytes = "%s"' % draw.randbytes(draw.randrange(40)).hex()]
-    if kind == '1553':
-        return ['status = %d' % (draw.randrange(1 << 16) & 0x3E38), 'gap = %d' % draw.randrange(1 << 16),
-                'words = "%s"' % draw.randbytes(2 * draw.randrange(37)).hex()]
-    if kind == 'arinc':
-        return ['bus = %d' % draw.randrange(256)] + ['%s = %s' % (key, truth(draw))
-                                                     for key in ('format', 'parity',
-                                                                 'high')] + ['data = %d' % draw.randrange(1 << 32)]
-    return ['states = %d' % draw.randrange(1 << draw.randint(0, 4))]
 
 
 def random_trial(program, seed, place):
@@ -724,7 +700,7 @@ def large(size, to):
                 flags)
         some = sorted(draw.randrange(count, count + step) for _ in range(150))
         put(7, 0x19, some[0], number(len(some), 4) + b''.join(
-            play_cases.bus(at, 0, 0, struct.unpack('<16H', draw.randbytes(32))) for at in some), 32)
+            made_kinds.bus_message(at, 0, 0, struct.unpack('<16H', draw.randbytes(32))) for at in some), 32)
         put(8, 0x38, count,
             number(200, 4) + b''.join(number(1 << 24 | (4900 if place else 0), 4) + draw.randbytes(4) for place in range(200)), 8)
         put(9, 0x29, count,

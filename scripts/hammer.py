@@ -58,6 +58,7 @@ from typing import NamedTuple
 sys.dont_write_bytecode = True  # a run leaves nothing in the folder of the scripts
 
 import judge_image  # noqa: E402
+from made_kinds import BY_NAME, NAMES  # noqa: E402
 
 try:
     import tomllib
@@ -71,7 +72,6 @@ LATE_SECONDS = 60  # and in which it has to, where a thread of it waits for a pr
 SCRIPTS = 40
 MOST_COUNT = 2**48 - 1
 CIVIL = '2024-02-29 12:34:56.78'
-KINDS = ('uart', '1553', 'arinc', 'discrete', 'message')
 SETUP = '41424344'
 TIME, EVENT = 60001, 60002  # their channels, but in the example
 
@@ -102,15 +102,7 @@ def table(name: str, /, **keys: object) -> str:
 def message_of(chance: random.Random, kind: str) -> str:
     """The keys of a message."""
     some = bytes(chance.randrange(256) for _ in range(chance.choice((0, 1, 2, 8, 40, 200)))).hex()
-    if kind == 'uart':
-        return f'sub = {chance.randrange(4)}, bytes = "{some}"'
-    if kind == 'message':
-        return f'sub = {chance.randrange(4)}, format = false, bytes = "{some}"'
-    if kind == '1553':
-        return f'words = "{chance.randrange(2**32):08x}"'
-    if kind == 'arinc':
-        return f'bus = {chance.randrange(4)}, data = {chance.randrange(2**19)}'
-    return f'states = {chance.randrange(2)}'
+    return BY_NAME[kind].item(chance, some)
 
 
 def items_of(chance: random.Random, kind: str, number: int) -> str:
@@ -139,9 +131,8 @@ def top_of(blocks: int) -> str:
 
 
 def channel(number: int, kind: str, capacity: int, /, **more: int) -> str:
-    bits = {'bits': 8} if kind == 'discrete' else {}
     return table('channel', id=number, kind=kind, capacity=capacity,
-                 **{'check': 0, 'bytes': 524288, 'number': 65535, **bits, **more})
+                 **{'check': 0, 'bytes': 524288, 'number': 65535, **BY_NAME[kind].settings, **more})
 
 
 def beginning() -> list[str]:
@@ -181,7 +172,7 @@ def crowd_script(feeds: int, readers: int, messages: int = 20) -> Script:
 def any_script(seed: int, place: int) -> Script:
     """Any script of this place from a seed."""
     chance = random.Random(seed * 1000 + place)
-    channels = [(number + 1, chance.choice(KINDS)) for number in range(chance.choice((1, 2, 3, 8, 32)))]
+    channels = [(number + 1, chance.choice(NAMES)) for number in range(chance.choice((1, 2, 3, 8, 32)))]
     text = top_of(chance.choice((12, 20, 64, 300, 1000)))
     for number, kind in channels:
         text += channel(number, kind, chance.choice((1, 2, 3, 16, 1000)), number=chance.choice((1, 4, 65535)))
@@ -208,7 +199,7 @@ def any_script(seed: int, place: int) -> Script:
 def roomy_script(seed: int, place: int) -> Script:
     """Any script of this place from a seed whose lanes and medium have room for all, and whose orders close no file."""
     chance = random.Random(f'{seed} {place}')
-    channels = [(number + 1, chance.choice(KINDS)) for number in range(chance.choice((1, 2, 3, 8, 32)))]
+    channels = [(number + 1, chance.choice(NAMES)) for number in range(chance.choice((1, 2, 3, 8, 32)))]
     text = top_of(6000)
     for number, kind in channels:
         text += channel(number, kind, 1000, number=chance.choice((1, 4, 65535)))
@@ -440,15 +431,7 @@ def offered_by(text: str) -> dict[int, list[str]]:
         kind = kinds[feed['channel']]
         made[feed['channel']] = lines = []
         for it in feed['items']:
-            if kind in ('uart', 'message'):
-                values = f'{"0 0" if kind == "message" else "0"} {it.get("sub", 0)} {it["bytes"] or "-"}'
-            elif kind == '1553':
-                values = f'0000 0000 {it["words"] or "-"}'
-            elif kind == 'arinc':
-                values = f'{it["bus"]} 0 0 0 {it["data"]:08x}'
-            else:
-                values = f'{it["states"]:08x}'
-            lines.append(f'{it["count"]} {kind} {values}')
+            lines.append(f'{it["count"]} {kind} {BY_NAME[kind].played(it)}')
     return made
 
 

@@ -20,11 +20,11 @@ import sys
 
 from check_cases import (CHAIN, FIRST, LONG, OPENING, event, flipped, index_of, letters, lost, number, packet, print_rows, report,
                          told)
-from judge_recording import ARINC, TIME, UART, first_fault
+from judge_recording import TIME, UART, first_fault
+from made_kinds import KINDS as MADE
 
 READER = pathlib.Path(__file__).with_name('read_chapter10.py')
 EXAMPLES = pathlib.Path(__file__).parent.parent / 'examples'
-BUS, DISCRETE, MESSAGE = 0x19, 0x29, 0x30
 OTHER_CIVIL = bytes.fromhex('010200009959592328020021')
 
 
@@ -40,31 +40,19 @@ def summed(channel, sequence, kind, counter, body, width, flags=0):
     return packet(channel, sequence, kind, counter, body, flags=flags | check, filler=filler + number(total % 256 ** size, size))
 
 
-def bus(count, status, gap, words):
-    return number(count, 8) + number(status, 2) + number(gap, 2) + number(2 * len(words), 2) + b''.join(number(w, 2) for w in words)
-
-
 def every_kind():
-    """Each packet of such a file, and the lines of its entries in the order of a replay."""
-    parts = OPENING + [
-        event(0, 1000, 0),
-        summed(5, 0, UART, 1000, number(1 << 31, 4) + letters(1000, b'ABC', 1 << 31 | 9 << 16) + letters(1010, b''), 8),
-        summed(7, 0, BUS, 1005, number(2, 4) + bus(1005, 0x2000, 0, (0x0821, 0xABCD)) + bus(1006, 0, 7, ()), 16),
-        packet(8, 0, ARINC, 1000, number(3, 4) + b''.join(number(head, 4) + number(data, 4) for head, data in (
-            (1 << 24 | 1 << 21, 0x12345678), (2 << 24 | 1 << 23 | 100, 0), (255 << 24 | 1 << 22 | 200, 0xFFFFFFFF)))),
-        summed(9, 0, DISCRETE, 1001, number(8 << 3, 4) + number(1001, 8) + number(0x81, 4), 32),
-        packet(10, 0, MESSAGE, 1002, number(2, 4) + letters(1002, b'\x0a', 1 << 31 | 2 << 16) + letters(1003, b'', 1 << 30)),
-        packet(1, 1, TIME, 1100, OTHER_CIVIL),
-        event(1, 1100, 1),
-        packet(5, 1, UART, 1101, number(1 << 31, 4) + letters(1101, b'D'), flags=0x10),
-    ]
-    lines = [
-        'entry 1 1000 0 time 2024-02-29 12:34:56.78', 'entry 2 1000 0 event 3 0', 'entry 5 1000 0 uart 1 9 414243',
-        'entry 8 1000 0 arinc 1 0 0 1 12345678', 'entry 9 1001 0 discrete 00000081', 'entry 10 1002 0 message 1 0 2 0a',
-        'entry 10 1003 0 message 0 1 0 -', 'entry 7 1005 0 1553 2000 0000 0821abcd', 'entry 7 1006 0 1553 0000 0007 -',
-        'entry 5 1010 0 uart 0 0 -', 'entry 1 1100 0 time 2100-02-28 23:59:59.99', 'entry 2 1100 0 event 3 1',
-        'entry 8 1100 0 arinc 2 1 0 0 00000000', 'entry 5 1101 1+ uart 0 0 44', 'entry 8 1300 0 arinc 255 0 1 0 ffffffff',
-    ]
+    """Each packet of such a file, and the lines of its entries in the order of a replay: by count, then channel."""
+    parts = OPENING + [event(0, 1000, 0)]
+    lines = ['entry 1 1000 0 time 2024-02-29 12:34:56.78', 'entry 2 1000 0 event 3 0']
+    for kind in MADE:
+        channel, width, counter, body, said = kind.example()
+        parts.append(summed(channel, 0, kind.data_type, counter, body, width) if width else
+                     packet(channel, 0, kind.data_type, counter, body))
+        lines += ['entry %d %s' % (channel, line) for line in said]
+    parts += [packet(1, 1, TIME, 1100, OTHER_CIVIL), event(1, 1100, 1),
+              packet(5, 1, UART, 1101, number(1 << 31, 4) + letters(1101, b'D'), flags=0x10)]
+    lines += ['entry 1 1100 0 time 2100-02-28 23:59:59.99', 'entry 2 1100 0 event 3 1', 'entry 5 1101 1+ uart 0 0 44']
+    lines.sort(key=lambda line: (int(line.split(' ')[2]), int(line.split(' ')[1])))
     return b''.join(parts + index_of(parts, 1100, 1)), lines
 
 

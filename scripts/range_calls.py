@@ -19,7 +19,6 @@ from ch10.store_schema import ENTRIES
 
 
 HERE = pathlib.Path(__file__).resolve().parent
-FEW = ('1553', '1553', 'arinc', 'uart', 'discrete', 'message')
 
 
 STAND_IN = r"""#!%s

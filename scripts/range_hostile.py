@@ -28,7 +28,8 @@ from ch10.store import is_postgresql, open_store
 from ch10.store_schema import ENTRIES
 from ch10.workers import answer_of
 from postgres_server import children_of
-from range_calls import FEW, Bad, agree, answered, ch10, child, ends_with_parent, line_of, settled, state
+from made_kinds import FEW
+from range_calls import Bad, agree, answered, ch10, child, ends_with_parent, line_of, settled, state
 from range_page import check_page
 from range_recordings import packet, recording, text_body, time_body
 

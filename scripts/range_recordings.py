@@ -4,7 +4,7 @@ damaged ones.
 
     scripts/range_recordings.py FOLDER [--count N] [--size BYTES] [--seed S] [--jobs J]
 
-Recording K of a seed is the same bytes wherever and whenever it is made. Each has 48 channels of the five kinds beside time and
+Recording K of a seed is the same bytes wherever and whenever it is made. Each has 48 channels of all kinds beside time and
 events, names for them in its setup text, and lies in a second of its own between 2024 and 2026. In each twentieth something is
 damaged, each tenth has packets of another recorder, and a third lost messages.
 """
@@ -18,15 +18,14 @@ import random
 import struct
 import sys
 from concurrent.futures import ProcessPoolExecutor
-from typing import Callable, Dict, List, Sequence, Tuple
+from typing import Dict, List, Sequence, Tuple
+
+from made_kinds import BY_NAME, SHARES, some_bytes
 
 HEADER = struct.Struct('<HHIIBBBBIH')
 WORDS = struct.Struct('<11H')
 SECOND = 10 ** 7
 START = datetime.datetime(2024, 1, 1)
-KINDS = ('1553',) * 16 + ('arinc',) * 12 + ('uart',) * 8 + ('discrete',) * 6 + ('message',) * 6
-DATA_TYPES = {'1553': 0x19, 'arinc': 0x38, 'uart': 0x50, 'discrete': 0x29, 'message': 0x30}
-CODES = {'1553': '1553IN', 'arinc': '429IN', 'uart': 'UARTIN', 'discrete': 'DISIN', 'message': 'MSGIN'}
 SYSTEMS = ('NAV', 'ENGINE', 'FUEL', 'RADAR', 'STORES', 'DISPLAY', 'AIRDATA', 'COMM')
 
 
@@ -47,76 +46,18 @@ def time_body(moment: datetime.datetime) -> bytes:
     return struct.pack('<IHHHH', 0x301 if leap else 0x201, digits[0] << 8, *digits[1:])
 
 
-def some_bytes(draw: random.Random, size: int) -> bytes:
-    return draw.getrandbits(8 * size).to_bytes(size, 'little')
-
-
-# Bodies: each takes the first count and a step, and gives the body's bytes after its word. They lie within a tenth of a second.
-
-def bus_entries(draw: random.Random, number: int) -> Tuple[List[Tuple[struct.Struct, tuple]], int]:
-    """What a bus says in a cycle: commands to some remote terminals, with data and status words."""
-    made = []
-    for _ in range(number):
-        terminal, subaddress, words, receives = draw.randrange(1, 31), draw.randrange(1, 31), draw.randrange(
-            1, 33), draw.randrange(2)
-        command = terminal << 11 | (0 if receives else 1 << 10) | subaddress << 5 | words & 31
-        data = struct.unpack('<%dH' % words, some_bytes(draw, 2 * words))
-        said = (command,) + data + (terminal << 11,) if receives else (command, terminal << 11) + data
-        made.append((struct.Struct('<QHHH%dH' % len(said)), (0x2000 if draw.random() < 0.1 else 0, 0x0C0C, 2 * len(said)) + said))
-    return made, number
-
-
-def bus_body(cycle: List, count: int) -> bytes:
-    return struct.pack('<I', len(cycle)) + b''.join(
-        form.pack(count + 9000 * place, *said) for place, (form, said) in enumerate(cycle))
-
-
-def text_body(parts: List[Tuple[int, bytes]], count: int, word: int) -> bytes:
-    return struct.pack('<I', word) + b''.join(
-        struct.pack('<QI', count + 15000 * place, head) + data for place, (head, data) in enumerate(parts))
-
-
-def texts(draw: random.Random, number: int, size: int, subs: int) -> List[Tuple[int, bytes]]:
-    made = []
-    for _ in range(number):
-        data = some_bytes(draw, draw.randrange(size // 2, size))
-        made.append((draw.randrange(subs) << 16 | len(data), data + bytes(len(data) & 1)))
-    return made
-
-
-def maker(draw: random.Random, kind: str) -> Callable[[int], bytes]:
-    """What makes the bodies of one channel, by the count of the first entry."""
-    if kind == '1553':
-        cycle, _ = bus_entries(draw, 100)
-        return lambda count: bus_body(cycle, count)
-    if kind == 'arinc':
-        words = struct.unpack('<300I', some_bytes(draw, 1200))
-        body = struct.pack('<I', 300) + b''.join(
-            struct.pack('<II', 1 << 24 | (3000 if place else 0), word) for place, word in enumerate(words))
-        return lambda count: body
-    if kind == 'discrete':
-        states = [draw.randrange(256) for _ in range(40)]
-        return lambda count: struct.pack('<I', 8 << 3) + b''.join(
-            struct.pack('<QI', count + 20000 * place, state) for place, state in enumerate(states))
-    if kind == 'uart':
-        parts = texts(draw, 60, 80, 4)
-        return lambda count: text_body(parts, count, 1 << 31)
-    parts = texts(draw, 30, 160, 2)
-    return lambda count: text_body(parts, count, len(parts))
-
-
 def setup_text(number: int, channels: List[Tuple[int, str, str]]) -> bytes:
     """A setup text that names the channels."""
     lines = ['G\\PN:RANGE TRIAL', 'G\\TA:TAIL %02d' % (number % 24), 'G\\106:17', 'G\\DSI\\N:1', 'G\\DSI-1:RECORDER',
              'G\\DST-1:STO', 'R-1\\ID:RECORDER',
              'R-1\\RID:SN%04d' % (number % 7), 'R-1\\N:%d' % len(channels)]
     for place, (channel, kind, name) in enumerate(channels, 1):
-        lines += ['R-1\\TK1-%d:%d' % (place, channel), 'R-1\\DSI-%d:%s' % (place, name), 'R-1\\CDT-%d:%s' % (place, CODES[kind]),
-                  'R-1\\CHE-%d:T' % place]
+        lines += ['R-1\\TK1-%d:%d' % (place, channel), 'R-1\\DSI-%d:%s' % (place, name),
+                  'R-1\\CDT-%d:%s' % (place, BY_NAME[kind].code), 'R-1\\CHE-%d:T' % place]
     return ''.join(line + ';\r\n' for line in lines).encode()
 
 
-def recording(seed: int, number: int, size: int, every: Sequence[str] = KINDS) -> bytes:
+def recording(seed: int, number: int, size: int, every: Sequence[str] = SHARES) -> bytes:
     """One recording of about this size, with channels of these kinds."""
     draw = random.Random('%d %d' % (seed, number))
     kinds = list(every)
@@ -124,7 +65,7 @@ def recording(seed: int, number: int, size: int, every: Sequence[str] = KINDS) -
     ids = draw.sample(range(3, 200), len(kinds))
     channels = [(channel, kind, '%s %s %d' % (draw.choice(SYSTEMS), kind.upper(), place))
                 for place, (channel, kind) in enumerate(zip(ids, kinds), 1)]
-    makers = [(channel, DATA_TYPES[kind], kind, maker(draw, kind)) for channel, kind, _ in channels]
+    makers = [(channel, BY_NAME[kind].data_type, BY_NAME[kind].range_bodies(draw)) for channel, kind, _ in channels]
     count = draw.randrange(10 ** 9)
     moment = START + datetime.timedelta(seconds=draw.randrange(2 * 365 * 86400))
     foreign, losing = number % 10 == 3, number % 3 == 1
@@ -145,11 +86,11 @@ def recording(seed: int, number: int, size: int, every: Sequence[str] = KINDS) -
         if turn % 3 == 0:
             put(2, 0x02, base + 5, struct.pack('<IQI', 1, base + 5, 1 << 28 | events << 12 | 7))
             events += 1
-        for channel, data_type, kind, make in makers:
+        for channel, data_type, make in makers:
             if written >= size and turn:
                 break
             first, flags = base + 10 + channel, 0
-            if losing and turn and draw.random() < 0.02 * len(KINDS) / len(kinds):
+            if losing and turn and draw.random() < 0.02 * len(SHARES) / len(kinds):
                 put(0, 0x00, base, bytes(4) + b'LOSS' + struct.pack('<HHQ', channel, 0, draw.randrange(1, 50)))
                 flags = 0x10
             put(channel, data_type, first, make(first), 1, flags)

@@ -50,11 +50,12 @@ from ch10.standard import Wrong  # noqa: E402
 from ch10.store import StoreError, open_store  # noqa: E402
 from ch10.store_schema import ENTRIES  # noqa: E402
 from ch10.survey import Row, Survey  # noqa: E402
+from made_kinds import BY_NAME, FEW, text_body  # noqa: E402
 from postgres_server import NotThere, running_server, server  # noqa: E402
-from range_calls import FEW, Bad, Stream, agree, ch10, child, program, settled, state  # noqa: E402
+from range_calls import Bad, Stream, agree, ch10, child, program, settled, state  # noqa: E402
 from range_limits import Hung, bounded, ends_on_term  # noqa: E402
 from range_page import check_report  # noqa: E402
-from range_recordings import packet, recording, text_body, time_body  # noqa: E402
+from range_recordings import packet, recording, time_body  # noqa: E402
 
 def to_other_python() -> None:
     """Goes on in the system's Python, where that one sees a driver of PostgreSQL and this one does not."""
@@ -188,13 +189,8 @@ def line_of_csv(row: Dict[str, str]) -> Tuple:
     """An entry of the CSV as a tuple of texts, with the columns that tables have too."""
     kind = row['type']
     front = (kind, int(row['channel']), int(row['count']), row['time'][:26], row['lost'])
-    if kind == '1553':
-        return front + tuple(row[key] for key in ('rt', 'tr', 'sa', 'wc', 'mode', 'rt2', 'sa2', 'status1', 'status2', 'bus',
-                                                  'errors', 'gap1', 'gap2'))
-    if kind == 'arinc':
-        return front + tuple(row[key] for key in ('value', 'data', 'bus', 'sdi', 'ssm', 'parity', 'high', 'label', 'errors'))
-    if kind in ('uart', 'message'):
-        return front + (row['sub'], row['errors'], row['value'])
+    if kind in BY_NAME:
+        return front + tuple(row[key] for key in BY_NAME[kind].compared)
     return front + ((row['number'], row['occurrence']) if kind == 'event' else (row['value'],))
 
 
