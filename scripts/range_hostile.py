@@ -27,11 +27,11 @@ from ch10 import store as stores
 from ch10.store import is_postgresql, open_store
 from ch10.store_schema import ENTRIES
 from ch10.workers import answer_of
+from made_kinds import FEW, text_body
 from postgres_server import children_of
-from made_kinds import FEW
 from range_calls import Bad, agree, answered, ch10, child, ends_with_parent, line_of, settled, state
 from range_page import check_page
-from range_recordings import packet, recording, text_body, time_body
+from range_recordings import packet, recording, time_body
 
 HERE = pathlib.Path(__file__).resolve().parent
 LETTERS = random.Random(9)
