@@ -16,7 +16,7 @@ from typing import Callable, Iterator, List, Tuple
 from ch10 import command, lines, script, vector, walk
 from ch10_recordings import SECOND, SETUP_TEXT, Maker, civil_body, flight, foreign
 from check_cases import letters, number
-from made_kinds import NAMES, bus_message
+from made_kinds import KINDS, NAMES, bus_message
 
 MOMENT = datetime.datetime(2024, 2, 29, 12, 34, 56)
 
@@ -100,26 +100,22 @@ def bus_429() -> Tuple[object, object]:
     return (rows, turned), (wanted, ['301'] * 3)
 
 
-def text_and_bits() -> Tuple[object, object]:
-    make = opened()
-    make.put(5, 0x50, 2000, number(1 << 31, 4) + letters(2000, b'$GPGGA,"a"\\\r\n') + letters(2001, b'\x00\x01')
-             + letters(2002, b'', 1 << 31 | 5 << 16))
-    make.put(6, 0x30, 2010, number(2, 4) + letters(2010, b'ok', 1 << 31 | 1 << 30) + letters(2011, b'\xe9', 1 << 30))
-    make.put(9, 0x29, 2020,
-             number(5 << 3, 4)
-             + b''.join(number(2020 + place, 8) + number(states, 4) for place, states in enumerate((0x11, 0x11, 0x06))))
-    make.put(9, 0x29, 2030, number(5 << 3, 4) + number(2030, 8) + number(0x16, 4))
-    said = run(['csv'], b''.join(make.parts))[1].splitlines()
-    places = {name: place for place, name in enumerate(said[0].split(','))}
-    rows = list(csv.reader(said))[1:]
-    found = [(row[places['value']], row[places['text']], row[places['sub']], row[places['errors']], row[places['bits']],
-              row[places['changed']]) for row in rows[1:]]
-    return (len(said), found), (11, [
-        (b'$GPGGA,"a"\\\r\n'.hex(), '$GPGGA,"a"\\\\\\r\\n', '0', '', '', ''), ('0001', '', '0', '', '', ''),
-        ('', '', '5', 'parity error', '', ''), ('6f6b', 'ok', '0', 'data error+format error', '', ''),
-        ('e9', '', '0', 'format error', '', ''),
-        ('00000011', '', '', '', '10001', ''), ('00000011', '', '', '', '10001', ''),
-        ('00000006', '', '', '', '00110', '-0 +1 +2 -4'), ('00000016', '', '', '', '10110', '+4')])
+def stated_kinds() -> Tuple[object, object]:
+    """What the entries of each kind mean that states it, each on a line."""
+    found, wanted = [], []
+    for kind in KINDS:
+        bodies, rows = kind.stated()
+        make = opened()
+        for counter, body in bodies:
+            make.put(kind.channel, kind.data_type, counter, body)
+        said = run(['csv'], b''.join(make.parts))[1].splitlines()
+        cells = [{name: cell for name, cell in row.items() if cell and name not in EACH} for row in csv.DictReader(said)]
+        found.append((kind.name, len(said), cells[1:]))
+        wanted.append((kind.name, 2 + len(rows), rows))
+    return found, wanted
+
+
+EACH = ('channel', 'name', 'count', 'time', 'lost', 'type')  # columns of every entry
 
 
 # ---- times
@@ -339,5 +335,5 @@ def ways(least: int, each: int, together: int, few: int, ahead: int) -> Iterator
         walk.LEAST, lines.EACH, vector.EACH, vector.TOGETHER, walk.FEW, walk.AHEAD = kept
 
 
-TRIALS: List[Callable] = [bus_1553, bus_429, text_and_bits, clocks, slow_rate, others, setup_tree, text_for_script,
+TRIALS: List[Callable] = [bus_1553, bus_429, stated_kinds, clocks, slow_rate, others, setup_tree, text_for_script,
                           database, by_ways]

@@ -65,6 +65,11 @@ class Kind:
         `r10 play` prints of each entry after the channel."""
         raise NotImplementedError
 
+    def stated(self) -> Tuple[List[Tuple[int, bytes]], List[Dict[str, str]]]:
+        """What entries mean: counters and bodies of packets, and of each entry the cells of csv that are not empty, but those that
+        every entry has. Nothing where scripts/ch10_meanings.py states it, with the names that a setup text gives."""
+        return [], []
+
 
 # ---- texts
 
@@ -114,6 +119,12 @@ class Uart(Kind):
         body = number(1 << 31, 4) + letters(1000, b'ABC', 1 << 31 | 9 << 16) + letters(1010, b'')
         return 5, 8, 1000, body, ['1000 0 uart 1 9 414243', '1010 0 uart 0 0 -']
 
+    def stated(self):
+        said = b'$GPGGA,"a"\\\r\n'
+        body = number(1 << 31, 4) + letters(2000, said) + letters(2001, b'\x00\x01') + letters(2002, b'', 1 << 31 | 5 << 16)
+        return [(2000, body)], [dict(value=said.hex(), text='$GPGGA,"a"\\\\\\r\\n', sub='0'), dict(value='0001', sub='0'),
+                                dict(sub='5', errors='parity error')]
+
 
 class Message(Kind):
     name, code, value, data_type, channel = 'message', 'MSGIN', 'bytes', 0x30, 6
@@ -140,6 +151,11 @@ class Message(Kind):
     def example(self):
         body = number(2, 4) + letters(1002, b'\x0a', 1 << 31 | 2 << 16) + letters(1003, b'', 1 << 30)
         return 10, 0, 1002, body, ['1002 0 message 1 0 2 0a', '1003 0 message 0 1 0 -']
+
+    def stated(self):
+        body = number(2, 4) + letters(2010, b'ok', 1 << 31 | 1 << 30) + letters(2011, b'\xe9', 1 << 30)
+        return [(2010, body)], [dict(value='6f6b', text='ok', sub='0', errors='data error+format error'),
+                                dict(value='e9', sub='0', errors='format error')]
 
 
 # ---- buses
@@ -280,6 +296,13 @@ class Discrete(Kind):
 
     def example(self):
         return 9, 32, 1001, number(8 << 3, 4) + number(1001, 8) + number(0x81, 4), ['1001 0 discrete 00000081']
+
+    def stated(self):
+        first = number(5 << 3, 4) + b''.join(
+            number(2020 + place, 8) + number(states, 4) for place, states in enumerate((0x11, 0x11, 0x06)))
+        return [(2020, first), (2030, number(5 << 3, 4) + number(2030, 8) + number(0x16, 4))], [
+            dict(value='00000011', bits='10001'), dict(value='00000011', bits='10001'),
+            dict(value='00000006', bits='00110', changed='-0 +1 +2 -4'), dict(value='00000016', bits='10110', changed='+4')]
 
 
 KINDS = (Uart(), Bus(), Arinc(), Discrete(), Message())
