@@ -4,7 +4,7 @@ damaged ones.
 
     scripts/range_recordings.py FOLDER [--count N] [--size BYTES] [--seed S] [--jobs J]
 
-Recording K of a seed is the same bytes wherever and whenever it is made. Each has 48 channels of all kinds beside time and
+Recording K of a seed is the same bytes wherever and whenever it is made. Each has 48 channels of the five kinds beside time and
 events, names for them in its setup text, and lies in a second of its own between 2024 and 2026. In each twentieth something is
 damaged, each tenth has packets of another recorder, and a third lost messages.
 """
