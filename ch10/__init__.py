@@ -7,8 +7,8 @@
     medium       the directory of an image, and its files
     times        civil times, and the clock that gives each count its civil time
     buses        what the words of buses mean
-    stamps, kind_1553, kind_arinc, kind_uart, kind_message, kind_discrete, kind_time, kind_event
-                 how the entries of each kind are read, what they mean, and their rows
+    stamps, kind_..    what reads entries of one length or with a length in them; and, a module a kind, how its entries are read,
+                       what they mean, and their rows
     packets      the packets of a recording: headers, checksums, bodies as bytes
     bodies       what stands in a packet's body: its entries
     clocks       what times say of a clock: jumps, steps back, drift
@@ -18,8 +18,8 @@
     fields       the columns of entries
     recording    the interface for other programs: files, packets and typed entries of an input
     inputs       what a call reads and writes
-    parallel, vector    lines by several processes, and by numpy; walk, which stands on packets and bodies, finds entries by numpy;
-                        vector_1553, vector_arinc, vector_text and vector_discrete make the lines of the kinds
+    parallel, vector    lines by several processes, and by numpy; walk, which stands on packets and bodies, finds entries by numpy
+    vector_..    what of lines by numpy is of one kind
     table, lines, picture, cuts, database, script    the commands
     command      the words of a call
 

@@ -4,9 +4,9 @@ damaged ones.
 
     scripts/range_recordings.py FOLDER [--count N] [--size BYTES] [--seed S] [--jobs J]
 
-Recording K of a seed is the same bytes wherever and whenever it is made. Each has 48 channels of the five kinds beside time and
-events, names for them in its setup text, and lies in a second of its own between 2024 and 2026. In each twentieth something is
-damaged, each tenth has packets of another recorder, and a third lost messages.
+Recording K of a seed is the same bytes wherever and whenever it is made. Each has channels of every kind, in all as many as
+scripts/made_kinds.py says, beside time and events. It has names for them in its setup text, and lies in a second of its own between
+2024 and 2026. In each twentieth something is damaged, each tenth has packets of another recorder, and a third lost messages.
 """
 from __future__ import annotations
 
