@@ -13,7 +13,7 @@ from .tmats import Names
 
 FRONT = ('channel', 'name', 'count', 'time', 'lost', 'type')
 SHARED = ('value', 'text', 'sub', 'bus', 'bus_name', 'errors')
-COLUMNS = tuple(dict.fromkeys(FRONT + SHARED + tuple(column for kind in KINDS for column in kind.names)))
+COLUMNS = tuple(dict.fromkeys(FRONT + SHARED + tuple(column for kind in KINDS for column in kind.column_names)))
 READERS = by_type('meanings')
 
 

@@ -44,7 +44,7 @@ def meanings(reader: Any, packet: Packet, before: Optional[int]) -> Iterator[Tup
 
 
 def rows(packet: Packet, states: Dict[int, int]) -> Rows:
-    """The states before of each channel are `states`, which are then those after it."""
+    """Takes note of the last states too."""
     rows, before = [], states.get(packet.channel)
     for stamp, value in struct.iter_unpack('<QI', packet.body[4:]):
         rows.append((stamp & COUNT_BITS, value, None if before is None else value ^ before))

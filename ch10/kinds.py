@@ -1,23 +1,24 @@
 """The kinds of entries, a row each: their names, columns and tables, and the modules that read them.
 
-A row has what is known without reading an entry, for a call that reads none begins sooner so. A kind's entries are read by its
+A row has what is known without reading an entry, so that a call which reads none begins sooner. A kind's entries are read by its
 module, by functions of these names. A body is a packet's bytes after its header, without filler and checksum; it begins with its
-word. Counts are in units of 100 ns.
+word, of 32 bits. Counts are in units of 100 ns.
 
-    read(body, word, counter)       of each entry its count, and the values of its keys
-    counts(body, word, counter)     the counts alone, which is faster
+    read(body, word, counter)          of each entry its count, and the values of its keys
+    counts(body, word, counter)        the counts alone, which is faster
     number_in(data, at, size, word)    how many entries a body of a strict recording has, of so many bytes from a place on
     meanings(reader, packet, before)   of each entry its count, and its columns with what they mean; `reader` is a
                                        `ch10.fields.Reader`, and `before` what `last_state` gave of the channel's packet before
-    rows(packet, states)            of each entry its count, and the columns of its table; those that stand together are a tuple
+    rows(packet, states)               of each entry its count, and the columns of its table; several that stand together are a
+                                       tuple; `states` has what `last_state` gave of each channel's packet before
 
 and, where the kind asks for it, by these:
 
-    is_other_form(word, size)       whether the word of a body of so many bytes selects a form that is not read here
-    last_count(body)                the count of the last entry, where it is found sooner than all of them
-    last_state(body)                what has to be known of a packet before the channel's next one; None where it has no entry
-    ahead(octets, begin, some)      number, lowest and highest count of the entries of many packets, by numpy: see `ch10.walk`
-    SHAPE, NUMBER                   where the lengths of entries stand in them, by which `ch10.walk` finds them
+    is_other_form(word, size)    whether the word of a body of so many bytes selects a form that is not read here
+    last_count(body)             the count of the last entry, where it is found sooner than all of them
+    last_state(body)             what has to be known of a packet before the channel's next one; None where it has no entry
+    ahead(octets, begin, some)   number, lowest and highest count of the entries of many packets, by numpy: see `ch10.walk`
+    SHAPE, NUMBER                how entries have their lengths in them, and which bits of the word have their number, for `ch10.walk`
 
 By numpy lines are made by a module of its own (`ch10.vector` says what it has). Without one a kind's lines are made entry by entry.
 """
@@ -55,7 +56,7 @@ class Kind:
                  vector: Optional[str] = None) -> None:
         self.type, self.name, self.module, self.vector = data_type, name, module, vector
         self.keys, self.columns, self.own, self.together, self.step, self.tmats = keys, columns, own, together, step, tmats
-        self.names = tuple(column for column, _ in columns)
+        self.column_names = tuple(column for column, _ in columns)
         self.table = 'entry_' + name  # in a database of many recordings
         self.word = name if name.isalpha() else 'bus' + name  # its table in a database of one
         self.has_buses = ('bus', WHOLE) in keys  # whether each entry says of which bus it is

@@ -121,11 +121,11 @@ class Csv(RawCsv):
 
     def __init__(self, reader: Reader, only: Optional[Kind] = None) -> None:
         self.reader = reader
-        self.columns = COLUMNS if only is None else FRONT + only.names
+        self.columns = COLUMNS if only is None else FRONT + only.column_names
         self.shapes = {}
         for kind in KINDS:
             if only in (None, kind):
-                cells = ['%s' if column in kind.names else '' for column in self.columns[len(FRONT):]]
+                cells = ['%s' if column in kind.column_names else '' for column in self.columns[len(FRONT):]]
                 self.shapes[kind.type] = ',%s,%s' % (kind.name, ','.join(cells))
 
     def title(self) -> Optional[str]:
@@ -168,7 +168,7 @@ class Json(RawJson):
         self.reader, self.shapes, self.makers = reader, {}, {}
         for kind in KINDS:
             if only in (None, kind):
-                cells = ', '.join('"%s": %%s' % column for column in kind.names)
+                cells = ', '.join('"%s": %%s' % column for column in kind.column_names)
                 self.shapes[kind.type] = '"type": "%s", %s}' % (kind.name, cells)
                 self.makers[kind.type] = [CELLS[form] for _, form in kind.columns]
 
