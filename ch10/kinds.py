@@ -18,7 +18,7 @@ and, where the kind asks for it, by these:
     last_count(body)             the count of the last entry, where it is found sooner than all of them
     last_state(body)             what has to be known of a packet before the channel's next one; None where it has no entry
     ahead(octets, begin, some)   number, lowest and highest count of the entries of many packets, by numpy: see `ch10.walk`
-    SHAPE, NUMBER                how entries have their lengths in them, and which bits of the word have their number, for `ch10.walk`
+    SHAPE, NUMBER                where entries have their lengths, and which bits of the word have their number: see `ch10.walk`
 
 By numpy lines are made by a module of its own (`ch10.vector` says what it has). Without one a kind's lines are made entry by entry.
 """
