@@ -79,7 +79,9 @@ def message_1553(status: int, words: list) -> tuple:
 
 # ---- ARINC 429
 
-ODD = bytes(bin(value).count('1') & 1 for value in range(1 << 16))
+ODD = b'\0'  # of each number of 16 bits whether an odd number of them is set
+for _ in range(16):
+    ODD += ODD.translate(b'\1\0' + bytes(254))  # with one bit more
 TURNED = bytes(int('{:08b}'.format(value)[::-1], 2) for value in range(256))
 
 

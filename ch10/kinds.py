@@ -25,13 +25,13 @@ By numpy lines are made by a module of its own (`ch10.vector` says what it has).
 from __future__ import annotations
 
 from importlib import import_module
-from typing import Any, Dict, Optional, Sequence, Tuple
+from typing import Any, Dict, Optional, Sequence
 
 from .standard import EVENT, TIME
 
 BUS, DISCRETE, MESSAGE, ARINC, UART = 0x19, 0x29, 0x30, 0x38, 0x50
 WHOLE, REAL, TRUTH, TEXT, VALUE = 'INTEGER', 'REAL', 'BOOLEAN', 'TEXT', 'value'  # VALUE: a text, what the message itself is
-Columns = Tuple[Tuple[str, str], ...]  # of each its name and its form
+Columns = Dict[str, str]  # of each its form by its name
 
 
 class Kind:
@@ -44,7 +44,7 @@ class Kind:
     .columns   of csv, json and sqlite, each with its form; those that other kinds have too in the order of `ch10.fields.SHARED`
     .own       the columns of its table in a database, each with its type; those that may be NULL or vary in length at the end
     .together  how many of these stand together, each such group at the end of a row
-    .step      the step that makes this table (`ch10.store_schema`): one that no release has, for a kind that is new
+    .step      the step that makes this table (`ch10.store_schema`): for a kind that is new one of its own, after all others
     .tmats     how a setup text (chapter 9) describes its channels, or None: `data_type`, the channel data type; `format_name`, the
                attribute of the format; `format`, the one that r10 writes; `group`, of what a channel carries, or None: S, messages,
                or B, buses, with their `bus_type`
@@ -54,57 +54,58 @@ class Kind:
     def __init__(self, data_type: int, name: str, module: str, keys: Columns, columns: Columns, own: Columns,
                  together: Sequence[int] = (), step: int = 2, tmats: Optional[Dict[str, Any]] = None,
                  vector: Optional[str] = None) -> None:
-        self.type, self.name, self.module, self.vector = data_type, name, module, vector
-        self.keys, self.columns, self.own, self.together, self.step, self.tmats = keys, columns, own, together, step, tmats
-        self.column_names = tuple(column for column, _ in columns)
+        self.type, self.name, self.module, self.together, self.step = data_type, name, module, together, step
+        self.tmats, self.vector = tmats, vector
+        self.keys, self.columns, self.own = tuple(keys.items()), tuple(columns.items()), tuple(own.items())
+        self.column_names = tuple(columns)
         self.table = 'entry_' + name  # in a database of many recordings
         self.word = name if name.isalpha() else 'bus' + name  # its table in a database of one
-        self.has_buses = ('bus', WHOLE) in keys  # whether each entry says of which bus it is
+        self.has_buses = keys.get('bus') == WHOLE  # whether each entry says of which bus it is
 
 
 KINDS = (
     Kind(BUS, '1553', 'kind_1553',
-         keys=(('status', TEXT), ('gap', TEXT), ('words', VALUE)),
-         columns=(('value', TEXT), ('bus', TEXT), ('bus_name', TEXT), ('errors', TEXT), ('rt', WHOLE), ('tr', TEXT), ('sa', WHOLE),
-                  ('wc', WHOLE), ('mode', WHOLE), ('rt2', WHOLE), ('sa2', WHOLE), ('status1', TEXT), ('status2', TEXT),
-                  ('flags', TEXT), ('gap1', REAL), ('gap2', REAL)),
-         own=(('rt', 'SMALLINT'), ('tr', '{text}'), ('sa', 'SMALLINT'), ('wc', 'SMALLINT'), ('mode', 'SMALLINT'),
-              ('rt2', 'SMALLINT'), ('sa2', 'SMALLINT'), ('status1', 'INTEGER'), ('status2', 'INTEGER'), ('bus', '{text}'),
-              ('errors', '{text}'), ('block_status', 'INTEGER'), ('gap1', 'REAL'), ('gap2', 'REAL'), ('words', '{bytes}')),
+         keys={'status': TEXT, 'gap': TEXT, 'words': VALUE},
+         columns={'value': TEXT, 'bus': TEXT, 'bus_name': TEXT, 'errors': TEXT, 'rt': WHOLE, 'tr': TEXT, 'sa': WHOLE,
+                  'wc': WHOLE, 'mode': WHOLE, 'rt2': WHOLE, 'sa2': WHOLE, 'status1': TEXT, 'status2': TEXT,
+                  'flags': TEXT, 'gap1': REAL, 'gap2': REAL},
+         own={'rt': 'SMALLINT', 'tr': '{text}', 'sa': 'SMALLINT', 'wc': 'SMALLINT', 'mode': 'SMALLINT',
+              'rt2': 'SMALLINT', 'sa2': 'SMALLINT', 'status1': 'INTEGER', 'status2': 'INTEGER', 'bus': '{text}',
+              'errors': '{text}', 'block_status': 'INTEGER', 'gap1': 'REAL', 'gap2': 'REAL', 'words': '{bytes}'},
          together=(5, 2, 2, 5, 1), tmats=dict(data_type='1553IN', format_name='BTF', format=1, group='B', bus_type='1553'),
          vector='vector_1553'),
     Kind(ARINC, 'arinc', 'kind_arinc',
-         keys=(('bus', WHOLE), ('format', TRUTH), ('parity', TRUTH), ('high', TRUTH), ('data', VALUE)),
-         columns=(('value', TEXT), ('bus', WHOLE), ('bus_name', TEXT), ('errors', TEXT), ('label', TEXT), ('sdi', WHOLE),
-                  ('data', WHOLE), ('ssm', WHOLE), ('parity', WHOLE), ('high', TRUTH)),
-         own=(('word', 'BIGINT'), ('data', 'INTEGER'), ('bus', 'SMALLINT'), ('sdi', 'SMALLINT'), ('ssm', 'SMALLINT'),
-              ('parity', 'SMALLINT'), ('high', 'BOOLEAN'), ('label', '{text}3'), ('errors', '{text}')),
+         keys={'bus': WHOLE, 'format': TRUTH, 'parity': TRUTH, 'high': TRUTH, 'data': VALUE},
+         columns={'value': TEXT, 'bus': WHOLE, 'bus_name': TEXT, 'errors': TEXT, 'label': TEXT, 'sdi': WHOLE,
+                  'data': WHOLE, 'ssm': WHOLE, 'parity': WHOLE, 'high': TRUTH},
+         own={'word': 'BIGINT', 'data': 'INTEGER', 'bus': 'SMALLINT', 'sdi': 'SMALLINT', 'ssm': 'SMALLINT',
+              'parity': 'SMALLINT', 'high': 'BOOLEAN', 'label': '{text}3', 'errors': '{text}'},
          together=(1,), tmats=dict(data_type='429IN', format_name='ABTF', format=0, group='B', bus_type='A429'),
          vector='vector_arinc'),
     Kind(UART, 'uart', 'kind_uart',
-         keys=(('parity', TRUTH), ('sub', WHOLE), ('bytes', VALUE)),
-         columns=(('value', TEXT), ('text', TEXT), ('sub', WHOLE), ('errors', TEXT)),
-         own=(('sub', 'SMALLINT'), ('errors', '{text}'), ('value', '{bytes}')),
+         keys={'parity': TRUTH, 'sub': WHOLE, 'bytes': VALUE},
+         columns={'value': TEXT, 'text': TEXT, 'sub': WHOLE, 'errors': TEXT},
+         own={'sub': 'SMALLINT', 'errors': '{text}', 'value': '{bytes}'},
          together=(1, 1), tmats=dict(data_type='UARTIN', format_name='UTF', format=0, group='S'), vector='vector_text'),
     Kind(MESSAGE, 'message', 'kind_message',
-         keys=(('data_error', TRUTH), ('format', TRUTH), ('sub', WHOLE), ('bytes', VALUE)),
-         columns=(('value', TEXT), ('text', TEXT), ('sub', WHOLE), ('errors', TEXT)),
-         own=(('sub', 'SMALLINT'), ('errors', '{text}'), ('value', '{bytes}')),
+         keys={'data_error': TRUTH, 'format': TRUTH, 'sub': WHOLE, 'bytes': VALUE},
+         columns={'value': TEXT, 'text': TEXT, 'sub': WHOLE, 'errors': TEXT},
+         own={'sub': 'SMALLINT', 'errors': '{text}', 'value': '{bytes}'},
          together=(1, 1), tmats=dict(data_type='MSGIN', format_name='MTF', format=0, group='S'), vector='vector_text'),
     Kind(DISCRETE, 'discrete', 'kind_discrete',
-         keys=(('states', VALUE),),
-         columns=(('value', TEXT), ('bits', TEXT), ('changed', TEXT)),
-         own=(('states', 'BIGINT'), ('changed', 'BIGINT')),
+         keys={'states': VALUE},
+         columns={'value': TEXT, 'bits': TEXT, 'changed': TEXT},
+         own={'states': 'BIGINT', 'changed': 'BIGINT'},
          tmats=dict(data_type='DISIN', format_name='DTF', format=1, group=None), vector='vector_discrete'),
     Kind(TIME, 'time', 'kind_time',
-         keys=(('civil', VALUE),),
-         columns=(('value', TEXT),),
-         own=(('value', '{text}'),),
+         keys={'civil': VALUE},
+         columns={'value': TEXT},
+         own={'value': '{text}'},
          together=(1,), tmats=dict(data_type='TIMEIN', format_name='TTF', format=1, group=None)),
     Kind(EVENT, 'event', 'kind_event',
-         keys=(('number', WHOLE), ('occurrence', WHOLE)),
-         columns=(('number', WHOLE), ('occurrence', WHOLE)),
-         own=(('number', 'SMALLINT'), ('occurrence', 'INTEGER'))),
+         keys={'number': WHOLE, 'occurrence': WHOLE},
+         columns={'number': WHOLE, 'occurrence': WHOLE},
+         own={'number': 'SMALLINT', 'occurrence': 'INTEGER'}),
 )
 BY_NAME = {kind.name: kind for kind in KINDS}
 

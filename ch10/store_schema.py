@@ -177,6 +177,6 @@ MIGRATIONS = (
     Migration(1, 'catalogue', (RECORDING, PLACE, CHANNEL, DAMAGE, ATTRIBUTE) + INDEXES),
     Migration(2, 'entries', (LOADED,), postgresql=entry_tables(2, True), sqlite=entry_tables(2, False)),
     Migration(3, 'questions', QUESTIONS),
-) + tuple(  # a table for each kind that is newer
-    Migration(step, 'entries', (), postgresql=entry_tables(step, True), sqlite=entry_tables(step, False))
-    for step in sorted({kind.step for kind in KINDS if kind.step > 3}))
+) + tuple(  # of each kind that is newer its table
+    Migration(kind.step, kind.table, (), postgresql=entry_tables(kind.step, True), sqlite=entry_tables(kind.step, False))
+    for kind in KINDS if kind.step > 3)
