@@ -1,42 +1,10 @@
 //! Entries as text: the form of a script's offers, as a line of a pipe has it, and the form in which `r10 play` prints them.
 use std::fmt::Write;
 
-use r10::{Content, Entry, Gap};
+use r10::{Entry, Gap};
 use serde::Deserialize;
 
-use crate::clock;
-use crate::feed::Head;
-use crate::settings::Kind;
-
-/// A line's keys are those of a script's step `offer`: which of them there are depends on the kind of the channel.
-#[derive(Deserialize, Default)]
-#[serde(deny_unknown_fields, default)]
-struct Keys {
-    r#do: Option<String>,
-    channel: Option<u16>,
-    #[allow(dead_code, reason = "a script's offers have it; here the recorder's clock gives the count")]
-    count: Option<u64>,
-    kind: Option<String>,
-    parity: Option<bool>,
-    sub: Option<u16>,
-    bytes: Option<String>,
-    status: Option<u16>,
-    gap: Option<u16>,
-    words: Option<String>,
-    bus: Option<u8>,
-    format: Option<bool>,
-    high: Option<bool>,
-    data: Option<Data>,
-    states: Option<u32>,
-}
-
-/// `data` is a word of ARINC 429, or whether a message has a data error.
-#[derive(Deserialize)]
-#[serde(untagged)]
-enum Data {
-    IsWrong(bool),
-    Word(u32),
-}
+use crate::kinds::{self, Head, Keys, Kind};
 
 /// An entry of a line: its channel, where the line says one, and the message.
 #[derive(Debug, PartialEq, Eq)]
@@ -86,57 +54,7 @@ pub fn read(line: &str, only: Option<u16>, kind_of: impl Fn(u16) -> Option<Kind>
     if keys.kind.as_deref().is_some_and(|it| it != kind.name()) {
         return Err(format!("channel {channel} is of kind {}", kind.name()));
     }
-    let is_there = [
-        ("parity", keys.parity.is_some(), matches!(kind, Kind::Uart | Kind::Arinc)),
-        ("sub", keys.sub.is_some(), kind.is_bytes()),
-        ("bytes", keys.bytes.is_some(), kind.is_bytes()),
-        ("status", keys.status.is_some(), kind == Kind::Bus1553),
-        ("gap", keys.gap.is_some(), kind == Kind::Bus1553),
-        ("words", keys.words.is_some(), kind == Kind::Bus1553),
-        ("bus", keys.bus.is_some(), kind == Kind::Arinc),
-        ("format", keys.format.is_some(), matches!(kind, Kind::Arinc | Kind::Message)),
-        ("high", keys.high.is_some(), kind == Kind::Arinc),
-        ("data", keys.data.is_some(), matches!(kind, Kind::Arinc | Kind::Message)),
-        ("states", keys.states.is_some(), kind == Kind::Discrete),
-    ];
-    if let Some((key, ..)) = is_there.iter().find(|(_, is_there, is_right)| *is_there && !is_right) {
-        return Err(format!("a message of kind {} has no key {key}", kind.name()));
-    }
-    let hex =
-        |text: &Option<String>| text.as_deref().map_or(Some(Vec::new()), from_hex).ok_or("bytes and words are pairs of hex digits");
-    let (sub, flag) = (keys.sub.unwrap_or(0), |it: Option<bool>| it.unwrap_or(false));
-    let (head, bytes) = match (kind, keys.data) {
-        (Kind::Uart, _) => (Head::Uart { parity: flag(keys.parity), sub }, hex(&keys.bytes)?),
-        (Kind::Bus1553, _) => {
-            // four digits a word, the high ones first; messages keep their words with the low byte first
-            let mut bytes = hex(&keys.words)?;
-            if bytes.len() % 2 == 1 {
-                return Err("a word has four hex digits".to_string());
-            }
-            bytes.chunks_mut(2).for_each(|it| it.swap(0, 1));
-            (Head::Bus1553 { status: keys.status.unwrap_or(0), gap_times: keys.gap.unwrap_or(0) }, bytes)
-        }
-        (Kind::Arinc, Some(Data::IsWrong(_))) => return Err("data of an ARINC word is a number".to_string()),
-        (Kind::Arinc, data) => {
-            let word = if let Some(Data::Word(word)) = data { word } else { 0 };
-            (
-                Head::Arinc {
-                    bus: keys.bus.unwrap_or(0),
-                    format: flag(keys.format),
-                    parity: flag(keys.parity),
-                    high: flag(keys.high),
-                    word,
-                },
-                Vec::new(),
-            )
-        }
-        (Kind::Discrete, _) => (Head::Discrete { states: keys.states.unwrap_or(0) }, Vec::new()),
-        (Kind::Message, Some(Data::Word(_))) => return Err("data of a message is true or false".to_string()),
-        (Kind::Message, data) => (
-            Head::Message { data_error: matches!(data, Some(Data::IsWrong(true))), format: flag(keys.format), sub },
-            hex(&keys.bytes)?,
-        ),
-    };
+    let (head, bytes) = kind.of_line(&keys)?;
     Ok(Offer { channel: Some(channel), head, bytes })
 }
 
@@ -148,36 +66,14 @@ pub fn print(out: &mut String, entry: &Entry) {
         Gap::Unknown => "1+".to_string(),
     };
     let _ = write!(out, "entry {} {} {gap} ", entry.channel, entry.count);
-    let bit = u8::from;
-    let _ = match &entry.content {
-        Content::Uart { parity, sub, bytes } => {
-            let _ = write!(out, "uart {} {sub} ", bit(*parity));
-            to_hex(out, bytes);
-            Ok(())
-        }
-        Content::Bus1553 { status, gap_times, words } => {
-            let _ = write!(out, "1553 {status:04x} {gap_times:04x} ");
-            let bytes: Vec<u8> = words.iter().flat_map(|it| it.to_be_bytes()).collect();
-            to_hex(out, &bytes);
-            Ok(())
-        }
-        Content::Arinc { bus, format, parity, high, word } => {
-            write!(out, "arinc {bus} {} {} {} {word:08x}", bit(*format), bit(*parity), bit(*high))
-        }
-        Content::Discrete { states } => write!(out, "discrete {states:08x}"),
-        Content::Message { data_error, format, sub, bytes } => {
-            let _ = write!(out, "message {} {} {sub} ", bit(*data_error), bit(*format));
-            to_hex(out, bytes);
-            Ok(())
-        }
-        Content::Time { civil } => write!(out, "time {}", clock::text(civil)),
-        Content::Event { number, occurrence } => write!(out, "event {number} {occurrence}"),
-    };
+    kinds::print(out, &entry.content);
     out.push('\n');
 }
 
 #[cfg(test)]
 mod tests {
+    use r10::Content;
+
     use super::*;
 
     fn kind_of(channel: u16) -> Option<Kind> {

@@ -10,16 +10,7 @@ use std::time::Duration;
 
 use crate::clock::Counter;
 use crate::inputs::AGAIN;
-
-/// What a message has besides its bytes.
-#[derive(Clone, Copy, Debug, PartialEq, Eq)]
-pub enum Head {
-    Uart { parity: bool, sub: u16 },
-    Bus1553 { status: u16, gap_times: u16 },
-    Arinc { bus: u8, format: bool, parity: bool, high: bool, word: u32 },
-    Discrete { states: u32 },
-    Message { data_error: bool, format: bool, sub: u16 },
-}
+use crate::kinds::Head;
 
 #[derive(Clone, Copy, Debug)]
 pub struct Item {

@@ -7,8 +7,8 @@ use std::thread::{self, Thread};
 use std::time::Duration;
 
 use crate::clock::Counter;
-use crate::feed::{Came, Feed, Head, Outlet, feed};
-use crate::settings::{Channel, Input, Kind, Settings};
+use crate::feed::{Came, Feed, Outlet, feed};
+use crate::settings::{Input, Settings};
 use crate::{info, pipe, serial, udp, warning};
 
 /// How long an input waits before it opens its line or pipe again.
@@ -67,22 +67,6 @@ pub fn start(settings: &Settings, counter: Counter, came: &[Arc<Came>], owner: &
     Ok(outlets)
 }
 
-/// What the bytes of a datagram or a serial line are on a channel: a message, or none. The bytes of a word come with the low one
-/// first, as in the file.
-pub fn message_of(channel: &Channel, bytes: &[u8]) -> Option<(Head, usize)> {
-    let word = || Some(u32::from_le_bytes(bytes.try_into().ok()?));
-    Some(match channel.kind {
-        Kind::Uart => (Head::Uart { parity: false, sub: channel.sub }, bytes.len()),
-        Kind::Message => (Head::Message { data_error: false, format: false, sub: channel.sub }, bytes.len()),
-        Kind::Bus1553 if bytes.len().is_multiple_of(2) && bytes.len() <= 72 => {
-            (Head::Bus1553 { status: 0, gap_times: 0 }, bytes.len())
-        }
-        Kind::Bus1553 => return None,
-        Kind::Arinc => (Head::Arinc { bus: 0, format: false, parity: false, high: false, word: word()? }, 0),
-        Kind::Discrete => (Head::Discrete { states: word()? }, 0),
-    })
-}
-
 /// Says a thing of a channel, but not more than once a minute: inputs are fast.
 #[derive(Default)]
 pub struct Seldom {
@@ -101,25 +85,5 @@ impl Seldom {
             more => warning!("{} (and {more} more like it in the last minute)", text()),
         }
         self.last = Some(std::time::Instant::now());
-    }
-}
-
-#[cfg(test)]
-mod tests {
-    use super::*;
-
-    #[test]
-    fn bytes_are_messages_of_their_kind() {
-        let of = |kind, bytes: &[u8]| {
-            message_of(&Channel { id: 1, kind, name: String::new(), capacity: 1, input: None, queue: 0, sub: 9 }, bytes)
-        };
-        assert_eq!(of(Kind::Uart, b"abc"), Some((Head::Uart { parity: false, sub: 9 }, 3)));
-        assert_eq!(of(Kind::Message, b""), Some((Head::Message { data_error: false, format: false, sub: 9 }, 0)));
-        assert_eq!(of(Kind::Bus1553, &[0x42, 0x28]), Some((Head::Bus1553 { status: 0, gap_times: 0 }, 2)));
-        assert_eq!((of(Kind::Bus1553, &[0; 3]), of(Kind::Bus1553, &[0; 74])), (None, None));
-        assert_eq!(of(Kind::Discrete, &[0x5a, 0, 0, 1]), Some((Head::Discrete { states: 0x0100_005a }, 0)));
-        let word = Head::Arinc { bus: 0, format: false, parity: false, high: false, word: 0x6000_00c1 };
-        assert_eq!(of(Kind::Arinc, &[0xc1, 0, 0, 0x60]), Some((word, 0)));
-        assert_eq!((of(Kind::Arinc, &[0; 3]), of(Kind::Discrete, &[0; 8])), (None, None));
     }
 }

@@ -11,6 +11,7 @@ pub mod entries;
 pub mod feed;
 pub mod figures;
 pub mod inputs;
+pub mod kinds;
 pub mod live;
 pub mod log;
 pub mod medium;

@@ -7,12 +7,12 @@ use std::sync::atomic::{AtomicBool, Ordering::Relaxed};
 use std::sync::mpsc::Receiver;
 use std::time::{Duration, Instant};
 
-use r10::{Error, Message, Recorder};
+use r10::{Error, Recorder};
 
 use crate::acknowledge::Acknowledge;
 use crate::clock::{Counter, Steps};
 use crate::control::Command;
-use crate::feed::{Batch, Came, Head, Item, Outlet};
+use crate::feed::{Batch, Came, Item, Outlet};
 use crate::figures::Times;
 use crate::inputs::Seldom;
 use crate::live::Live;
@@ -398,7 +398,7 @@ impl Owner {
             (State::Recording, Some(recorder)) => {
                 lane.longest = lane.longest.max(bytes.len());
                 tell_lost(recorder, lane);
-                match give(recorder, lane.channel.id, &item, bytes) {
+                match item.head.offer(recorder, lane.channel.id, item.count, bytes) {
                     Ok(()) => {
                         lane.waiting += 1;
                         lane.pending.push_back(Pending { count: item.count, lost: std::mem::take(&mut lane.told) });
@@ -479,27 +479,6 @@ fn tell_lost(recorder: &mut Recorder, lane: &mut Lane) {
         lane.told += lane.untold;
         lane.given += std::mem::take(&mut lane.untold);
     }
-}
-
-fn give(recorder: &mut Recorder, id: u16, item: &Item, bytes: &[u8]) -> Result<(), Error> {
-    let mut words = [0; 36];
-    let message = match item.head {
-        Head::Uart { parity, sub } => Message::Uart { parity, sub, bytes },
-        Head::Bus1553 { status, gap_times } => {
-            let count = (bytes.len() / 2).min(words.len());
-            for (word, it) in words.iter_mut().zip(bytes.chunks_exact(2)) {
-                *word = u16::from_le_bytes([it[0], it[1]]);
-            }
-            if bytes.len() > 72 {
-                return Err(Error::TOO_LONG);
-            }
-            Message::Bus1553 { status, gap_times, words: &words[..count] }
-        }
-        Head::Arinc { bus, format, parity, high, word } => Message::Arinc { bus, format, parity, high, word },
-        Head::Discrete { states } => Message::Discrete { states },
-        Head::Message { data_error, format, sub } => Message::Message { data_error, format, sub, bytes },
-    };
-    recorder.offer(id, item.count, message)
 }
 
 #[cfg(test)]

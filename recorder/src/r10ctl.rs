@@ -9,6 +9,7 @@ use std::process::ExitCode;
 use std::time::{Duration, Instant};
 
 use clap::Parser;
+use r10_recorder::kinds::Kind;
 use r10_recorder::words::{PATIENCE, WORDS};
 use serde_json::{Value, json};
 
@@ -219,20 +220,17 @@ fn of_entry(line: &str) -> Value {
     match parts.as_slice() {
         ["entry", channel, count, gap, kind, rest @ ..] => {
             let mut it = json!({ "channel": number(channel), "count": number(count), "gap": gap, "kind": kind });
-            let names: &[&str] = match *kind {
-                "uart" => &["parity", "sub", "bytes"],
-                "1553" => &["status", "gap_times", "words"],
-                "arinc" => &["bus", "format", "parity", "high", "data"],
-                "discrete" => &["states"],
-                "message" => &["data", "format", "sub", "bytes"],
-                "event" => &["number", "occurrence"],
-                _ => &[],
+            let names = match *kind {
+                "event" => &["number", "occurrence"][..],
+                _ => Kind::of(kind).map_or(&[][..], Kind::keys),
             };
             if *kind == "time" {
                 it["civil"] = rest.join(" ").into();
             }
             for (name, value) in names.iter().zip(rest) {
-                it[*name] = if *value == "-" { "".into() } else { (*value).into() };
+                // (an entry has a gap of its own, which tells of losses)
+                let name = if *name == "gap" { "gap_times" } else { *name };
+                it[name] = if *value == "-" { "".into() } else { (*value).into() };
             }
             it
         }

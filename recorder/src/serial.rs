@@ -11,7 +11,7 @@ use nix::poll::{PollFd, PollFlags, poll};
 use nix::sys::termios::{BaudRate, ControlFlags, SetArg, cfmakeraw, cfsetspeed, tcgetattr, tcsetattr};
 
 use crate::feed::Feed;
-use crate::inputs::{AGAIN, message_of};
+use crate::inputs::AGAIN;
 use crate::settings::Channel;
 use crate::{info, warning};
 
@@ -111,7 +111,7 @@ pub fn run(path: &Path, baud: Option<u32>, mut framer: Framer, pause: Option<Dur
 }
 
 fn give(feed: &mut Feed, channel: &Channel, bytes: &[u8]) {
-    if let Some((head, length)) = message_of(channel, bytes) {
+    if let Some((head, length)) = channel.kind.of_bytes(bytes, channel.sub) {
         feed.message(0, 0, head, &bytes[..length]);
     }
 }

@@ -9,17 +9,8 @@ use std::time::Duration;
 use serde::Deserialize;
 use toml::Spanned;
 
+use crate::kinds::{self, Kind};
 use crate::udp;
-
-/// The kinds of channels, as a script names them.
-#[derive(Clone, Copy, Debug, PartialEq, Eq)]
-pub enum Kind {
-    Uart,
-    Bus1553,
-    Arinc,
-    Discrete,
-    Message,
-}
 
 impl Channel {
     /// Whether its socket hears what is sent to this address of this machine.
@@ -43,29 +34,6 @@ fn has(one: IpAddr, other: IpAddr) -> bool {
 /// Whether two sockets cannot be had together.
 fn are_one(one: SocketAddr, other: SocketAddr) -> bool {
     one.port() == other.port() && (has(one.ip(), other.ip()) || has(other.ip(), one.ip()))
-}
-
-impl Kind {
-    pub const NAMES: [(&'static str, Kind); 5] = [
-        ("uart", Kind::Uart),
-        ("1553", Kind::Bus1553),
-        ("arinc", Kind::Arinc),
-        ("discrete", Kind::Discrete),
-        ("message", Kind::Message),
-    ];
-
-    pub fn of(name: &str) -> Option<Kind> {
-        Kind::NAMES.iter().find(|it| it.0 == name).map(|it| it.1)
-    }
-
-    pub fn name(self) -> &'static str {
-        Kind::NAMES.iter().find(|it| it.1 == self).map_or("", |it| it.0)
-    }
-
-    /// Whether its messages are bytes, so that a serial line can be its input.
-    pub fn is_bytes(self) -> bool {
-        matches!(self, Kind::Uart | Kind::Message)
-    }
 }
 
 /// Where a channel's messages come from.
@@ -496,10 +464,7 @@ impl Reader<'_> {
             self.fault(at, format!("name = {:?}: give a text without control characters", at.get_ref()));
         }
         let kind = Kind::of(it.kind.get_ref()).unwrap_or_else(|| {
-            self.fault(
-                &it.kind,
-                format!("kind = {:?}: give \"uart\", \"1553\", \"arinc\", \"discrete\" or \"message\"", it.kind.get_ref()),
-            );
+            self.fault(&it.kind, format!("kind = {:?}: give {}", it.kind.get_ref(), kinds::names(|_| true, "\"")));
             Kind::Message
         });
         let capacity = self.number_or("capacity", &it.capacity, 16_384, 1..=65_536);
@@ -520,17 +485,24 @@ impl Reader<'_> {
             "[[channel]]\nid = {id}\nkind = \"{}\"\ncapacity = {capacity}\ncheck = {check}\nbytes = {bytes}\nnumber = {number}\n",
             kind.name()
         );
-        match (&it.bits, kind) {
-            (Some(at), Kind::Discrete) => *script += &format!("bits = {}\n", self.number("bits", at, 1..=31)),
-            (Some(at), _) => self.fault(at, format!("bits = {}: only a discrete channel has bits; take the key out", at.get_ref())),
-            (None, Kind::Discrete) => self.fault(&it.kind, "bits is missing: give a discrete channel bits = 1 to 31".to_string()),
-            (None, _) => (),
+        match (&it.bits, kind.bits()) {
+            (Some(at), Some(limit)) => *script += &format!("bits = {}\n", self.number("bits", at, limit)),
+            (Some(at), None) => {
+                let with_bits = kinds::names(|it| it.bits().is_some(), "");
+                self.fault(at, format!("bits = {}: only a {with_bits} channel has bits; take the key out", at.get_ref()));
+            }
+            (None, Some(limit)) => {
+                let (least, most) = (limit.start(), limit.end());
+                self.fault(&it.kind, format!("bits is missing: give {} channel bits = {least} to {most}", kind.with_article()));
+            }
+            (None, None) => (),
         }
-        let sub = self.number_or("sub", &it.sub, 0, 0..=16_383);
+        let sub = self.number_or("sub", &it.sub, 0, kinds::SUBS);
         if let Some(at) = &it.sub
             && !kind.is_bytes()
         {
-            self.fault(at, format!("sub = {sub}: only a channel of kind uart or message has subchannels; take the key out"));
+            let with_subs = kinds::names(Kind::is_bytes, "");
+            self.fault(at, format!("sub = {sub}: only a channel of kind {with_subs} has subchannels; take the key out"));
         }
         let queue_mib = self.number_or("queue_mib", &it.queue_mib, 16, 1..=1024);
         let input = it.input.as_ref().and_then(|at| self.input(at, kind, id, inputs));
@@ -708,10 +680,7 @@ input = { udp = \"127.0.0.1:20005\" }
             ("id = 5", "id = 5\ncheck = 7", "line 8: check = 7: give 0, 8, 16 or 32 (bits)"),
             ("id = 5", "id = 5\nbytes = 130", "line 8: bytes = 130: give a multiple of 4"),
             ("id = 5", "id = 5\nbytes = 124", "line 8: bytes = 124: give a number from 128 to 524288"),
-            ("id = 5", "id = 5\nbits = 3", "line 8: bits = 3: only a discrete channel has bits; take the key out"),
             ("id = 5", "id = 5\nsub = 16384", "line 8: sub = 16384: give a number from 0 to 16383"),
-            ("\"message\"", "\"discrete\"", "line 8: bits is missing: give a discrete channel bits = 1 to 31"),
-            ("\"message\"", "\"pcm\"", "line 8: kind = \"pcm\": give \"uart\", \"1553\", \"arinc\", \"discrete\" or \"message\""),
             ("127.0.0.1:20005", "127.0.0.1", "line 9: udp = \"127.0.0.1\": give an address and a port, as \"127.0.0.1:20005\""),
             (
                 "udp = \"127.0.0.1:20005\"",

@@ -8,7 +8,7 @@ use nix::errno::Errno;
 use nix::sys::socket::{ControlMessageOwned, MsgFlags, SockaddrStorage, recvmsg, setsockopt, sockopt};
 
 use crate::feed::Feed;
-use crate::inputs::{AGAIN, Seldom, message_of};
+use crate::inputs::{AGAIN, Seldom};
 use crate::settings::Channel;
 use crate::{info, warning};
 use std::time::Duration;
@@ -122,7 +122,7 @@ pub fn run(socket: UdpSocket, mut feed: Feed, channel: &Channel) {
         };
         flags = MsgFlags::MSG_DONTWAIT;
         has_heard = true;
-        match message_of(channel, &bytes[..length]) {
+        match channel.kind.of_bytes(&bytes[..length], channel.sub) {
             Some((head, length)) => feed.message(0, lost, head, &bytes[..length]),
             None => {
                 // something was sent that is in no file

@@ -8,9 +8,9 @@ import subprocess
 import termios
 import time
 
+from kinds import KINDS, LONGEST
 from trying import (
     HOST,
-    KINDS,
     LONG,
     NotTried,
     Room,
@@ -30,40 +30,28 @@ from trying import (
 @trial
 def each_kind_by_udp(room: Room) -> str:
     """A datagram of each kind of channel is the message that r10 play prints; what is no message of its kind is counted."""
-    ports = room.ports(5)
+    ports = room.ports(len(KINDS))
     service = Service(
         room,
         settings(''.join(channel(10 + n, kind, f'udp = "{HOST}:{port}"') for n, (kind, port) in enumerate(zip(KINDS, ports)))),
     )
-    bodies = [b'$GPRMC,V\r\n', bytes.fromhex('42280000fa000028'), bytes.fromhex('c1000060'), bytes([0x5A, 0, 0, 0]), b'']
+    wanted = sorted((10 + n, entry) for n, kind in enumerate(KINDS.values()) for _, entry in kind.datagrams)
+    wrong = [len(kind.wrong) for kind in KINDS.values()]
     with socket.socket(socket.AF_INET, socket.SOCK_DGRAM) as it:
-        for body, port in zip(bodies, ports):
-            it.sendto(body, (HOST, port))
-        for body, port in ((b'123', ports[1]), (b'12345', ports[2]), (bytes(76), ports[1])):
-            it.sendto(body, (HOST, port))
-        # the longest that UDP has
-        it.sendto(bytes(range(256)) * 255 + bytes(227), (HOST, ports[4]))
+        for kind, port in zip(KINDS.values(), ports):
+            for body in (*(body for body, _ in kind.datagrams), *kind.wrong):
+                it.sendto(body, (HOST, port))
         service.until(
-            lambda it: [at['bad'] for at in it['channels']] == [0, 2, 1, 0, 0] and sum(at['durable'] for at in it['channels']) == 6,
+            lambda it: [at['bad'] for at in it['channels']] == wrong
+            and sum(at['durable'] for at in it['channels']) == len(wanted),
             'datagrams that are no message are not counted, or one is missing',
         )
     service.end()
     found = [
         (it.channel, ' '.join([it.kind, *it.words])) for it in entries((room.folder / 'medium').read_bytes(), 0) if it.channel >= 10
     ]
-    must(
-        sorted(found)
-        == [
-            (10, 'uart 0 0 244750524d432c560d0a'),
-            (11, '1553 0000 0000 2842000000fa2800'),
-            (12, 'arinc 0 0 0 0 600000c1'),
-            (13, 'discrete 0000005a'),
-            (14, 'message 0 0 0 -'),
-            (14, 'message 0 0 0 ' + (bytes(range(256)) * 255 + bytes(227)).hex()),
-        ],
-        f'by UDP came {found}',
-    )
-    return '5 kinds, one of 65,507 bytes, and 3 datagrams that are none'
+    must(sorted(found) == wanted, f'by UDP came {found}')
+    return f'{len(KINDS)} kinds, one of {len(LONGEST):,} bytes, and {sum(wrong)} datagrams that are none'
 
 
 @trial
@@ -99,20 +87,14 @@ def multicast(room: Room) -> str:
 @trial
 def each_kind_by_lines(room: Room) -> str:
     """Lines of a named pipe, and of standard input, in the form of a script's offers, come out as r10 play prints them."""
-    lines = {
-        10: ('parity = true, sub = 3, bytes = "4142"', 'uart 1 3 4142'),
-        11: ('status = 0x2000, gap = 7, words = "0821abcd"', '1553 2000 0007 0821abcd'),
-        12: ('bus = 1, high = true, parity = true, data = 0x600000c1', 'arinc 1 0 1 1 600000c1'),
-        13: ('states = 0x5a', 'discrete 0000005a'),
-        14: ('data = true, format = true, sub = 9, bytes = "00ff"', 'message 1 1 9 00ff'),
-    }
+    refused = [(n, line) for n, kind in enumerate(KINDS.values()) for line in kind.refused]
     for where in ('pipe', '-'):
         room.clear()
         text = ''.join(channel(10 + n, kind, f'lines = "{where}"') for n, kind in enumerate(KINDS))
-        given = (
-            ''.join(f'{{ do = "offer", channel = {number}, count = 5, {line} }},\n' for number, (line, _) in lines.items())
-            + 'channel = 13, states = 300\nnonsense\n'
+        given = ''.join(
+            f'{{ do = "offer", channel = {10 + n}, count = 5, {kind.line} }},\n' for n, kind in enumerate(KINDS.values())
         )
+        given += ''.join(f'channel = {10 + n}, {line}\n' for n, line in refused) + 'nonsense\n'
         if where == '-':
             (room.folder / 'given').write_text(given)
             with open(room.folder / 'given', 'rb') as stdin:
@@ -120,9 +102,10 @@ def each_kind_by_lines(room: Room) -> str:
         else:
             service = Service(room, settings(text))
             (room.folder / 'pipe').write_text(given)
-        service.until_durable(6)
+        service.until_durable(len(KINDS) + len(refused))
         service.until(
-            lambda it: [sum(at[key] for at in it['channels']) for key in ('refused', 'bad', 'durable')] == [1, 1, 5],
+            lambda it: [sum(at[key] for at in it['channels']) for key in ('refused', 'bad', 'durable')]
+            == [len(refused), 1, len(KINDS)],
             'a state out of range and a line that is none',
         )
         service.end()
@@ -131,8 +114,8 @@ def each_kind_by_lines(room: Room) -> str:
             for it in entries((room.folder / 'medium').read_bytes(), 0)
             if it.channel >= 10
         }
-        must(found == {number: text for number, (_, text) in lines.items()}, f'by lines came {found}')
-    return '5 kinds by a pipe and by standard input'
+        must(found == {10 + n: kind.entry for n, kind in enumerate(KINDS.values())}, f'by lines came {found}')
+    return f'{len(KINDS)} kinds by a pipe and by standard input'
 
 
 @trial

@@ -18,9 +18,10 @@ import time
 from types import FrameType
 from typing import Any, Callable, Iterable, Optional
 
+from kinds import KINDS
+
 TOP = pathlib.Path(__file__).resolve().parent.parent.parent
 R10 = os.environ.get('R10', str(TOP / 'r10'))
-KINDS = ('uart', '1553', 'arinc', 'discrete', 'message')
 # An address of this machine that no other run has: so ports that are free stay so.
 HOST = '127.' + '.'.join(str(random.SystemRandom().randrange(1, 255)) for _ in range(3))
 # How long is waited for what has to come: a trial fails by what is wrong, and not by a slow machine.
@@ -173,8 +174,7 @@ def udp_channels(ports: Iterable[int], first: int = 5, more: str = '') -> str:
 
 
 def channel(number: int, kind: str, where: str, more: str = '') -> str:
-    bits = 'bits = 8\n' if kind == 'discrete' else ''
-    return f'[[channel]]\nid = {number}\nkind = "{kind}"\n{bits}{more}input = {{ {where} }}\n'
+    return f'[[channel]]\nid = {number}\nkind = "{kind}"\n{KINDS[kind].settings}{more}input = {{ {where} }}\n'
 
 
 class Service:
