@@ -3,19 +3,15 @@
 #include <stdio.h>
 #include <string.h>
 
+#include "kinds.h"
 #include "r10.h"
 
-static const char script[] = "blocks = 64\n"
-                             "directory = 2\n"
-                             "volume = \"VOL\"\n"
-                             "nodes = 100\n"
-                             "time = 1\n"
-                             "event = 2\n"
-                             "[[channel]]\nid = 3\nkind = \"uart\"\ncapacity = 2\ncheck = 0\nbytes = 4096\nnumber = 100\n"
-                             "[[channel]]\nid = 4\nkind = \"1553\"\ncapacity = 2\ncheck = 8\nbytes = 4096\nnumber = 100\n"
-                             "[[channel]]\nid = 5\nkind = \"arinc\"\ncapacity = 2\ncheck = 16\nbytes = 4096\nnumber = 100\n"
-                             "[[channel]]\nid = 6\nkind = \"discrete\"\nbits = 12\ncapacity = 2\ncheck = 32\nbytes = 4096\nnumber = 100\n"
-                             "[[channel]]\nid = 7\nkind = \"message\"\ncapacity = 2\ncheck = 0\nbytes = 4096\nnumber = 100\n";
+static char script[4096] = "blocks = 64\n"
+                           "directory = 2\n"
+                           "volume = \"VOL\"\n"
+                           "nodes = 100\n"
+                           "time = 1\n"
+                           "event = 2\n";
 
 static unsigned char memory[64 * 512];
 static uint8_t bytes[65535];
@@ -72,19 +68,19 @@ static void say_sure(const char *what, uint32_t number) {
 
 static void show(const r10_entry *e) {
     printf("  kind %u channel %u count %" PRIu64 " gap %d lost %" PRIu64, e->kind, e->channel, e->count, e->gap, e->lost);
-    switch (e->kind) {
-    case R10_UART: printf(" parity %d sub %u: %.*s", e->parity, e->sub, (int)e->length, (const char *)bytes); break;
-    case R10_1553:
-        printf(" status %04x gap times %04x:", e->status, e->gap_times);
-        for (size_t i = 0; i < e->length; i++)
+    const kind *it = kind_of(e->kind);
+    if (it != NULL) {
+        it->show(e);
+        if (it->lent == BYTES_LENT)
+            printf(": %.*s", (int)e->length, (const char *)bytes);
+        if (it->lent == WORDS_LENT)
+            printf(":");
+        for (size_t i = 0; it->lent == WORDS_LENT && i < e->length; i++)
             printf(" %04x", words[i]);
-        break;
-    case R10_ARINC: printf(" bus %u format %d parity %d high %d: %08" PRIx32, e->bus, e->format, e->parity, e->high, e->word); break;
-    case R10_DISCRETE: printf(": %08" PRIx32, e->word); break;
-    case R10_MESSAGE: printf(" data error %d format %d sub %u: %.*s", e->data_error, e->format, e->sub, (int)e->length, (const char *)bytes); break;
-    case R10_TIME: printf(": %04u-%02u-%02u %02u:%02u:%02u.%02u", e->year, e->month, e->day, e->hour, e->minute, e->second, e->centi); break;
-    case R10_EVENT: printf(" number %u occurrence %u", e->number, e->occurrence); break;
-    }
+    } else if (e->kind == R10_TIME)
+        printf(": %04u-%02u-%02u %02u:%02u:%02u.%02u", e->year, e->month, e->day, e->hour, e->minute, e->second, e->centi);
+    else
+        printf(" number %u occurrence %u", e->number, e->occurrence);
     printf("\n");
 }
 
@@ -99,7 +95,7 @@ int main(void) {
     r10_region region = {memory, 64};
     r10_civil civil = {2024, 2, 29, 12, 34, 56, 78}, later = {2024, 2, 29, 12, 34, 57, 0}, earlier = {2024, 2, 29, 12, 34, 56, 77},
               none = {2024, 2, 30, 0, 0, 0, 0};
-    const uint16_t bus_words[3] = {0x0821, 0xABCD, 0x0001}, one_channel[1] = {5};
+    const uint16_t one_channel[1] = {5};
     size_t moved = 9, taken = 9, left = 9, files = 9, cursor = 9, second = 9, queued = 9, number = 9, got = 9;
     r10_status_info info;
     uint64_t count = 9;
@@ -114,6 +110,7 @@ int main(void) {
     uint8_t name[56];
     r10_region small = {memory, 63};
 
+    add_channels(script, sizeof script, "capacity = 2\nbytes = 4096\nnumber = 100\n");
     say("version", r10_version());
     say("commit, closed", r10_commit(&recorder));
     say("pump, closed", r10_pump(&recorder, 3, 9, &moved));
@@ -143,26 +140,20 @@ int main(void) {
     say("tick", r10_tick(&recorder, 1000, &civil));
     say("start, no name", r10_start(&recorder, "", 0, "ABCD", 4));
     say_sure("start", r10_start(&recorder, "FLT1", 4, "ABCD", 4));
-    say("offer uart", r10_offer_uart(&recorder, 3, 1001, true, 16383, "one", 3));
-    say("offer uart", r10_offer_uart(&recorder, 3, 1002, false, 2, "", 0));
-    say("offer uart", r10_offer_uart(&recorder, 3, 1003, false, 3, "three", 5));
-    say("offer 1553", r10_offer_1553(&recorder, 4, 1004, 0x2000, 0x1234, bus_words, 3));
-    say("offer arinc", r10_offer_arinc(&recorder, 5, 1005, 7, true, false, true, 0x89ABCDEF));
-    say("offer discrete", r10_offer_discrete(&recorder, 6, 1006, 0xA5A));
-    say("offer discrete, 13 bits", r10_offer_discrete(&recorder, 6, 1007, 0x1000));
-    say("offer message", r10_offer_message(&recorder, 7, 1008, true, false, 77, "another", 7));
+    for (size_t n = 0; n < KINDS; n++)
+        kinds[n].call(&recorder, say);
     say("channel of ID 6", r10_channel_of(&recorder, 6, &channel));
     printf("  %u waiting %zu\n", channel.channel, channel.waiting);
     say("channel of ID 8", r10_channel_of(&recorder, 8, &channel));
     say("offer to another channel", r10_offer_discrete(&recorder, 8, 1009, 0));
-    for (size_t place = 0; place < 6; place++) {
+    for (size_t place = 0; place <= KINDS; place++) {
         uint32_t answer = r10_channel(&recorder, place, &channel);
         say("channel", answer);
         if (answer == R10_OK)
             printf("  %u waiting %zu lost %" PRIu64 " erased %" PRIu64 "\n", channel.channel, channel.waiting, channel.lost, channel.erased);
     }
-    for (uint16_t id = 3; id <= 7; id++) {
-        say("pump", r10_pump(&recorder, id, 9, &moved));
+    for (size_t n = 0; n < KINDS; n++) {
+        say("pump", r10_pump(&recorder, kinds[n].id, 9, &moved));
         printf("  moved %zu\n", moved);
     }
     say("offer uart", r10_offer_uart(&recorder, 3, 1010, false, 0, "four", 4));
@@ -250,7 +241,7 @@ int main(void) {
     say("commit", r10_commit(&recorder));
     say("commit", r10_commit(&recorder));
     status();
-    for (size_t place = 0; place < 6; place++) {
+    for (size_t place = 0; place <= KINDS; place++) {
         uint32_t answer = r10_account(&recorder, place, &account);
         say("account", answer);
         if (answer == R10_OK)

@@ -13,6 +13,7 @@
 #include <stdlib.h>
 #include <string.h>
 
+#include "kinds.h"
 #include "r10.h"
 
 enum { BLOCKS = 1 << 18, CAPACITY = 512, BUSES = 4, FIRST = 10 };
@@ -203,8 +204,7 @@ static void refusals(void) {
     r10_port port = {0};
     r10_outlet outlet = {0};
     r10_port_info info;
-    uint8_t bytes[300] = {0};
-    uint16_t words[40] = {0};
+    const uint16_t words[40] = {0};
     size_t carried;
     bool one;
     printf("no such channel: %u\n", r10_port_open(script, strlen(script), 99, &port, &outlet));
@@ -220,12 +220,16 @@ static void refusals(void) {
         printf("offer %zu: %u\n", n, at_port);
         same("the same offer at a lane", r10_offer_discrete(&recorder, 14, tries[n].count, tries[n].states), at_port);
     }
-    uint32_t others[][2] = {{r10_port_uart(&port, 70, false, 0, bytes, 3), r10_offer_uart(&recorder, 14, 70, false, 0, bytes, 3)},
-                            {r10_port_1553(&port, 1ULL << 48, 0, 0, words, 40), r10_offer_1553(&recorder, 14, 1ULL << 48, 0, 0, words, 40)},
-                            {r10_port_arinc(&port, 70, 1, false, false, false, 1), r10_offer_arinc(&recorder, 14, 70, 1, false, false, false, 1)},
-                            {r10_port_message(&port, 70, false, false, 0, bytes, 3), r10_offer_message(&recorder, 14, 70, false, false, 0, bytes, 3)}};
-    for (size_t n = 0; n < 4; n++)
-        same("another kind", others[n][0], others[n][1]);
+    for (size_t n = 0; n < KINDS; n++) {
+        const kind *it = &kinds[n];
+        if (it->number == R10_DISCRETE)
+            continue;
+        /* (of words there are too many, at a count that is none) */
+        uint64_t count = it->lent == WORDS_LENT ? 1ULL << 48 : 70;
+        r10_entry other = {.length = it->lent == WORDS_LENT ? 40 : 3, .word = 1, .bus = 1};
+        uint32_t at_port = it->offer_at(&port, count, &other, words);
+        same("another kind", it->offer(&recorder, 14, count, &other, words), at_port);
+    }
     must("lost", r10_port_lost(&port, 5));
     must("state", r10_port_state(&port, &info));
     printf("port: %" PRIu64 " accepted, %" PRIu64 " lost, room for %zu, channel %u\n", info.accepted, info.lost, info.capacity, info.channel);

@@ -12,16 +12,12 @@
 #include <stdlib.h>
 #include <string.h>
 
+#include "kinds.h"
 #include "r10.h"
 
-enum { BLOCKS = 96, CHANNELS = 5, CURSORS = 4, FULL = 65535 };
+enum { BLOCKS = 96, CURSORS = 4, FULL = 65535 };
 
-static const char settings[] = "blocks = 96\ndirectory = 2\nvolume = \"VOL\"\nnodes = 3\ntime = 1\nevent = 2\n"
-                               "[[channel]]\nid = 3\nkind = \"uart\"\ncapacity = 6\ncheck = 0\nbytes = 512\nnumber = 4\n"
-                               "[[channel]]\nid = 4\nkind = \"1553\"\ncapacity = 4\ncheck = 8\nbytes = 4096\nnumber = 3\n"
-                               "[[channel]]\nid = 5\nkind = \"arinc\"\ncapacity = 9\ncheck = 16\nbytes = 1024\nnumber = 8\n"
-                               "[[channel]]\nid = 6\nkind = \"discrete\"\nbits = 12\ncapacity = 3\ncheck = 32\nbytes = 256\nnumber = 2\n"
-                               "[[channel]]\nid = 7\nkind = \"message\"\ncapacity = 5\ncheck = 0\nbytes = 8192\nnumber = 100\n";
+static char settings[4096] = "blocks = 96\ndirectory = 2\nvolume = \"VOL\"\nnodes = 3\ntime = 1\nevent = 2\n";
 
 static uint64_t state;
 
@@ -115,9 +111,12 @@ static void hex(FILE *to, const uint8_t *bytes, size_t length) {
         fprintf(to, "%02x", bytes[n]);
 }
 
-static void hex_words(FILE *to, const uint16_t *words, size_t length) {
-    for (size_t n = 0; n < length; n++)
-        fprintf(to, "%04x", words[n]);
+/* The bytes or the words that are lent for a message of a kind, if any. */
+static void hex_lent(FILE *to, const kind *it, size_t length, const void *lent) {
+    if (it->lent == BYTES_LENT)
+        hex(to, lent, length);
+    for (size_t n = 0; it->lent == WORDS_LENT && n < length; n++)
+        fprintf(to, "%04x", ((const uint16_t *)lent)[n]);
 }
 
 static void say_entry(const r10_entry *e, const uint8_t *bytes, const uint16_t *words) {
@@ -126,25 +125,20 @@ static void say_entry(const r10_entry *e, const uint8_t *bytes, const uint16_t *
         fprintf(replies, "1+ ");
     else
         fprintf(replies, "%" PRIu64 " ", e->lost);
-    switch (e->kind) {
-    case R10_UART: fprintf(replies, "uart %d %u ", e->parity, e->sub); break;
-    case R10_1553:
-        fprintf(replies, "1553 %04x %04x ", e->status, e->gap_times);
-        hex_words(replies, words, e->length);
-        break;
-    case R10_ARINC: fprintf(replies, "arinc %u %d %d %d %08" PRIx32, e->bus, e->format, e->parity, e->high, e->word); break;
-    case R10_DISCRETE: fprintf(replies, "discrete %08" PRIx32, e->word); break;
-    case R10_MESSAGE: fprintf(replies, "message %d %d %u ", e->data_error, e->format, e->sub); break;
-    case R10_TIME: fprintf(replies, "time %04u-%02u-%02u %02u:%02u:%02u.%02u", e->year, e->month, e->day, e->hour, e->minute, e->second, e->centi); break;
-    case R10_EVENT: fprintf(replies, "event %u %u", e->number, e->occurrence); break;
-    }
-    if (e->kind == R10_UART || e->kind == R10_MESSAGE)
-        hex(replies, bytes, e->length);
-    if (e->length == 0 && (e->kind == R10_UART || e->kind == R10_MESSAGE || e->kind == R10_1553))
-        fprintf(replies, "-");
+    const kind *it = kind_of(e->kind);
+    if (it != NULL) {
+        fprintf(replies, "%s ", it->name);
+        it->print(replies, e);
+        hex_lent(replies, it, e->length, it->lent == WORDS_LENT ? (const void *)words : bytes);
+        if (it->lent != NOTHING_LENT && e->length == 0)
+            fprintf(replies, "-");
+    } else if (e->kind == R10_TIME)
+        fprintf(replies, "time %04u-%02u-%02u %02u:%02u:%02u.%02u", e->year, e->month, e->day, e->hour, e->minute, e->second, e->centi);
+    else
+        fprintf(replies, "event %u %u", e->number, e->occurrence);
 }
 
-static uint16_t some_channel(void) { return (uint16_t)(below(12) == 0 ? 8 : 3 + below(CHANNELS)); }
+static uint16_t some_channel(void) { return below(12) == 0 ? NO_CHANNEL : kinds[below(KINDS)].id; }
 
 static uint64_t some_count(void) {
     switch (below(24)) {
@@ -154,60 +148,38 @@ static uint64_t some_count(void) {
     }
 }
 
+/* The kind of a channel, or the first one. */
+static const kind *kind_of_channel(uint16_t channel) {
+    for (size_t n = 0; n < KINDS; n++)
+        if (kinds[n].id == channel)
+            return &kinds[n];
+    return kinds;
+}
+
 static void offer(void) {
     uint16_t channel = some_channel();
-    int kind = below(10) == 0 ? (int)below(CHANNELS) : channel >= 3 && channel <= 7 ? channel - 3 : 0;
-    static const char *const kinds[CHANNELS] = {"uart", "1553", "arinc", "discrete", "message"};
+    const kind *it = below(10) == 0 ? &kinds[below(KINDS)] : kind_of_channel(channel);
     uint64_t count = some_count();
-    STEP("do = \"offer\"\nchannel = %u\nkind = \"%s\"\ncount = %" PRIu64 "\n", channel, kinds[kind], count);
-    if (kind == 0 || kind == 4) {
-        bool first = below(2), second = below(2);
-        uint16_t sub = (uint16_t)(below(20) == 0 ? 16384 : below(16384));
-        size_t length = (size_t)(below(15) == 0 ? below(70000) : below(300));
-        uint8_t *bytes = lend(length);
-        for (size_t n = 0; n < length; n++)
-            bytes[n] = (uint8_t)below(256);
-        if (script) {
-            fprintf(script, "sub = %u\n", sub);
-            if (kind == 0)
-                fprintf(script, "parity = %s\n", first ? "true" : "false");
-            else
-                fprintf(script, "data = %s\nformat = %s\n", first ? "true" : "false", second ? "true" : "false");
-            fprintf(script, "bytes = \"");
-            hex(script, bytes, length);
+    r10_entry message;
+    memset(&message, 0, sizeof message);
+    STEP("do = \"offer\"\nchannel = %u\nkind = \"%s\"\ncount = %" PRIu64 "\n", channel, it->name, count);
+    it->draw(&message, below);
+    void *lent = lend(it->lent * message.length);
+    for (size_t n = 0; n < message.length; n++)
+        if (it->lent == BYTES_LENT)
+            ((uint8_t *)lent)[n] = (uint8_t)below(256);
+        else
+            ((uint16_t *)lent)[n] = (uint16_t)below(65536);
+    if (script) {
+        it->keys(script, &message);
+        if (it->lent != NOTHING_LENT) {
+            fprintf(script, "%s = \"", it->lent == BYTES_LENT ? "bytes" : "words");
+            hex_lent(script, it, message.length, lent);
             fprintf(script, "\"\n");
         }
-        REPLY(kind == 0 ? r10_offer_uart(&recorder, channel, count, first, sub, bytes, length)
-                        : r10_offer_message(&recorder, channel, count, first, second, sub, bytes, length),
-              fprintf(replies, "ok"));
-        free(bytes);
-    } else if (kind == 1) {
-        uint16_t status = (uint16_t)(below(10) == 0 ? 1 : below(2) * 0x2000), gap = (uint16_t)below(65536);
-        size_t length = (size_t)below(38);
-        uint16_t *words = lend(2 * length);
-        for (size_t n = 0; n < length; n++)
-            words[n] = (uint16_t)below(65536);
-        if (script) {
-            fprintf(script, "status = %u\ngap = %u\nwords = \"", status, gap);
-            hex_words(script, words, length);
-            fprintf(script, "\"\n");
-        }
-        REPLY(r10_offer_1553(&recorder, channel, count, status, gap, words, length), fprintf(replies, "ok"));
-        free(words);
-    } else if (kind == 2) {
-        uint8_t bus = (uint8_t)below(256);
-        bool format = below(2), parity = below(2), high = below(2);
-        uint32_t word = (uint32_t)below(UINT64_C(1) << 32);
-        if (script)
-            fprintf(script, "bus = %u\nformat = %s\nparity = %s\nhigh = %s\ndata = %" PRIu32 "\n", bus, format ? "true" : "false", parity ? "true" : "false",
-                    high ? "true" : "false", word);
-        REPLY(r10_offer_arinc(&recorder, channel, count, bus, format, parity, high, word), fprintf(replies, "ok"));
-    } else {
-        uint32_t states = (uint32_t)below(below(10) == 0 ? 8192 : 4096);
-        if (script)
-            fprintf(script, "states = %" PRIu32 "\n", states);
-        REPLY(r10_offer_discrete(&recorder, channel, count, states), fprintf(replies, "ok"));
     }
+    REPLY(it->offer(&recorder, channel, count, &message, lent), fprintf(replies, "ok"));
+    free(lent);
 }
 
 static r10_civil some_civil(void) {
@@ -380,6 +352,7 @@ int main(int count, char **words) {
     }
     state = (strtoull(words[1], NULL, 10) + 1) * UINT64_C(0x9E3779B97F4A7C15);
     unsigned long calls = strtoul(words[2], NULL, 10);
+    add_channels(settings, sizeof settings, NULL);
     if (count == 5) {
         script = fopen(words[3], "w");
         replies = fopen(words[4], "w");

@@ -3,6 +3,7 @@
 #include <stdio.h>
 #include <string.h>
 
+#include "kinds.h"
 #include "r10.h"
 
 #define CHANNEL "[[channel]]\nid = 3\nkind = \"uart\"\ncapacity = 8\ncheck = 16\nbytes = 4096\nnumber = 100\n"
@@ -126,7 +127,7 @@ static void nulls(void) {
     r10_channel_info channel;
     r10_fault_info fault;
     r10_script_info told;
-    r10_entry entry;
+    r10_entry entry, message = {.length = 1};
     r10_parts parts = {0, 10, 0};
     r10_port port = {0};
     r10_outlet outlet = {0};
@@ -135,7 +136,7 @@ static void nulls(void) {
     uint64_t count;
     bool there;
     uint8_t bytes[600];
-    uint16_t words[36];
+    uint16_t words[36] = {0};
     char before[sizeof memory];
     /* no recorder */
     expect("format", r10_format(region, 64, script, strlen(script), NULL), R10_CLOSED);
@@ -155,19 +156,13 @@ static void nulls(void) {
     expect("stop", r10_stop(NULL, &size, &other), R10_CLOSED);
     expect("seal", r10_seal(NULL), R10_CLOSED);
     expect("erase", r10_erase(NULL), R10_CLOSED);
-    expect("offer_uart", r10_offer_uart(NULL, 3, 1, false, 0, "A", 1), R10_CLOSED);
-    expect("offer_1553", r10_offer_1553(NULL, 3, 1, 0, 0, words, 1), R10_CLOSED);
-    expect("offer_arinc", r10_offer_arinc(NULL, 3, 1, 0, false, false, false, 0), R10_CLOSED);
-    expect("offer_discrete", r10_offer_discrete(NULL, 3, 1, 0), R10_CLOSED);
-    expect("offer_message", r10_offer_message(NULL, 3, 1, false, false, 0, "A", 1), R10_CLOSED);
+    for (size_t n = 0; n < KINDS; n++) {
+        expect(kinds[n].name, kinds[n].offer(NULL, 3, 1, &message, words), R10_CLOSED);
+        expect(kinds[n].name, kinds[n].offer_at(NULL, 1, &message, words), R10_CLOSED);
+    }
     expect("lost", r10_lost(NULL, 3, 1), R10_CLOSED);
     expect("port_open", r10_port_open(script, strlen(script), 3, NULL, &outlet), R10_CLOSED);
     expect("port_open", r10_port_open(script, strlen(script), 3, &port, NULL), R10_CLOSED);
-    expect("port_uart", r10_port_uart(NULL, 1, false, 0, "A", 1), R10_CLOSED);
-    expect("port_1553", r10_port_1553(NULL, 1, 0, 0, words, 1), R10_CLOSED);
-    expect("port_arinc", r10_port_arinc(NULL, 1, 0, false, false, false, 0), R10_CLOSED);
-    expect("port_discrete", r10_port_discrete(NULL, 1, 0), R10_CLOSED);
-    expect("port_message", r10_port_message(NULL, 1, false, false, 0, "A", 1), R10_CLOSED);
     expect("port_lost", r10_port_lost(NULL, 1), R10_CLOSED);
     expect("port_state", r10_port_state(NULL, &state), R10_CLOSED);
     r10_port_close(NULL);
@@ -215,14 +210,13 @@ static void nulls(void) {
     expect("pump", r10_pump(&recorder, 3, 1, NULL), R10_ROOM);
     expect("stop", r10_stop(&recorder, NULL, &other), R10_ROOM);
     expect("stop", r10_stop(&recorder, &size, NULL), R10_ROOM);
-    expect("offer_uart", r10_offer_uart(&recorder, 3, 1, false, 0, NULL, 1), R10_ROOM);
-    expect("offer_1553", r10_offer_1553(&recorder, 3, 1, 0, 0, NULL, 1), R10_ROOM);
-    expect("offer_message", r10_offer_message(&recorder, 3, 1, false, false, 0, NULL, 1), R10_ROOM);
     expect("port_open", r10_port_open(NULL, 4, 3, &port, &outlet), R10_ROOM);
     expect("port_open", r10_port_open(script, strlen(script), 3, &port, &outlet), R10_OK);
-    expect("port_uart", r10_port_uart(&port, 1, false, 0, NULL, 1), R10_ROOM);
-    expect("port_1553", r10_port_1553(&port, 1, 0, 0, NULL, 1), R10_ROOM);
-    expect("port_message", r10_port_message(&port, 1, false, false, 0, NULL, 1), R10_ROOM);
+    for (size_t n = 0; n < KINDS; n++)
+        if (kinds[n].lent != NOTHING_LENT) {
+            expect(kinds[n].name, kinds[n].offer(&recorder, 3, 1, &message, NULL), R10_ROOM);
+            expect(kinds[n].name, kinds[n].offer_at(&port, 1, &message, NULL), R10_ROOM);
+        }
     expect("port_state", r10_port_state(&port, NULL), R10_ROOM);
     expect("carry_one", r10_carry_one(&recorder, &outlet, NULL), R10_ROOM);
     expect("carry", r10_carry(&recorder, &outlet, 1, NULL), R10_ROOM);

@@ -1,6 +1,15 @@
 //! The declarations of `r10.h`, by the same names. What each call does, and what its caller owes, the header says.
+//!
+//! What depends on the kind of a channel stands in one module, with messages and entries as values: the crate `r10` has them from here.
 #![no_std]
 #![allow(non_camel_case_types)]
+
+#[cfg(feature = "alloc")]
+extern crate alloc;
+
+mod kinds;
+
+pub use kinds::*;
 
 use core::ffi::c_void;
 
@@ -217,18 +226,8 @@ unsafe extern "C" {
     pub fn r10_stop(recorder: *mut r10, taken: *mut usize, left: *mut usize) -> u32;
     pub fn r10_seal(recorder: *mut r10) -> u32;
     pub fn r10_erase(recorder: *mut r10) -> u32;
-    pub fn r10_offer_uart(recorder: *mut r10, channel: u16, count: u64, parity: bool, sub: u16, bytes: *const u8, length: usize) -> u32;
-    pub fn r10_offer_1553(recorder: *mut r10, channel: u16, count: u64, status: u16, gap: u16, words: *const u16, length: usize) -> u32;
-    pub fn r10_offer_arinc(recorder: *mut r10, channel: u16, count: u64, bus: u8, format: bool, parity: bool, high: bool, word: u32) -> u32;
-    pub fn r10_offer_discrete(recorder: *mut r10, channel: u16, count: u64, states: u32) -> u32;
-    pub fn r10_offer_message(recorder: *mut r10, channel: u16, count: u64, data_error: bool, format: bool, sub: u16, bytes: *const u8, length: usize) -> u32;
     pub fn r10_lost(recorder: *mut r10, channel: u16, count: u64) -> u32;
     pub fn r10_port_open(script: *const u8, length: usize, channel: u16, port: *mut r10_port, outlet: *mut r10_outlet) -> u32;
-    pub fn r10_port_uart(port: *mut r10_port, count: u64, parity: bool, sub: u16, bytes: *const u8, length: usize) -> u32;
-    pub fn r10_port_1553(port: *mut r10_port, count: u64, status: u16, gap: u16, words: *const u16, length: usize) -> u32;
-    pub fn r10_port_arinc(port: *mut r10_port, count: u64, bus: u8, format: bool, parity: bool, high: bool, word: u32) -> u32;
-    pub fn r10_port_discrete(port: *mut r10_port, count: u64, states: u32) -> u32;
-    pub fn r10_port_message(port: *mut r10_port, count: u64, data_error: bool, format: bool, sub: u16, bytes: *const u8, length: usize) -> u32;
     pub fn r10_port_lost(port: *mut r10_port, count: u64) -> u32;
     pub fn r10_port_state(port: *mut r10_port, info: *mut r10_port_info) -> u32;
     pub fn r10_port_close(port: *mut r10_port);

@@ -17,6 +17,7 @@ pub use error::{Error, Fault};
 pub use parts::Parts;
 pub use port::{Outlet, Port, PortState, open_port};
 pub use r10_sys::r10_civil as Civil;
+pub use r10_sys::{Content, Message};
 pub use script::{Script, ScriptError, check_script};
 
 use r10_sys as sys;
@@ -28,28 +29,6 @@ pub const ALL_COUNTS: RangeInclusive<u64> = 0..=(1 << 48) - 1;
 
 const MOST_BYTES: usize = 65_535;
 const MOST_WORDS: usize = 36;
-
-/// A message as it is offered.
-#[derive(Clone, Copy, Debug, PartialEq, Eq)]
-pub enum Message<'a> {
-    Uart { parity: bool, sub: u16, bytes: &'a [u8] },
-    Bus1553 { status: u16, gap_times: u16, words: &'a [u16] },
-    Arinc { bus: u8, format: bool, parity: bool, high: bool, word: u32 },
-    Discrete { states: u32 },
-    Message { data_error: bool, format: bool, sub: u16, bytes: &'a [u8] },
-}
-
-/// What an entry of a file says.
-#[derive(Clone, Debug, PartialEq, Eq)]
-pub enum Content {
-    Uart { parity: bool, sub: u16, bytes: Vec<u8> },
-    Bus1553 { status: u16, gap_times: u16, words: Vec<u16> },
-    Arinc { bus: u8, format: bool, parity: bool, high: bool, word: u32 },
-    Discrete { states: u32 },
-    Message { data_error: bool, format: bool, sub: u16, bytes: Vec<u8> },
-    Time { civil: Civil },
-    Event { number: u16, occurrence: u16 },
-}
 
 /// Whether messages were lost right before an entry, on its channel.
 #[derive(Clone, Copy, Debug, PartialEq, Eq)]
@@ -324,18 +303,7 @@ impl Recorder {
 
     /// Puts a message behind the others in its channel's lane.
     pub fn offer(&mut self, channel: u16, count: u64, message: Message) -> Result<(), Error> {
-        let raw = &mut self.raw;
-        answer(unsafe {
-            match message {
-                Message::Uart { parity, sub, bytes } => sys::r10_offer_uart(raw, channel, count, parity, sub, bytes.as_ptr(), bytes.len()),
-                Message::Bus1553 { status, gap_times, words } => sys::r10_offer_1553(raw, channel, count, status, gap_times, words.as_ptr(), words.len()),
-                Message::Arinc { bus, format, parity, high, word } => sys::r10_offer_arinc(raw, channel, count, bus, format, parity, high, word),
-                Message::Discrete { states } => sys::r10_offer_discrete(raw, channel, count, states),
-                Message::Message { data_error, format, sub, bytes } => {
-                    sys::r10_offer_message(raw, channel, count, data_error, format, sub, bytes.as_ptr(), bytes.len())
-                }
-            }
-        })
+        answer(unsafe { sys::offer(&mut self.raw, channel, count, message) })
     }
 
     /// So many of a channel's messages were lost before they were offered: the next one that is accepted has them in its gap.
@@ -483,9 +451,7 @@ impl Recorder {
         if !lent.there {
             return Ok(None);
         }
-        if matches!(lent.entry.kind, 1 | 5) {
-            lent.bytes = vec![0; lent.entry.length].into_boxed_slice();
-        }
+        lent.bytes = vec![0; sys::bytes_of(&lent.entry)].into_boxed_slice();
         let (raw, l) = (&mut self.raw, &mut lent);
         answer(unsafe { sys::r10_taken(raw, l.bytes.as_mut_ptr(), l.bytes.len(), l.words.as_mut_ptr(), l.words.len()) })?;
         Ok(lent.entry())
@@ -560,16 +526,7 @@ impl Lent {
             return None;
         }
         let e = &self.entry;
-        let bytes = || self.bytes[..e.length].to_vec();
-        let content = match e.kind {
-            1 => Content::Uart { parity: e.parity, sub: e.sub, bytes: bytes() },
-            2 => Content::Bus1553 { status: e.status, gap_times: e.gap_times, words: self.words[..e.length].to_vec() },
-            3 => Content::Arinc { bus: e.bus, format: e.format, parity: e.parity, high: e.high, word: e.word },
-            4 => Content::Discrete { states: e.word },
-            5 => Content::Message { data_error: e.data_error, format: e.format, sub: e.sub, bytes: bytes() },
-            6 => Content::Time { civil: e.civil },
-            _ => Content::Event { number: e.number, occurrence: e.occurrence },
-        };
+        let content = sys::content(e, &self.bytes, &self.words);
         let gap = match (e.gap, e.lost) {
             (false, _) => Gap::None,
             (true, 0) => Gap::Unknown,

@@ -67,16 +67,7 @@ pub fn open_port(script: &str, channel: u16) -> Result<(Port, Outlet), Error> {
 impl Port {
     /// Puts a message after those that were offered before it.
     pub fn offer(&mut self, count: u64, message: Message) -> Result<(), Error> {
-        let raw = &mut self.raw;
-        answer(unsafe {
-            match message {
-                Message::Uart { parity, sub, bytes } => sys::r10_port_uart(raw, count, parity, sub, bytes.as_ptr(), bytes.len()),
-                Message::Bus1553 { status, gap_times, words } => sys::r10_port_1553(raw, count, status, gap_times, words.as_ptr(), words.len()),
-                Message::Arinc { bus, format, parity, high, word } => sys::r10_port_arinc(raw, count, bus, format, parity, high, word),
-                Message::Discrete { states } => sys::r10_port_discrete(raw, count, states),
-                Message::Message { data_error, format, sub, bytes } => sys::r10_port_message(raw, count, data_error, format, sub, bytes.as_ptr(), bytes.len()),
-            }
-        })
+        answer(unsafe { sys::offer_at(&mut self.raw, count, message) })
     }
 
     /// So many messages were lost before they were offered: the next one that is accepted has them in its gap.
