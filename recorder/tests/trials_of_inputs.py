@@ -183,7 +183,8 @@ def serial_lines(room: Room) -> str:
     os.write(master, b'again\n')
     service.until_durable(11)
     service.end()
-    found = {n: [bytes.fromhex(it.words[-1]) for it in entries((room.folder / 'medium').read_bytes(), 0, n)] for n in (10, 11, 12, 13)}
+    image = (room.folder / 'medium').read_bytes()
+    found = {n: [bytes.fromhex(it.words[-1]) for it in entries(image, 0, n)] for n in (10, 11, 12, 13)}
     must(
         found
         == {

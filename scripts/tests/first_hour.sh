@@ -101,8 +101,8 @@ for path in sys.argv[1:]:
             sys.exit('%s:%d: %s' % (path, number, line.strip()))
 PY
 check "what a user runs is Python 3.7" python3 "$room/grammar.py" "$sources"/ch10/*.py \
-    "$sources"/scripts/{ch10,quick_build,build,rt_once,tour,play_cases,check_cases,made_kinds,as_filter,judge_recording,judge_image}.py \
-    "$sources"/scripts/{read_chapter10,manual}.py
+    "$sources"/scripts/{ch10,quick_build,build,rt_once,tour,play_cases,check_cases,made_kinds,as_filter}.py \
+    "$sources"/scripts/{judge_recording,judge_image,read_chapter10,manual}.py
 
 check "what Python keeps beside them is no change of the repository" grep -qx '__pycache__/' "$sources/.gitignore"
 
