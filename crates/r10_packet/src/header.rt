@@ -45,20 +45,7 @@ impl Header {
     }
 }
 
-fn one_byte(number: u8) -> [u8; 1]
-    ensures bytes { result ≡ le_bytes 1 number }
-    ensures range { number < 2 ^ 8 }
-{
-    number.to_le_bytes()
-}
-
-fn two_bytes(number: u16) -> [u8; 2]
-    ensures bytes { result ≡ le_bytes 2 number }
-    ensures range { number < 2 ^ 16 }
-{
-    number.to_le_bytes()
-}
-
+/// The bytes of a number; for the proof, that it has 32 bits.
 fn four_bytes(number: u32) -> [u8; 4]
     ensures bytes { result ≡ le_bytes 4 number }
     ensures range { number < 2 ^ 32 }
@@ -73,14 +60,14 @@ pub fn encode_header(header: &Header) -> [u8; 24]
     // What the types of the fields say.
     ensures fits { FitsHeader header.now }
 {
-    let [c0, c1] = two_bytes(header.channel);
+    let [c0, c1] = header.channel.to_le_bytes();
     let [p0, p1, p2, p3] = four_bytes(header.packet_len);
     let [d0, d1, d2, d3] = four_bytes(header.data_len);
     let [t0, t1, t2, t3, t4, t5, _, _] = header.counter.get().to_le_bytes();
-    let [version] = one_byte(header.version);
-    let [sequence] = one_byte(header.sequence);
-    let [flags] = one_byte(header.flags);
-    let [data_type] = one_byte(header.data_type);
+    let [version] = header.version.to_le_bytes();
+    let [sequence] = header.sequence.to_le_bytes();
+    let [flags] = header.flags.to_le_bytes();
+    let [data_type] = header.data_type.to_le_bytes();
     let fields = [
         0x25, 0xEB, c0, c1, p0, p1, p2, p3, d0, d1, d2, d3, version, sequence, flags, data_type,
         t0, t1, t2, t3, t4, t5,

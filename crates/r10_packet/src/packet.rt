@@ -1,7 +1,6 @@
 //! Whole packets.
 
 ghost use Rattle.std.specs.Prelude.{◌≡◌, ◌+◌, ◌/◌, ◌≤◌, ◌++◌, ◌↔◌, Some, None, length, drop, IfOk, OnOk, IfErr, IsTrue};
-ghost use Rattle.std.specs.Str.{bytes_eq};
 ghost use Rattle.r10_packet.specs.Sums.{data_checksum};
 ghost use Rattle.r10_packet.specs.Header.{check_bits_of, checksum_bits};
 ghost use Rattle.r10_packet.specs.Limits.{longest_body};
@@ -93,18 +92,6 @@ fn push_checksum(out: &mut Vec<u8>, check: Check) -> Result<(), AllocError>
     Ok(())
 }
 
-/// Whether bytes are the data checksum of others.
-fn is_checksum(sum: &[u8], check: Check, covered: &[u8]) -> bool
-    ensures { result ≡ bytes_eq sum.now (data_checksum (check_bits_of check) covered.now) }
-{
-    match check {
-        Check::Nothing => sum.is_empty(),
-        Check::Sum8 => sum == sum8(covered).to_le_bytes().as_slice(),
-        Check::Sum16 => sum == sum16(covered).to_le_bytes().as_slice(),
-        Check::Sum32 => sum == sum32(covered).to_le_bytes().as_slice(),
-    }
-}
-
 /// How the data checksum is, of the packet with this header that stands first in bytes.
 fn data_sum(header: &Header, bytes: &[u8]) -> DataSum
     requires least { 24 ≤ header.now.packet_len }
@@ -115,8 +102,17 @@ fn data_sum(header: &Header, bytes: &[u8]) -> DataSum
     let size = header.packet_len as usize;
     let start = size - check.width();
     if start < 24 + header.data_len as usize {
-        DataSum::NoRoom
-    } else if is_checksum(&bytes[start..size], check, &bytes[24..start]) {
+        return DataSum::NoRoom;
+    }
+    let sum = &bytes[start..size];
+    let covered = &bytes[24..start];
+    let is_right = match check {
+        Check::Nothing => sum.is_empty(),
+        Check::Sum8 => sum == sum8(covered).to_le_bytes().as_slice(),
+        Check::Sum16 => sum == sum16(covered).to_le_bytes().as_slice(),
+        Check::Sum32 => sum == sum32(covered).to_le_bytes().as_slice(),
+    };
+    if is_right {
         DataSum::Right
     } else {
         DataSum::Wrong

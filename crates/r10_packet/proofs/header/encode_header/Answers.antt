@@ -1,13 +1,14 @@
+use Rattle.std.proofs.Common.{rules}
 use Rattle.r10_packet.proofs.header.encode_header.Goals as goal
 
 pub returns-clause-fits : goal.returns-clause-fits
 returns-clause-fits c = record {
-  channel = c.two_bytes.ensures.range;
+  channel = search rules;
   packet_len = c.four_bytes.ensures.range;
   data_len = c.four_bytes-2.ensures.range;
-  version = c.one_byte.ensures.range;
-  sequence = c.one_byte-2.ensures.range;
-  flags = c.one_byte-3.ensures.range;
-  data_type = c.one_byte-4.ensures.range;
+  version = search rules;
+  sequence = search rules;
+  flags = search rules;
+  data_type = search rules;
   counter = c.get.ensures.range;
 }
