@@ -1,7 +1,7 @@
 // A directory block, and writing it.
 ghost use Rattle.std.specs.Prelude.{◌≡◌, ◌+◌, ◌≤◌, ◌++◌, length, Ok};
-ghost use Rattle.r10_dirblock.specs.Block.{block_bytes, entry_bytes, head_bytes, read_block};
-ghost use Rattle.r10_dirblock.specs.Block.{HasRooms, IsBlock, FitsHead, FitsEntry};
+ghost use Rattle.r10_dirblock.specs.Block.{block_bytes, entry_bytes, read_block};
+ghost use Rattle.r10_dirblock.specs.Block.{HasRooms, IsBlock, FitsEntry};
 
 use crate::page::Page;
 use crate::{Entries, Entry};
@@ -28,19 +28,6 @@ pub fn encode(block: &DirBlock) -> [u8; 512]
     // What is written is read again.
     ensures again { HasRooms block.now → read_block result ≡ Ok block.now }
 {
-    let mut page = head(block);
-    for entry in block.entries.as_slice() {
-        push_entry(&mut page, entry);
-    }
-    page.into_bytes()
-}
-
-#[tactic(auto, unfolding(crate::specs::Block::head_bytes))]
-fn head(block: &DirBlock) -> Page
-    ensures bytes { result ≡ head_bytes 0x0F block.now }
-    ensures len { length result ≡ 64 }
-    ensures fits { FitsHead block.now }
-{
     let mut page = Page::new();
     page.push(b"FORTYtwo");
     page.push(&[0x0F, block.shutdown]);
@@ -49,7 +36,10 @@ fn head(block: &DirBlock) -> Page
     page.push(&block.volume);
     page.push(&block.forward.to_be_bytes());
     page.push(&block.reverse.to_be_bytes());
-    page
+    for entry in block.entries.as_slice() {
+        push_entry(&mut page, entry);
+    }
+    page.into_bytes()
 }
 
 #[tactic(auto, unfolding(crate::specs::Block::entry_bytes))]
@@ -75,12 +65,16 @@ impl DirBlock {
     pub fn duplicate(&self) -> DirBlock
         ensures { result ≡ self.now }
     {
+        let mut entries = Entries::new();
+        for entry in self.entries.as_slice() {
+            entries.push(*entry);
+        }
         DirBlock {
             shutdown: self.shutdown,
             volume: self.volume,
             forward: self.forward,
             reverse: self.reverse,
-            entries: self.entries.duplicate(),
+            entries,
         }
     }
 }

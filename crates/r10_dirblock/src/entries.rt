@@ -70,15 +70,4 @@ impl Entries {
     {
         let _ = self.items.pop();
     }
-
-    /// The same entries once more.
-    pub fn duplicate(&self) -> Entries
-        ensures { result ≡ self.now }
-    {
-        let mut copy = Entries::new();
-        for entry in self.as_slice() {
-            copy.push(*entry);
-        }
-        copy
-    }
 }
