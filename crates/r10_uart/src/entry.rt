@@ -54,14 +54,9 @@ pub fn push_entry(
     requires bytes { length bytes.now < 2 ^ 16 }
     ensures { Appends (uart_entry (uart_of count parity sub bytes.now)) out.old out.new result }
 {
-    let stamp = count.stamp();
-    let length = bytes.len();
-    let header = UartHeader {
-        parity,
-        sub,
-        length,
-    };
-    append_text(out, stamp, header.bits().to_le_bytes(), bytes)
+    let flag = if parity { 0x8000_0000 } else { 0 };
+    let header = flag + 0x1_0000 * u32::from(sub) + bytes.len() as u32;
+    append_text(out, count.stamp(), header.to_le_bytes(), bytes)
 }
 
 impl BodyEntry for UartEntry {

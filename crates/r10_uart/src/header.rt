@@ -33,14 +33,4 @@ impl UartHeader {
             length: (bits % 0x1_0000) as usize,
         })
     }
-
-    /// The header with these parts.
-    #[inline(always)]
-    pub(crate) fn bits(self) -> u32
-        requires { FitsHeader self }
-        ensures { result ≡ header_bits self }
-    {
-        let flag = if self.parity { 0x8000_0000 } else { 0 };
-        flag + 0x1_0000 * u32::from(self.sub) + self.length as u32
-    }
 }
