@@ -21,24 +21,20 @@ pub const LOSS_COST: u64 = 68;
 pub fn cost(message: &Message, gap: Gap) -> u64
     ensures { result ≡ message_cost message.now + lost_cost gap }
 {
-    of_message(message) + of_gap(gap)
-}
-
-/// What a message adds.
-#[inline(always)]
-fn of_message(message: &Message) -> u64
-    ensures is { result ≡ message_cost message.now }
-    ensures small { result < 2 ^ 63 + 2 ^ 20 }
-{
-    match message {
+    let own = match message {
         Message::Uart { bytes, .. } | Message::Message { bytes, .. } => {
             12 + bytes.as_slice().len() as u64
         }
         _ => of_any(message),
-    }
+    };
+    let lost = match gap {
+        Gap::Lost(_) => LOSS_COST,
+        Gap::Whole | Gap::Unknown => 0,
+    };
+    own + lost
 }
 
-/// As `of_message`, in a call of its own, so that bytes are asked there without a jump through a table.
+/// What a message adds, in a call of its own, so that bytes are asked above without a jump through a table.
 #[inline(never)]
 fn of_any(message: &Message) -> u64
     ensures is { result ≡ message_cost message.now }
@@ -52,16 +48,5 @@ fn of_any(message: &Message) -> u64
         Message::Bus1553 { words, .. } => 14 + 2 * words.as_slice().len() as u64,
         Message::Discrete { .. } | Message::Event { .. } => 12,
         Message::Arinc { .. } | Message::Time { .. } => 8,
-    }
-}
-
-/// What a gap adds.
-#[inline(always)]
-fn of_gap(gap: Gap) -> u64
-    ensures { result ≡ lost_cost gap }
-{
-    match gap {
-        Gap::Lost(_) => LOSS_COST,
-        Gap::Whole | Gap::Unknown => 0,
     }
 }
