@@ -23,22 +23,11 @@ pub fn append_all(out: &mut Vec<u8>, parts: &[&[u8]]) -> Result<(), AllocError>
     Ok(())
 }
 
-/// A stamp, and a header after it.
-#[inline(always)]
-fn front_of(stamp: [u8; 8], header: [u8; 4]) -> [u8; 12]
-    ensures { result ≡ stamp ++ header }
-{
-    let mut front = [0; 12];
-    front[..8].copy_from_slice(&stamp);
-    front[8..].copy_from_slice(&header);
-    front
-}
-
 /// Adds the stamp and the header of a message, its bytes, and a zero byte where their number is odd; or nothing where memory
 /// is refused.
 ///
 /// Of bytes that stand in the value itself all places are copied, and those after the bytes cut off again: a copy of as many
-/// bytes each time is no call of the C library. Bytes in memory of their own are copied where this is called, too.
+/// bytes each time is no call of the C library. All others are copied where this is called, too.
 #[inline(always)]
 pub fn append_text(
     out: &mut Vec<u8>,
@@ -48,14 +37,20 @@ pub fn append_text(
 ) -> Result<(), AllocError>
     ensures { Appends (stamp ++ header ++ padded bytes.now) out.old out.new result }
 {
-    let front = front_of(stamp, header);
+    let mut front = [0; 12];
+    front[..8].copy_from_slice(&stamp);
+    front[8..].copy_from_slice(&header);
     if let Some((places, len)) = bytes.places() {
         if len % 2 == 0 && out.capacity() - out.len() >= 50 {
             return append_first(out, &front, places, len);
         }
-        return append_short(out, &front, bytes.as_slice());
     }
-    append_padded(out, &front, bytes.as_slice())
+    let text = bytes.as_slice();
+    if text.len() % 2 == 0 {
+        append_all(out, &[&front, text])
+    } else {
+        append_all(out, &[&front, text, &[0]])
+    }
 }
 
 /// Adds a front and the first of the places, so many.
@@ -75,25 +70,4 @@ fn append_first(
     append_all(out, &[front, places])?;
     out.truncate(before + 12 + len);
     Ok(())
-}
-
-/// Adds a front, bytes, and a zero byte where their number is odd.
-#[inline(always)]
-fn append_padded(out: &mut Vec<u8>, front: &[u8; 12], bytes: &[u8]) -> Result<(), AllocError>
-    ensures { Appends (front.now ++ padded bytes.now) out.old out.new result }
-{
-    if bytes.len() % 2 == 0 {
-        append_all(out, &[front, bytes])
-    } else {
-        append_all(out, &[front, bytes, &[0]])
-    }
-}
-
-/// The same in a call, which short bytes take where their number is odd or there is little room.
-#[cold]
-#[inline(never)]
-fn append_short(out: &mut Vec<u8>, front: &[u8; 12], bytes: &[u8]) -> Result<(), AllocError>
-    ensures { Appends (front.now ++ padded bytes.now) out.old out.new result }
-{
-    append_padded(out, front, bytes)
 }
