@@ -62,12 +62,4 @@ impl Directory {
     {
         self.chain[i].block.duplicate()
     }
-
-    // The number of one block.
-    pub(crate) fn number(&self, i: usize) -> u64
-        requires { i < length self.now }
-        ensures { result ≡ (at self.now i).number }
-    {
-        self.chain[i].number
-    }
 }

@@ -9,7 +9,7 @@ ghost use Rattle.r10_dirchain.specs.Chain.{IsDirectory, listed_files, at};
 ghost use Rattle.r10_dirchain.specs.OnMedium.{HasNext, Turns};
 ghost use Rattle.r10_dirchain.specs.Rooms.{block_room};
 ghost use Rattle.r10_dirchain.specs.Steps.{added, blocks_with_one_more, emptied, extended, with_entry_more, last_block};
-ghost use Rattle.r10_dirchain.specs.Steps.{last_is_full, last_listing, last_place, lists_none, next_directory_block, next_number};
+ghost use Rattle.r10_dirchain.specs.Steps.{last_is_full, last_listing, last_place, next_directory_block, next_number};
 ghost use Rattle.r10_dirchain.specs.Steps.{replaced, spare, updated, with_shutdown};
 
 use crate::put::{put_block, put_linked};
@@ -195,7 +195,7 @@ impl Directory {
         let mut block = self.block(last);
         block.forward = number;
         ChainBlock {
-            number: self.number(last),
+            number: self.chain[last].number,
             block,
         }
     }
@@ -215,7 +215,7 @@ impl Directory {
                 shutdown: 0xFF,
                 volume: self.chain[last].block.volume,
                 forward: number,
-                reverse: self.number(last),
+                reverse: self.chain[last].number,
                 entries,
             },
         }
@@ -246,7 +246,7 @@ impl Directory {
         ensures lists { 0 < length (at self.now result).block.entries }
     {
         let mut end = self.chain.len();
-        while end > 0 && lists_none(&self.chain[end - 1]) {
+        while end > 0 && self.chain[end - 1].block.entries.len() == 0 {
             end -= 1;
         }
         end - 1
@@ -272,7 +272,7 @@ impl Directory {
         ensures counts { Counts (M.disk medium.old) (M.disk medium.new) result }
     {
         let link = ChainBlock {
-            number: self.number(i),
+            number: self.chain[i].number,
             block,
         };
         if let Err(fault) = put_block(medium, &link) {
@@ -281,10 +281,4 @@ impl Directory {
         self.chain[i] = link;
         Ok(())
     }
-}
-
-fn lists_none(link: &ChainBlock) -> bool
-    ensures { result ≡ lists_none link.now }
-{
-    link.block.entries.len() == 0
 }
