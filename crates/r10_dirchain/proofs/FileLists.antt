@@ -1,5 +1,6 @@
 -- The files after a step.
-use Rattle.std.proofs.Common.{◌≡◌, ℕ, zero, suc, ◌+◌, ◌-◌, ◌<◌, ◌≤◌, Bool, true, false, if◌then◌else◌, List, [], ◌∷◌, ◌++◌, length, take, drop, get_or, set, inl, inr, refl, sym, ap, ◌∙◌, arith, append_assoc, length-append, ◌==◌}
+use Rattle.std.proofs.Common.{◌≡◌, ℕ, zero, suc, ◌+◌, ◌-◌, ◌<◌, ◌≤◌, Bool, true, false, if◌then◌else◌, List, [], ◌∷◌, ◌++◌, length, take, drop, get_or, set, Option, Some, inl, inr, refl, sym, ap, ◌∙◌, arith, append_assoc, length-append, ◌==◌}
+use Rattle.std.specs.List.{last_or}
 use Rattle.std.proofs.Math.Seq.{take-append-add}
 use Rattle.std.proofs.lemmas.Bool.{ne_eqb, cases_lt}
 use Rattle.std.proofs.lemmas.List.{append-nil, drop_more}
@@ -141,3 +142,26 @@ files-updated entry chain some =
 -- the entries from a block on are its own and those after it
 pub files_from : (chain : List ChainBlock) (i : ℕ) (b : ChainBlock) → i < length chain → b ≡ get_or chain i b → listed_files (drop i chain) ≡ b.block.entries ++ listed_files (drop (i + 1) chain)
 files_from chain i b lt is = ap listed_files (drop_more chain i b lt ∙ ap (λ (c : ChainBlock). c ∷ drop (i + 1) chain) (sym is))
+
+-- ---- the last file
+
+pub last-append : {A : Type 0} (d : Option A) (xs ys : List A) → last_or d (xs ++ ys) ≡ last_or (last_or d xs) ys
+last-append d [] ys = refl
+last-append d (x ∷ xs) ys = last-append (Some x) xs ys
+
+-- the last of entries by its place
+pub last_at : (d : Option Entry) (entries : List Entry) (e : Entry) → 0 < length entries → e ≡ get_or entries (length entries - 1) e → Some e ≡ last_or d entries
+last_at d [] e some is = absurd (omega (arith, some))
+last_at d (x ∷ []) e some is = ap Some is
+last_at d (x ∷ y ∷ entries) e some is = last_at (Some x) (y ∷ entries) e (omega arith) (is ∙ ap (λ (k : ℕ). get_or (x ∷ y ∷ entries) k e) one_more)
+  where
+    one_more : length (x ∷ y ∷ entries) - 1 ≡ suc (length (y ∷ entries) - 1)
+    one_more = omega arith
+
+pub last_left : (chain : List ChainBlock) (i : ℕ) (b : ChainBlock) (last now all : Option Entry) → i < length chain → b ≡ get_or chain i b → now ≡ last_or last b.block.entries
+    → last_or last (listed_files (drop i chain)) ≡ all → last_or now (listed_files (drop (i + 1) chain)) ≡ all
+last_left chain i b last now all lt is next done =
+    ap (λ (o : Option Entry). last_or o (listed_files (drop (i + 1) chain))) next
+    ∙ sym (last-append last b.block.entries (listed_files (drop (i + 1) chain)))
+    ∙ ap (last_or last) (sym (files_from chain i b lt is))
+    ∙ done

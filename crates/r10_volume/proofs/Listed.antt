@@ -1,5 +1,5 @@
 -- What the entries of a directory tell of the files that they list.
-use Rattle.std.proofs.Common.{◌≡◌, ℕ, suc, ◌+◌, ◌/◌, ◌<◌, ◌≤◌, Bool, true, false, ◌&&◌, ◌-◌, List, [], ◌∷◌, ◌++◌, length, map, drop, get_or, Option, Some, None, refl, sym, ap, subst, ◌∙◌, arith}
+use Rattle.std.proofs.Common.{◌≡◌, ℕ, ◌+◌, ◌/◌, ◌<◌, ◌≤◌, Bool, true, false, ◌&&◌, ◌-◌, List, [], ◌∷◌, length, map, Option, Some, None, refl, subst, arith}
 use Rattle.std.specs.Prelude.{nat_lt, nat_le, ◌==◌}
 use Rattle.std.specs.List.{last_or}
 use Rattle.std.proofs.lemmas.Bool.{eqb-true, leb-true, ltb-true}
@@ -19,7 +19,7 @@ use Rattle.r10_machine.specs.Room.{blocks_of, next_block}
 use Rattle.r10_machine.specs.Finding.{info_of}
 use Rattle.r10_machine.specs.Says.{Lists, SaysEach}
 use Rattle.r10_volume.specs.Listing.{block_behind, has_name, info_in, is_last_closed}
-use Rattle.r10_dirchain.proofs.FileLists.{files_from}
+pub use Rattle.r10_dirchain.proofs.FileLists.{last-append}
 
 -- ---- what a directory lists that holds files
 
@@ -160,26 +160,3 @@ module _ (s : Config) (image : Image) (chain : List ChainBlock) (written : Optio
 
 pub names_told : (s : Config) (image : Image) (chain : List ChainBlock) (written : Option OpenState) (files : List File) (name : List ℕ) → HoldsFiles s image chain written files → has_name name (listed_files chain) ≡ is_taken name files
 names_told s image chain written files name holds = same_names image (listed_files chain) files name (held_lists s image chain written files holds).each
-
--- ---- lists after one another
-
-pub last-append : {A : Type 0} (d : Option A) (xs ys : List A) → last_or d (xs ++ ys) ≡ last_or (last_or d xs) ys
-last-append d [] ys = refl
-last-append d (x ∷ xs) ys = last-append (Some x) xs ys
-
--- the last of entries by its place
-pub last_at : (d : Option Entry) (entries : List Entry) (e : Entry) → 0 < length entries → e ≡ get_or entries (length entries - 1) e → Some e ≡ last_or d entries
-last_at d [] e some is = absurd (omega (arith, some))
-last_at d (x ∷ []) e some is = ap Some is
-last_at d (x ∷ y ∷ entries) e some is = last_at (Some x) (y ∷ entries) e (omega arith) (is ∙ ap (λ (k : ℕ). get_or (x ∷ y ∷ entries) k e) one_more)
-  where
-    one_more : length (x ∷ y ∷ entries) - 1 ≡ suc (length (y ∷ entries) - 1)
-    one_more = omega arith
-
-pub last_left : (chain : List ChainBlock) (i : ℕ) (b : ChainBlock) (last now all : Option Entry) → i < length chain → b ≡ get_or chain i b → now ≡ last_or last b.block.entries
-    → last_or last (listed_files (drop i chain)) ≡ all → last_or now (listed_files (drop (i + 1) chain)) ≡ all
-last_left chain i b last now all lt is next done =
-    ap (λ (o : Option Entry). last_or o (listed_files (drop (i + 1) chain))) next
-    ∙ sym (last-append last b.block.entries (listed_files (drop (i + 1) chain)))
-    ∙ ap (last_or last) (sym (files_from chain i b lt is))
-    ∙ done

@@ -12,6 +12,7 @@ mod steps;
 pub use formatting::format;
 pub use holding::found_files_stay;
 pub use laws::{an_image_keeps_its_bytes, listings_tell};
-pub use listing::{count, is_sealed, is_taken, last_file, list, next_block};
+pub use listing::{is_sealed, is_taken, list, next_block};
 pub use mounting::mount;
+pub use r10_dirchain::{count, last_file};
 pub use steps::{dismount, erase};

@@ -1,13 +1,12 @@
 //! What a directory tells of its files.
 
-ghost use Rattle.std.specs.Prelude.{◌≡◌, ◌-◌, ◌^◌, None, length, map, min, IfOk};
-ghost use Rattle.std.specs.List.{last_or};
+ghost use Rattle.std.specs.Prelude.{◌≡◌, ◌-◌, ◌^◌, map, min, IfOk};
 ghost use Rattle.r10_dirchain.specs.Chain.{listed_files};
 ghost use Rattle.r10_volume.specs.Listing.{block_behind, has_name, info_in, is_last_closed};
 
 use r10_count::Items;
 use r10_dirblock::Entry;
-use r10_dirchain::Directory;
+use r10_dirchain::{Directory, last_file};
 use r10_machine::FileInfo;
 use std::alloc::{AllocError, Global};
 
@@ -33,38 +32,6 @@ fn info_of(alloc: Global, entry: &Entry) -> Result<FileInfo, AllocError>
         blocks: entry.block_count,
         closed: entry.is_closed(),
     })
-}
-
-/// How many files there are.
-pub fn count(directory: &Directory) -> usize
-    ensures { result ≡ min (length (listed_files directory.now)) (2 ^ 64 - 1) }
-{
-    let mut files = 0_usize;
-    for link in directory.blocks() {
-        files = files.saturating_add(link.block.entries.len());
-    }
-    files
-}
-
-/// The last file's entry.
-pub fn last_file(directory: &Directory) -> Option<Entry>
-    ensures { result ≡ last_or None (listed_files directory.now) }
-{
-    let mut last = None;
-    for link in directory.blocks() {
-        last = last_of(link.block.entries.as_slice(), last);
-    }
-    last
-}
-
-/// The last of these entries, or another where there is none.
-fn last_of(entries: &[Entry], before: Option<Entry>) -> Option<Entry>
-    ensures { result ≡ last_or before entries.now }
-{
-    match entries.last() {
-        Some(entry) => Some(*entry),
-        None => before,
-    }
 }
 
 /// The first block of a next file: the one after the last file, or after so many reserved ones.
