@@ -3,7 +3,6 @@
 ghost use Rattle.std.specs.Prelude.{◌≡◌, ◌+◌, ◌<◌, ◌^◌};
 ghost use Rattle.r10_builder.specs.Spelled.{closed_header as header_with};
 
-use crate::limits::packet_len;
 use crate::open_packet::OpenPacket;
 use r10_body::ChannelSpec;
 use r10_packet::{Check, Header};
@@ -16,7 +15,8 @@ pub(crate) fn closed_header(spec: &ChannelSpec, packet: &OpenPacket, body: usize
 {
     let channel = spec.id;
     let check = Check::of_bits(spec.check);
-    let size = packet_len(check.width(), body);
+    // with header and least filler
+    let size = (body + check.width() + 27) / 4 * 4;
     let flag = if packet.gap.is_gap() { 0x10 } else { 0 };
     Header {
         channel,

@@ -25,16 +25,6 @@ fn comes_soon(before: Count, count: Count) -> bool
     count.get() <= before.get() + TENTH
 }
 
-/// How long a packet is with a data checksum and a body of so many bytes: with header and least
-/// filler.
-pub(crate) fn packet_len(checksum: usize, body: usize) -> usize
-    requires checksum { checksum < 2 ^ 62 }
-    requires body { body < 2 ^ 63 + 2 ^ 20 }
-    ensures { result ≡ (body + checksum + 27) / 4 * 4 }
-{
-    (body + checksum + 27) / 4 * 4
-}
-
 /// Whether a packet with a data checksum and a body of so many bytes, and some more in the body, is no longer than it may
 /// be: with header and least filler.
 pub(crate) fn has_room(most: usize, checksum: usize, body: usize, more: usize) -> bool
