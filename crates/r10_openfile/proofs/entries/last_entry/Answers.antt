@@ -1,14 +1,11 @@
-use Rattle.std.proofs.Common.{◌+◌, drop, Option, Some, ap, ◌∙◌}
-use Rattle.std.specs.List.{last_or}
-use Rattle.r10_dirblock.specs.declared.entry.Entry.{Entry}
+use Rattle.std.proofs.Common.{sym, ◌∙◌}
+use Rattle.r10_dirblock.specs.Block.{blank}
 use Rattle.r10_dirchain.specs.Chain.{listed_files}
-use Rattle.r10_openfile.proofs.Last.{last_left}
+use Rattle.r10_openfile.proofs.Last.{last_found, none_last}
 use Rattle.r10_openfile.proofs.entries.last_entry.Goals as goal
 
-pub loop-link-preserved : goal.loop-link-preserved
-loop-link-preserved c =
-    let chain = c.blocks-link-items.result.now in
-    let i = c.loop-link.link-index in
-    ap (λ (o : Option Entry). last_or o (listed_files (drop (i + 1) chain))) (c.last_of-last.ensures ∙ ap (λ l. last_or (Some c.loop-link.last) l) c.as_slice.ensures.items)
-    ∙ last_left (Some c.loop-link.last) chain i c.link-item.result c.loop-link-test.true c.link-item.is
-    ∙ c.loop-link.invariant
+pub returns-in-Some : goal.returns-in-Some
+returns-in-Some c = last_found blank c.in-Some.entry (listed_files c.args.directory.now) (sym c.last_file.ensures ∙ c.in-Some.is)
+
+pub returns-in-None : goal.returns-in-None
+returns-in-None c = rw c.default.ensures (none_last blank (listed_files c.args.directory.now) (sym c.last_file.ensures ∙ c.in-None.is))
