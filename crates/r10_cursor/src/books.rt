@@ -2,7 +2,6 @@
 
 ghost use Rattle.std.specs.Prelude.{◌≡◌, ◌≢◌, ◌+◌, ◌*◌, ◌^◌, ◌≤◌, ◌<◌, [], List, Option, None, Some, length, slice_get, IfOk};
 ghost use Rattle.std.specs.Prelude.{IfErr, IfSome, IfNone, IsErrOf, IsSomeAnd, OnOk, OnErr};
-ghost use Rattle.std.specs.Bool.{OnTrue, OnFalse};
 ghost use Rattle.std.specs.List.{AllByRecursion};
 ghost use Rattle.r10_medium.specs.Disk.{Image, IsWhole, Unchanged};
 ghost use Rattle.r10_dirblock.specs.Block.{is_closed as is_closed_entry};
@@ -68,7 +67,7 @@ impl Books {
         ensures same { Unchanged (M.disk medium.old) (M.disk medium.new) }
         ensures no_fewer { (M.disk medium.old).failures ≤ (M.disk medium.new).failures }
     {
-        if is_written(written, file) {
+        if shown_of_written(written, file).is_some() {
             return Ok(0);
         }
         match finished_entry(directory, written, file) {
@@ -178,14 +177,6 @@ impl Books {
             Err(_) => Err(ReadRefusal::OutOfMemory),
         }
     }
-}
-
-/// Whether a file is the one that is written.
-fn is_written(written: Option<Written<'_>>, file: usize) -> bool
-    ensures yes { OnTrue result (IsSomeAnd written.entry (λ w. w.file ≡ file)) }
-    ensures no { OnFalse result (IfSome written.entry (λ w. w.file ≢ file)) }
-{
-    shown_of_written(written, file).is_some()
 }
 
 /// What is reported of a file, where it is the one that is written.

@@ -58,7 +58,7 @@ pub fn next_entry(cursors: &mut Slab<Cursor>, id: usize) -> Result<Option<Entry>
         (λ given. first_broken (open_checks (cursor_of id m)) ≡ None) (λ r. first_broken (open_checks (cursor_of id m)) ≡ Some r) }
 {
     match cursors.get_mut(id) {
-        Some(cursor) => Ok(cursor.next()),
+        Some(cursor) => Ok(cursor.reading.next()),
         None => Err(Refusal::NoCursor),
     }
 }
@@ -93,11 +93,11 @@ pub fn check_read(cursors: &Slab<Cursor>, generation: u64, id: usize) -> Result<
     let Some(cursor) = cursors.get(id) else {
         return Err(Refusal::NoCursor);
     };
-    if cursor.generation() != generation {
+    if cursor.generation != generation {
         return Err(Refusal::Stale);
     }
-    if cursor.queue_len() > 0 {
+    if cursor.reading.queue_len() > 0 {
         return Err(Refusal::Unread);
     }
-    Ok(cursor.file())
+    Ok(cursor.file)
 }
