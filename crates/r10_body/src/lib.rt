@@ -22,6 +22,7 @@ mod refusal;
 mod same;
 mod spec;
 mod spelling;
+mod text;
 
 pub use channel_entry::ChannelEntry;
 pub use costs::{ENTRY_COST, FILE_COST, LOSS_COST, cost};
@@ -41,3 +42,4 @@ pub use refusal::{Glance, Refusal};
 pub use same::are_same;
 pub use spec::ChannelSpec;
 pub use spelling::encode;
+pub use text::{TextEntry, split_text};

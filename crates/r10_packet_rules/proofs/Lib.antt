@@ -6,7 +6,6 @@ pub mod Tallies
 pub mod Retelling
 pub mod Scanned
 pub mod IndexEntries
-pub mod Texts
 pub mod Once
 pub mod Glances
 pub mod Buses

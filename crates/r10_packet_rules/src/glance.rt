@@ -3,10 +3,9 @@
 use crate::bus::split_bus;
 use crate::fixed::{split_states, split_word};
 use crate::scan::{Glimpse, ScannedEntry};
-use crate::text::split_text;
 use r10_a429::{ArincEntry, LONGEST_GAP};
 use r10_b1553::{BusEntry, MOST_BYTES, NAMED_BITS};
-use r10_body::ENTRY_COST;
+use r10_body::{ENTRY_COST, split_text};
 use r10_count::Count;
 use r10_discrete::{DiscreteEntry, has_only};
 use r10_message::{MessageEntry, MessageHeader};

@@ -20,7 +20,6 @@ mod packet_facts;
 mod scan;
 mod strict;
 mod tally;
-mod text;
 
 pub use any::{AnyPacket, read_any};
 pub use facts::{Facts, PacketKind, Spread};
@@ -29,4 +28,3 @@ pub use foreign_body::is_foreign_body;
 pub use laws::{fault_stays, one_fault, one_verdict, strict_is_foreign};
 pub use packet::{ForeignPacket, read_foreign};
 pub use strict::{StrictReading, read_checked, read_strict};
-pub use text::{TextEntry, split_text};

@@ -1,6 +1,6 @@
 use Rattle.std.proofs.Common.{arith}
-use Rattle.r10_packet_rules.proofs.Texts.{even_behind, padded_long}
-use Rattle.r10_packet_rules.proofs.text.split_bytes.Goals as goal
+use Rattle.r10_body.proofs.Texts.{even_behind, padded_long}
+use Rattle.r10_body.proofs.text.split_bytes.Goals as goal
 
 pub returns-then-bytes-size-clause-none : goal.returns-then-bytes-size-clause-none
 returns-then-bytes-size-clause-none c = λ text rest n is. omega (arith, c.if-bytes-size.true, padded_long c.args.bytes.now text rest c.args.size n is)
