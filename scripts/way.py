@@ -2,11 +2,14 @@
 """Counts the functions that a message runs through: from its offer over a pump and a commit to the medium, and back by an advance
 and a `next` of a cursor.
 
-    scripts/way.py            builds the program without proofs and without inlining, and runs it under callgrind, in three minutes
-    scripts/way.py --names    prints each function too
+    scripts/way.py             builds the program without proofs and without inlining, and runs it under callgrind, in three minutes
+    scripts/way.py --names     prints each function too
+    scripts/way.py --copies    counts how often the way stores a byte of a message, and prints the functions that do
 
 A function counts once, whatever its type parameters are. Closures, what lets values go, laws and the program's own frames around
-the recorder do not count, nor does what is not of this repository. It wants the toolchain and valgrind.
+the recorder do not count, nor does what is not of this repository. A copy is a function whose stores grow with the message: two
+messages of other lengths are recorded, and what is stored more is shared by the bytes that are more. It wants the toolchain and
+valgrind.
 """
 from __future__ import annotations
 
@@ -44,13 +47,17 @@ STEPS = (
     'do = "tick"\ncount = 1000\ncivil = "2024-02-29 12:34:56.78"',
     'do = "start"\nname = "FLT1"\nsetup = "41424344"',
     'do = "cursor"\nfile = 0\nchannels = [5]\nfrom = 0\nto = 281474976710655',
-    'do = "offer"\nchannel = 5\ncount = 1000\nbytes = "414243"',
+    'do = "offer"\nchannel = 5\ncount = 1000\nbytes = "BYTES"',
     'do = "pump"\nchannel = 5\nk = 2',
     'do = "commit"',
     'do = "advance"\nid = 0',
     'do = "next"\nid = 0',
 )
-LAST = '9 entry 5 1000 0 uart 0 0 414243'
+MESSAGE = '414243'
+LAST = '9 entry 5 1000 0 uart 0 0 '
+# Two messages' bytes, and how many of them one store takes at most.
+LENGTHS = (2000, 6000)
+WIDEST = 64
 CALLS = ('control::offer', 'control::pump', 'control::commit', 'readers::advance', 'readers::next')
 FRAMES = ('r10_cli', 'r10_command', 'r10_session', 'r10_world::running', 'r10_world::world')
 PASSED_OVER = re.compile(r'Destruct|(^|::)fn::|\+Fn|\w*laws::|::drop$|r10_refinement::')
@@ -62,9 +69,9 @@ def not_inlined(lines):
         yield re.sub(r'\balwaysinline\b', 'noinline', line) if line.startswith(('define ', 'attributes #')) else line
 
 
-def build(room: pathlib.Path) -> pathlib.Path:
-    """The program without proofs, with each function as it is written."""
-    quick_build.FLAGS = [*quick_build.FLAGS[:2], '-fPIE', '-O0', '-ffunction-sections']
+def build(room: pathlib.Path, level: str) -> pathlib.Path:
+    """The program without proofs, with each function as it is written, at this level of the compiler."""
+    quick_build.FLAGS = [*quick_build.FLAGS[:2], '-fPIE', level, '-ffunction-sections']
     stripped = quick_build.stripped
     quick_build.stripped = lambda lines, marks: not_inlined(stripped(lines, {}))
     program = room / 'r10'
@@ -72,35 +79,76 @@ def build(room: pathlib.Path) -> pathlib.Path:
     return program
 
 
+def recorded(program: pathlib.Path, room: pathlib.Path, message: str, *options: str) -> str:
+    """What callgrind writes of one recording of this message, its bytes in hexadecimal: of those calls alone."""
+    out = room / 'callgrind.out'
+    words = ['valgrind', '--tool=callgrind', f'--callgrind-out-file={out}', '--collect-atstart=no', *options,
+             *(f'--toggle-collect=r10_world::{it}*' for it in CALLS), str(program), 'sim']
+    script = SETTINGS + ''.join(f'\n[[step]]\n{it}\n' for it in STEPS).replace('BYTES', message)
+    ran = subprocess.run(words, input=script, capture_output=True, text=True, check=False)
+    if ran.returncode or ran.stdout.splitlines()[-1:] != [LAST + message]:
+        sys.exit('way: the recording did not go as it has to:\n' + ran.stdout[-1000:] + ran.stderr[-1000:])
+    return out.read_text(encoding='utf-8', errors='replace')
+
+
 def functions_of(program: pathlib.Path, room: pathlib.Path) -> list[str]:
     """The names of the functions that ran between those calls and their answers."""
-    out = room / 'callgrind.out'
-    words = ['valgrind', '--tool=callgrind', f'--callgrind-out-file={out}', '--collect-atstart=no',
-             *(f'--toggle-collect=r10_world::{it}*' for it in CALLS), str(program), 'sim']
-    script = SETTINGS + ''.join(f'\n[[step]]\n{it}\n' for it in STEPS)
-    ran = subprocess.run(words, input=script, capture_output=True, text=True, check=False)
-    if ran.returncode or ran.stdout.splitlines()[-1:] != [LAST]:
-        sys.exit('way: the recording did not go as it has to:\n' + ran.stdout + ran.stderr[-1000:])
-    names = re.findall(r'(?m)^c?fn=\(\d+\) (r10_\S*)', out.read_text(encoding='utf-8', errors='replace'))
+    names = re.findall(r'(?m)^c?fn=\(\d+\) (r10_\S*)', recorded(program, room, MESSAGE))
     found = {re.sub(r'::<.*', '', it) for it in names}
     return sorted(it for it in found if not PASSED_OVER.search(it) and not it.startswith(FRAMES))
+
+
+def stores_of(text: str) -> collections.Counter[str]:
+    """Of each function the stores of its own, as callgrind writes them, those of the system's library by the caller's name."""
+    names, found, function, is_call = {}, collections.Counter(), '', False
+    column = 1 + re.search(r'(?m)^events: (.*)', text)[1].split().index('Dw')
+    for line in text.splitlines():
+        if named := re.match(r'fn=(\(\d+\))(?: (.*))?', line):
+            if named[2]:
+                names[named[1]] = named[2]
+            function = names[named[1]]
+        elif other := re.match(r'cfn=(\(\d+\)) (.*)', line):
+            names[other[1]] = other[2]
+        elif line.startswith('calls='):
+            is_call = True
+        elif re.match(r'[-+*\d]', line):
+            fields = line.split()
+            if not is_call and len(fields) > column:
+                found[function] += int(fields[column])
+            is_call = False
+    return found
+
+
+def copies_of(program: pathlib.Path, room: pathlib.Path) -> dict[str, float]:
+    """Of each function and its caller how many bytes a store of it takes from a message, where its stores grow with it."""
+    few, many = (stores_of(recorded(program, room, MESSAGE[:2] * length, '--cache-sim=yes', '--separate-callers=1'))
+                 for length in LENGTHS)
+    more = LENGTHS[1] - LENGTHS[0]
+    return {it: more / (many[it] - few[it]) for it in many if many[it] - few[it] >= more / WIDEST}
 
 
 def main() -> None:
     """Prints how many functions each crate has on the way."""
     words = argparse.ArgumentParser(description=__doc__, formatter_class=argparse.RawDescriptionHelpFormatter)
     words.add_argument('--names', action='store_true', help='print each function too')
+    words.add_argument('--copies', action='store_true', help='count how often a byte of a message is stored')
     words = words.parse_args()
     if not shutil.which('valgrind'):
         sys.exit('way: there is no valgrind here')
     with tempfile.TemporaryDirectory(prefix='way-') as folder:
         room = pathlib.Path(folder)
         try:
-            found = functions_of(build(room), room)
+            program = build(room, '-O2' if words.copies else '-O0')
+            found = copies_of(program, room) if words.copies else functions_of(program, room)
         except Fault as fault:
             log = room / 'log'
             said = log.read_text(encoding='utf-8', errors='replace') if log.is_file() else ''
             sys.exit('way: the tool built nothing: %s\n%s' % (fault, said[-2000:]))
+    if words.copies:
+        for name, width in sorted(found.items(), key=lambda it: it[0]):
+            print(f'{width:4.0f} bytes a store  {name}')
+        print(f'{len(found):4}  functions store each byte of a message')
+        return
     if words.names:
         print('\n'.join(found))
     crates = collections.Counter(it.split('::')[0] for it in found)
