@@ -77,7 +77,7 @@ REPORT_MORE = """As in: ch10 report flight/*.ch10 > report.html. It has an overv
 of the files, and of each recording its verdict, a picture of rates and losses,
 channels, damaged stretches, clocks, what its buses carried, and its setup.
 Where the program r10 is not there, it says that nothing was judged. The status
-is 1 where a recording is faulty or damaged.
+is 1 if a recording is faulty or damaged, and if there is none.
 """
 
 
@@ -90,6 +90,13 @@ def place(word: str) -> str:
     """A path as text, as places are kept. No two paths have the same: a path may have what stands for a byte that is no UTF-8 in
     its own letters."""
     return os.fsencode(word).replace(b'\\x', b'\\x5cx').decode('utf-8', 'backslashreplace')
+
+
+def input_path(word: str) -> str:
+    """The path of an input. An empty word, as of a shell's variable that is not set, names none."""
+    if not word:
+        raise argparse.ArgumentTypeError("'' names no file and no folder")
+    return word
 
 
 def positive(word: str) -> int:
@@ -122,6 +129,9 @@ def add_words(commands: Any, Parser: Any, channel_number: Callable[[str], int]) 
     def with_database(made: Any) -> None:
         made.add_argument('--db', metavar='DSN', help='the database')
 
+    def with_inputs(made: Any) -> None:
+        made.add_argument('inputs', nargs='+', type=input_path, metavar='INPUT', help='a recording, an image, or a folder')
+
     def judging(made: Any) -> None:
         made.add_argument('--jobs', type=positive, metavar='N',
                           help='so many at a time, up to 64 (without it: one for each processor)')
@@ -139,7 +149,7 @@ def add_words(commands: Any, Parser: Any, channel_number: Callable[[str], int]) 
 
     made = command(inner, 'catalogue add', run_of('catalogue', 'add'), 'Adds recordings, or the files of images, to the catalogue.',
                    ADD_MORE + DATABASE)
-    made.add_argument('inputs', nargs='+', metavar='INPUT', help='a recording, an image, or a folder')
+    with_inputs(made)
     with_database(made)
     made.add_argument('--place', type=place, metavar='BASE',
                       help='where they are to be found: BASE/NAME, as s3://bucket/flights, in place of the path')
@@ -174,7 +184,7 @@ def add_words(commands: Any, Parser: Any, channel_number: Callable[[str], int]) 
 
     made = command(commands, 'load', run_of('load', 'load'),
                    'Puts the entries of recordings into tables of a database, one for each kind.', load_more)
-    made.add_argument('inputs', nargs='+', metavar='INPUT', help='a recording, an image, or a folder')
+    with_inputs(made)
     with_database(made)
     made.add_argument('--channel', type=channel_number, metavar='C', action='append',
                       help='this channel alone; may be given again for another')
@@ -183,6 +193,6 @@ def add_words(commands: Any, Parser: Any, channel_number: Callable[[str], int]) 
 
     made = command(commands, 'report', run_of('report', 'report'),
                    'Writes one page about recordings: HTML with all that it needs in it.', REPORT_MORE)
-    made.add_argument('inputs', nargs='+', metavar='INPUT', help='a recording, an image, or a folder')
+    with_inputs(made)
     made.add_argument('--program', metavar='PATH', help='the program r10, for the verdicts')
     made.add_argument('--unjudged', action='store_true', help='without verdicts')

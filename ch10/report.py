@@ -10,7 +10,7 @@ from html import escape
 from typing import Any, Dict, Iterable, List, NamedTuple, Optional, Sequence, Tuple
 
 from .buses import ERRORS_1553, command_1553, word_429
-from .catalogue import Input, image_tasks, inputs_of, line_of, opened, title, unread
+from .catalogue import ENDINGS, Input, image_tasks, inputs_of, line_of, opened, title, unread
 from .facts import facts_of, nothing_in, program_of, verdict_of_image
 from .find import lost_text, verdict_text
 from .inputs import Output, is_recording
@@ -328,6 +328,9 @@ def report(asked: Any, data: None, out: Output) -> None:
             program = None
     failed: List[Tuple[str, str]] = []
     parts = [part for one in inputs_of(asked.inputs, None, [], failed) for part in parts_of_input(one, program, failed)]
+    if not parts and not failed:
+        raise Fault('there is no recording in what was given; of a folder those files are taken that end in %s, or begin as one'
+                    % ', '.join(ENDINGS))
     for line in page(parts):
         out.write(re.sub('[\x00-\x08\x0b\x0c\x0e-\x1f]', '?', line).encode('utf-8', 'replace') + b'\n')
     unread(failed)

@@ -26,6 +26,8 @@ class Sqlite(Store):
         self.writes = make
         if not make and not os.path.exists(path):
             raise Wrong('there is no database %r; ch10 catalogue add makes one, and --db names another' % path[:200])
+        if os.path.exists(path) and not os.path.isfile(path):  # a pipe would be waited for
+            raise StoreError('the database %r: it is no regular file' % path[:200])
         try:
             if make:
                 self.base = sqlite3.connect(path, timeout=WAIT, isolation_level=None)

@@ -1,4 +1,12 @@
-#!/usr/bin/env python3
+#!/bin/sh
+''':'
+# Begun by a shell: Python itself ends with a trace where standard input is a folder.
+if [ -d /dev/stdin ]; then
+    echo "ch10: a read or a write failed: standard input is a folder" >&2
+    exit 3
+fi
+exec python3 "$0" "$@"
+'''
 """What a crew asks of a recording, or of the image of a medium: from standard input to standard output, by the public standard
 alone.
 

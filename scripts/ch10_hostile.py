@@ -12,11 +12,12 @@ import tempfile
 from contextlib import suppress
 from typing import Callable, Iterator, List, Tuple
 
-from ch10 import script
+import play_cases
+from ch10 import command, script
 from ch10_damage import one_damaged
 from ch10_meanings import MOMENT, run
 from ch10_recordings import SECOND, Maker, civil_body, flight
-from check_cases import letters, number
+from check_cases import FIRST, letters, number
 
 TOP = pathlib.Path(__file__).resolve().parent.parent
 FILTER = str(TOP / 'scripts' / 'ch10.py')
@@ -138,7 +139,10 @@ def inputs_of_the_shell() -> Tuple[object, object]:
                      'cat flight.ch10 | "%s" csv --jobs 2 | tail -n 1 | cut -c 1-4',
                      '"%s" sqlite --out . < flight.ch10', '"%s" sqlite --out "" < flight.ch10',
                      '"%s" sqlite --out none/flight.db < flight.ch10',
-                     '"%s" csv --jobs 3 < flight.ch10 > /dev/full'):
+                     '"%s" csv --jobs 3 < flight.ch10 > /dev/full',
+                     'mkfifo pipe; head -c 30 flight.ch10 > pipe & sleep 0.1; "%s" csv < pipe',
+                     'timeout 20 "%s" catalogue find --db pipe', '"%s" csv < .',
+                     'ulimit -f 8; "%s" sqlite --out full.db < flight.ch10; echo "$?"; ls full.db*'):
             done = subprocess.run(['bash', '-c', 'set -o pipefail; ' + call % FILTER], cwd=folder, capture_output=True, timeout=60)
             found.append((done.returncode, done.stdout.decode(), done.stderr.decode()))
         packets = []
@@ -160,7 +164,71 @@ def inputs_of_the_shell() -> Tuple[object, object]:
         (2, '', "ch10: '.' is there already: give --out another name\n"),
         (2, '', 'ch10: sqlite takes --out FILE; see ch10 sqlite --help\n'),
         (3, '', 'ch10: a read or a write failed: unable to open database file\n'),
-        (3, '', 'ch10: a read or a write failed: No space left on device\n')], [1, 1])
+        (3, '', 'ch10: a read or a write failed: No space left on device\n'),
+        (1, '', 'ch10: less than its packet at offset 0\n'),
+        (3, '', "ch10: a read or a write failed: the database 'pipe': it is no regular file\n"),
+        (3, '', 'ch10: a read or a write failed: standard input is a folder\n'),
+        (2, '3\n', "ch10: a read or a write failed: disk I/O error\nls: cannot access 'full.db*': No such file or directory\n")],
+                       [1, 1])
+
+
+def a_folder_for_the_judges() -> Tuple[object, object]:
+    """A folder as standard input is a line of the judges too, and no trace of Python's."""
+    found = []
+    for name in ('judge_image', 'judge_recording', 'read_chapter10'):
+        done = subprocess.run([str(TOP / 'scripts' / (name + '.py'))], stdin=os.open('/', os.O_RDONLY), capture_output=True)
+        found.append((done.returncode, done.stdout, done.stderr == b'%s: a read or a write failed: standard input is a folder\n'
+                      % name.encode()))
+    return found, [(3, b'', True)] * 3
+
+
+def inputs_by_name() -> Tuple[object, object]:
+    """What is given by its name and cannot be read is a line, which names it; so is a folder without a recording."""
+    found = []
+    with tempfile.TemporaryDirectory() as folder:
+        place = os.path.realpath(folder)
+        pathlib.Path(place, 'flight.ch10').write_bytes(b''.join(flight(random.Random('named'), 3)))
+        pathlib.Path(place, 'closed.ch10').touch(0o000)
+        os.mkdir(os.path.join(place, 'empty'))
+        os.mkfifo(os.path.join(place, 'pipe'))
+        os.chmod(place, 0o755)
+        for name in ('flight.ch10', 'none.ch10', 'flight.ch10/', 'pipe', 'closed.ch10'):
+            # (root may read all, so another user is asked)
+            if name == 'closed.ch10' and os.geteuid() == 0:
+                os.seteuid(65534)
+            status, _, line = run(['report', '--unjudged', os.path.join(place, name)], b'')
+            if os.getuid() == 0:
+                os.seteuid(0)
+            found.append((status, line.replace(place, '')))
+        found += [run(['report', '--unjudged', name], b'') for name in ('', os.path.join(place, 'empty'))]
+    unread = 'a read or a write failed: 1 of the inputs could not be read, first '
+    return found, [
+        (0, ''), (3, unread + '/none.ch10: No such file or directory'), (3, unread + '/flight.ch10: Not a directory'),
+        (3, unread + '/pipe: no regular file'), (3, unread + '/closed.ch10: Permission denied'),
+        (2, '', "argument INPUT: '' names no file and no folder; see ch10 report --help"),
+        (1, '', 'there is no recording in what was given; of a folder those files are taken that end in .ch10, .c10, .img, or '
+                'begin as one')]
+
+
+def outputs_without_room() -> Tuple[object, object]:
+    """Each command that writes says in a line that there is no room for it. (sqlite writes to a file: see above.)"""
+    found, done = {}, set()
+    with tempfile.TemporaryDirectory() as folder:
+        path, base = os.path.join(folder, 'flight.ch10'), os.path.join(folder, 'range.db')
+        data = b''.join(flight(random.Random('room'), 3))
+        pathlib.Path(path).write_bytes(data)
+        text = (TOP / 'examples' / 'first.toml').read_bytes()
+        run(['catalogue', 'add', '--unjudged', '--jobs', '1', '--db', base, path], b'')
+        for words in (['summary'], ['csv'], ['json'], ['svg'], ['setup'], ['range'], ['tmats'], ['file', 'FLT1'],
+                      ['catalogue', 'find', '--db', base], ['catalogue', 'add', '--unjudged', '--jobs', '1', '--db', base, path],
+                      ['load', '--unjudged', '--jobs', '1', '--db', base, path], ['report', '--unjudged', path], ['--help'],
+                      ['--version']):
+            given = text if words[0] == 'tmats' else play_cases.alone(FIRST) if words[0] == 'file' else data
+            done.add(words[0])
+            with open('/dev/full', 'wb', buffering=0) as to:
+                found[' '.join(words[:2 if words[0] == 'catalogue' else 1])] = command.answer(words, lambda: given, lambda: to)
+    return (found, set(command.COMMANDS) - done), (
+        dict.fromkeys(found, (3, 'a read or a write failed: No space left on device')), {'sqlite'})
 
 
 def interrupted_early() -> Tuple[object, object]:
@@ -255,4 +323,5 @@ def syntax() -> Tuple[object, object]:
 
 
 TRIALS: List[Callable] = [damaged_front, within_another, once_wrong, counter_anew, wrong_scripts, more_lost_than_a_column_takes,
-                          inputs_of_the_shell, interrupted_early, memory, a_disk, version, signatures, syntax]
+                          inputs_of_the_shell, a_folder_for_the_judges, inputs_by_name, outputs_without_room, interrupted_early,
+                          memory, a_disk, version, signatures, syntax]
