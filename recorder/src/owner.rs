@@ -127,6 +127,8 @@ pub struct Owner {
     pub(crate) acknowledge: Option<Acknowledge>,
     /// number and name of the file that is or was recorded
     pub file: Option<(usize, String)>,
+    /// events that were recorded in it by a command, or for a step of the clock
+    pub(crate) events: u64,
     pub(crate) began: Instant,
     pub(crate) committed: Instant,
     pub(crate) ticked: Instant,
@@ -147,6 +149,8 @@ pub struct Owner {
 
 /// How long batches are taken in before something else has its turn.
 pub(crate) const TURN: Duration = Duration::from_millis(20);
+/// How long they are taken in before a recording ends. (A test of a part may have to wait for a processor.)
+const LAST_TURN: Duration = Duration::from_secs(if cfg!(test) { 60 } else { 1 });
 
 /// Whether a file is as old as it may become. One without a message may become a day old, as each takes a place in the directory.
 fn is_old(age: Duration, file_for: Duration, has_messages: bool) -> bool {
@@ -198,6 +202,7 @@ impl Owner {
             point: Point::default(),
             readers: Vec::new(),
             file: None,
+            events: 0,
             began: now,
             committed: now,
             ticked: now,
@@ -332,11 +337,30 @@ impl Owner {
         self.counter.count()
     }
 
-    /// Takes in all that the inputs handed over, before a file ends. A flood has no end: after a second it is cut off.
+    /// Takes in all that the inputs handed over, before a recording ends. What has no room in the file comes into the next one. A
+    /// flood has no end: after [`LAST_TURN`] it is cut off.
     pub fn take_in_all(&mut self) -> Result<(), Trouble> {
-        let until = Instant::now() + Duration::from_secs(1);
-        while self.take_in()? && Instant::now() < until {}
+        let until = Instant::now() + LAST_TURN;
+        while Instant::now() < until {
+            match self.take_in() {
+                Ok(true) => (),
+                Ok(false) => break,
+                Err(Trouble::Full(_)) => self.next_file("is full")?,
+                Err(trouble) => return Err(trouble),
+            }
+        }
         Ok(())
+    }
+
+    /// Messages that were accepted, and wait for room in a file.
+    pub(crate) fn waiting(&self) -> usize {
+        self.lanes.iter().map(|it| it.waiting).sum()
+    }
+
+    /// Whether the file that is or was recorded has a message or an event. Where one has neither, and no room for one, the medium is
+    /// full.
+    pub(crate) fn has_taken(&self) -> bool {
+        self.events > 0 || self.lanes.iter().any(|it| it.durable_in_file > 0)
     }
 
     /// Takes in what the inputs handed over, for a turn at most. Whether there may be more.
@@ -446,8 +470,8 @@ impl Owner {
             return false;
         }
         let done = self.close();
-        // what a full file or medium left would have come first in the next one
-        let left: usize = self.lanes.iter().map(|it| it.waiting).sum();
+        // what a full medium left would have come first in the next file
+        let left = self.waiting();
         if left > 0 {
             warning!("{left} messages waited for room, and are in no file");
         }
@@ -465,8 +489,7 @@ impl Owner {
 
     fn close(&mut self) -> Result<(), Trouble> {
         if self.state == State::Recording {
-            self.medium.keep(false);
-            self.stop("was stopped by the end of the service")?;
+            self.end_recording("was stopped by the end of the service")?;
         }
         self.recorder()?.dismount()?;
         self.settle()
@@ -483,7 +506,151 @@ fn tell_lost(recorder: &mut Recorder, lane: &mut Lane) {
 
 #[cfg(test)]
 mod tests {
+    use std::path::PathBuf;
+    use std::sync::mpsc::channel;
+
+    use r10::ALL_COUNTS;
+
     use super::*;
+    use crate::control::{Origin, Reply};
+    use crate::feed::{Feed, feed};
+    use crate::kinds::Head;
+
+    /// A recorder's thread without a thread: it does what a test asks of it, and nothing else. Its medium is a file.
+    struct Alone {
+        owner: Owner,
+        feed: Feed,
+        folder: PathBuf,
+    }
+
+    impl Alone {
+        /// One with a message channel whose lane holds so many, while a file is recorded.
+        fn recording(name: &str, blocks: usize, capacity: usize) -> Alone {
+            let folder = std::env::temp_dir().join(format!("r10d-{name}-{capacity}-{}", std::process::id()));
+            let _ = std::fs::remove_dir_all(&folder);
+            std::fs::create_dir(&folder).unwrap();
+            let text = format!(
+                "medium = \"medium\"\nblocks = {blocks}\ndirectory = 8\nvolume = \"V\"\nstart = \"wait\"\n[control]\nsocket = \"c\"\n\
+                 [[channel]]\nid = 5\nkind = \"message\"\ncapacity = {capacity}\nbytes = 4096\nnumber = 50\n"
+            );
+            let (counter, came) = (Counter::new(), Arc::new(Came::default()));
+            let settings = settings::read(&text, &folder).unwrap();
+            let mut owner = Owner::new(settings, counter, vec![came.clone()], channel().1, Arc::default()).unwrap();
+            assert!(!owner.begin().unwrap());
+            let (feed, outlet) = feed(std::thread::current(), counter, 1 << 26, &[(0, came)]);
+            owner.outlets = vec![outlet];
+            let mut it = Alone { owner, feed, folder };
+            assert_eq!(it.ask(".RECORD"), "");
+            it
+        }
+
+        /// So many messages come, and are not taken in yet.
+        fn comes(&mut self, count: usize) {
+            for _ in 0..count {
+                self.feed.message(0, 0, Head::Message { data_error: false, format: false, sub: 0 }, &[7; 60]);
+            }
+            self.feed.flush();
+        }
+
+        fn ask(&mut self, line: &str) -> String {
+            let (reply, answer) = channel();
+            self.owner.answer(Command { line: line.to_string(), origin: Origin::Socket, reply }).unwrap();
+            match answer.recv() {
+                Ok(Reply::Text(text)) => text,
+                _ => panic!("{line} has no answer"),
+            }
+        }
+
+        /// How many messages are durable, lost, waiting for room, and passed.
+        fn counts(&self) -> (u64, u64, usize, u64) {
+            let it = &self.owner.lanes[0];
+            (it.durable, it.lost, it.waiting, it.passed)
+        }
+
+        /// Of each file, which has to be closed, how many entries it has of a channel.
+        fn entries(&mut self, channel: u16) -> Vec<usize> {
+            let recorder = self.owner.recorder().unwrap();
+            let files = recorder.files().unwrap();
+            assert!(files.iter().all(|it| it.closed), "{files:?}");
+            let mut found = Vec::new();
+            for file in 0..files.len() {
+                let cursor = recorder.cursor(file, &[channel], ALL_COUNTS).unwrap();
+                found.push(recorder.advance(cursor).unwrap());
+                recorder.close_cursor(cursor).unwrap();
+            }
+            found
+        }
+    }
+
+    impl Drop for Alone {
+        fn drop(&mut self) {
+            let _ = std::fs::remove_dir_all(&self.folder);
+        }
+    }
+
+    /// What came before a stop has no room in the file, whether it is found while it is taken in (a lane is full) or after that: it
+    /// comes into other files, and nothing is recorded any more.
+    #[test]
+    fn a_stop_takes_in_what_fills_the_file() {
+        for capacity in [5_000, 16_384] {
+            let mut it = Alone::recording("stop", 1500, capacity);
+            it.comes(6_000);
+            assert_eq!((it.ask(".STOP"), it.owner.state, it.owner.medium.goes_on()), (String::new(), State::Idle, false));
+            assert_eq!(it.counts(), (6_000, 0, 0, 0));
+            let found = it.entries(5);
+            assert!(found.len() > 1 && found.iter().sum::<usize>() == 6_000, "{found:?}");
+            assert_eq!(it.ask(".STATUS").split(' ').nth(1), Some("01"));
+        }
+    }
+
+    /// A stop on a full medium ends the recording too, and says so. What has no room is counted, and later commands do their work.
+    #[test]
+    fn a_stop_ends_a_recording_on_a_full_medium() {
+        let mut it = Alone::recording("full", 1500, 5_000);
+        it.comes(30_000);
+        assert_eq!((it.ask(".STOP"), it.owner.state, it.owner.medium.goes_on()), (String::new(), State::Idle, false));
+        let (durable, lost, waiting, passed) = it.counts();
+        assert!(durable > 5_000 && lost > 0 && waiting > 0 && passed == 0, "{durable} {lost} {waiting} {passed}");
+        assert_eq!(durable + lost + waiting as u64, 30_000);
+        assert_eq!(it.entries(5).iter().sum::<usize>() as u64, durable);
+        // what comes now only passes
+        it.comes(3);
+        assert_eq!((it.owner.take_in_all().is_ok(), it.counts()), (true, (durable, lost, waiting, 3)));
+        assert!(it.ask(".STOP").starts_with("E 02") && it.ask(".EVENT 1").starts_with("E 02"));
+        // after an erase what waited comes first
+        assert_eq!((it.ask(".ERASE"), it.ask(".RECORD"), it.ask(".STOP")), (String::new(), String::new(), String::new()));
+        assert_eq!(it.counts(), (durable + waiting as u64, lost, 0, 3));
+        assert_eq!(it.entries(5).iter().sum::<usize>(), waiting);
+    }
+
+    /// A medium that was found to be full says so to whoever gives an event; a stop ends the recording there too.
+    #[test]
+    fn a_full_medium_takes_no_event_and_is_stopped() {
+        let mut it = Alone::recording("no-event", 1500, 5_000);
+        it.comes(30_000);
+        it.owner.take_in_all().unwrap();
+        assert_eq!((it.owner.state, it.owner.medium.goes_on()), (State::Full, true));
+        assert!(it.ask(".EVENT 1").starts_with("E 04 MEMORY FULL: there is no room for another file, and the event is in none"));
+        assert!(it.ask(".STATUS").starts_with("S 01 1 1 "));
+        assert_eq!((it.ask(".STOP"), it.owner.state, it.owner.medium.goes_on()), (String::new(), State::Idle, false));
+        assert!(it.ask(".STATUS").starts_with("S 01 1 0 "));
+        assert_eq!((it.ask(".ERASE"), it.ask(".RECORD"), it.ask(".EVENT 1")), (String::new(), String::new(), String::new()));
+    }
+
+    /// An event that has no room in the file comes into the next one, until the medium is full.
+    #[test]
+    fn events_go_on_in_the_next_file() {
+        let mut it = Alone::recording("events", 200, 64);
+        let (mut count, mut refused) = (0, String::new());
+        while refused.is_empty() {
+            refused = it.ask(".EVENT 7");
+            count += usize::from(refused.is_empty());
+        }
+        assert!(refused.starts_with("E 04 MEMORY FULL: the medium is full"), "{refused}");
+        assert_eq!(it.ask(".STOP"), "");
+        let found = it.entries(2);
+        assert!(found.len() > 2 && found.iter().sum::<usize>() == count, "{count} events, in the files {found:?}");
+    }
 
     /// A recorder to which nothing comes would fill its directory with empty files.
     #[test]

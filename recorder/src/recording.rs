@@ -96,14 +96,17 @@ impl Owner {
     pub(crate) fn tick(&mut self) -> Result<(), Trouble> {
         let (now, civil) = clock::both();
         self.ticked = now;
-        let (count, stepped) = (self.counter.count_at(now), self.steps.look(now, civil));
+        let count = self.counter.count_at(now);
         self.recorder()?.tick(count, &clock::civil(civil))?;
-        if let Some(step) = stepped {
+        // (a time that has no room in the file comes again at the begin of the next one: so it is looked at for a step after it)
+        if let Some(step) = self.steps.look(now, civil) {
             self.clock_steps += 1;
             warning!("the system's clock stepped by {step:+.3} s; recordings have times before and after it");
             if self.state == State::Recording {
-                let number = self.settings.clock_event;
-                self.recorder()?.event(number, count)?;
+                match self.note_event(self.settings.clock_event) {
+                    Err(Trouble::Full(_)) => (),
+                    other => other?,
+                }
             }
         }
         self.has_news |= self.state == State::Recording;
@@ -119,6 +122,26 @@ impl Owner {
                 )
             });
         }
+        Ok(())
+    }
+
+    /// Records an event. One that has no room in the file comes into the next one.
+    pub(crate) fn note_event(&mut self, number: u16) -> Result<(), Trouble> {
+        let count = self.count();
+        let mut done = self.recorder()?.event(number, count);
+        if done == Err(Error::MEDIUM_FULL) {
+            self.next_file("is full")?;
+            if self.state == State::Recording {
+                let count = self.count();
+                done = self.recorder()?.event(number, count);
+            }
+        }
+        if done == Err(Error::MEDIUM_FULL) {
+            warning!("event {number} had no room, and is in no file");
+        }
+        done?;
+        self.events += 1;
+        self.has_news = true;
         Ok(())
     }
 
@@ -158,6 +181,7 @@ impl Owner {
         self.began = Instant::now();
         self.has_news = true;
         self.lanes.iter_mut().for_each(|it| it.durable_in_file = 0);
+        self.events = 0;
         Ok(())
     }
 
@@ -188,14 +212,43 @@ impl Owner {
         Ok(())
     }
 
+    /// Ends the recording with all that came up to now. On a full medium, where none is recorded any more, what comes only passes
+    /// from then on.
+    pub(crate) fn finish(&mut self, why: &str) -> Result<(), Trouble> {
+        self.take_in_all()?;
+        if self.state == State::Recording {
+            self.end_recording(why)?;
+        }
+        self.medium.keep(false);
+        self.state = State::Idle;
+        Ok(())
+    }
+
+    /// Ends the recording. What waits and has no room in the file comes into another one, if the medium has room for one.
+    pub(crate) fn end_recording(&mut self, why: &str) -> Result<(), Trouble> {
+        loop {
+            // one that is cut off before it is stopped goes on
+            self.medium.keep(false);
+            self.stop(why)?;
+            let left = self.waiting();
+            if left == 0 {
+                return Ok(());
+            }
+            let begun = if self.has_taken() { self.start(None) } else { Err(Trouble::Full(Error::MEDIUM_FULL)) };
+            if let Err(Trouble::Full(error)) = begun {
+                warning!("{error}: {left} messages wait in memory; .ERASE and .RECORD take them into a file");
+                return Ok(());
+            }
+            begun?;
+        }
+    }
+
     /// Ends the file and begins the next. Where there is no room for one, nothing is recorded until an erase.
     pub(crate) fn next_file(&mut self, why: &str) -> Result<(), Trouble> {
-        let is_empty = self.lanes.iter().all(|it| it.durable_in_file == 0);
         if self.state == State::Recording {
             self.stop(why)?;
         }
-        let is_empty = is_empty && self.lanes.iter().all(|it| it.durable_in_file == 0);
-        let is_all = is_empty && self.file.is_some() && why == "is full";
+        let is_all = !self.has_taken() && self.file.is_some() && why == "is full";
         let begun = if is_all { Err(Trouble::Full(Error::MEDIUM_FULL)) } else { self.start(None) };
         match begun {
             Err(Trouble::Full(error)) => {

@@ -44,7 +44,7 @@ impl No {
 pub const WORDS: [(&str, &str, &str); 15] = [
     (".STATUS", "", "state, warnings, and how much of the medium is used"),
     (".RECORD", "[NAME]", "begins a file"),
-    (".STOP", "", "ends the file"),
+    (".STOP", "", "ends the recording"),
     (".ERASE", "", "takes all files from the medium; over the UNIX socket alone"),
     (".EVENT", "NUMBER", "records an event, 0 to 4095"),
     (".FILES", "", "number, name, first block, bytes and closed or open of each file"),
@@ -146,11 +146,8 @@ impl Owner {
                 return Ok(Err(No::NoMedia(format!("recording is down: {}; once that is mended, give .RECORD", self.why))));
             }
             ".RECORD" => return self.record(&words),
-            ".STOP" if self.state == State::Recording => {
-                // one that is cut off before it is stopped goes on
-                self.medium.keep(false);
-                self.take_in_all()?;
-                self.stop("was stopped by a command")?;
+            ".STOP" if matches!(self.state, State::Recording | State::Full) => {
+                self.finish("was stopped by a command")?;
                 String::new()
             }
             ".STOP" => return Ok(Err(No::Mode("no file is recorded; .RECORD begins one".to_string()))),
@@ -199,12 +196,16 @@ impl Owner {
         let Ok(number) = number.parse::<u16>() else {
             return Ok(Err(No::Parameter(format!("{number} is no event: give 0 to 4095"))));
         };
-        if self.state != State::Recording {
-            return Ok(Err(No::Mode("no file is recorded; give .RECORD first".to_string())));
+        match self.state {
+            State::Recording => self.note_event(number)?,
+            State::Full => {
+                return Ok(Err(No::Full(
+                    "there is no room for another file, and the event is in none; copy the files, then give .ERASE and .RECORD"
+                        .to_string(),
+                )));
+            }
+            _ => return Ok(Err(No::Mode("no file is recorded; give .RECORD first".to_string()))),
         }
-        let count = self.count();
-        self.recorder()?.event(number, count)?;
-        self.has_news = true;
         Ok(Ok(Reply::Text(String::new())))
     }
 

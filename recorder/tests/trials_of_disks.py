@@ -107,10 +107,12 @@ def full_medium(room: Room) -> str:
         'a full medium is no warning',
     )
     must(service.ask('.RECORD')[0].startswith('E 04'), 'a recording begins on a full medium')
+    must(service.ask('.EVENT 1')[0].startswith('E 04'), 'a full medium takes an event')
     full = service.until(
         lambda it: all(at['came'] == at['durable'] + at['lost'] + at['waiting'] for at in it['channels']), 'some are not counted'
     )['channels'][0]
     must(full['waiting'] > 0, 'nothing waits for room')
+    must(service.ask('.STOP', '.STATUS')[0].startswith('S 01 1 0'), 'a recording on a full medium is not stopped')
     image = (room.folder / 'medium').read_bytes()
     found = judge(image, lines_of((room.folder / 'lines').read_text()), [5])
     must(found['files'] > 1 and found['untold'] == found['untold_before'] == 0, f'{found}')
@@ -127,6 +129,24 @@ def full_medium(room: Room) -> str:
     service.end()
     must(' messages waited for room, and are in no file' in service.log(), 'what is in no file is not said')
     return f"{found['files']} files, {found['messages']} messages, {used:.0%} used"
+
+
+@trial
+def events_that_fill_files(room: Room) -> str:
+    """An event that has no room in the file comes into the next one, until the medium is full; then it is refused."""
+    service = Service(room, settings(channel(13, 'discrete', 'lines = "pipe"'), blocks=200, start='wait'))
+    service.ask('.RECORD')
+    count, refused = 0, []
+    while not refused:
+        refused = service.ask(*['.EVENT 7'] * 50)
+        count += 50 - len(refused)
+    must(all(it.startswith('E 04 MEMORY FULL: the') for it in refused), f'a medium that is full: {refused}')
+    must(service.ask('.STOP') == [], 'a recording on a full medium is not stopped')
+    service.end()
+    image = (room.folder / 'medium').read_bytes()
+    found = [sum(it.kind == 'event' for it in entries(image, number)) for number in range(len(files(image)))]
+    must(len(found) > 2 and sum(found) == count, f'of {count} events in the files are {found}')
+    return f'{count} events in {len(found)} files'
 
 
 @trial
