@@ -1,66 +1,55 @@
-//! The declarations of `r10.h`, by the same names. What each call does, and what its caller owes, the header says.
+//! The declarations of `r10.h`, by the same names and in the same order, and nothing else. What each call does, and what its caller owes, the header says.
 //!
-//! What depends on the kind of a channel stands in one module, with messages and entries as values: the crate `r10` has them from here.
+//! The functions that the header itself has (`static inline`) are not here: the crate `r10` has them as its own.
 #![no_std]
 #![allow(non_camel_case_types)]
-
-#[cfg(feature = "alloc")]
-extern crate alloc;
-
-mod kinds;
-
-pub use kinds::*;
 
 use core::ffi::c_void;
 
 /// The version of the header that these declarations are of.
-pub const VERSION: u32 = 200;
+pub const R10_VERSION: u32 = 200;
 
-pub const OK: u32 = 0;
-pub const OVERFLOW: u32 = 12;
-pub const MEDIUM_FULL: u32 = 25;
-pub const BAD_DIRECTORY: u32 = 26;
-pub const BAD_FILE: u32 = 27;
-pub const MEDIUM: u32 = 28;
-pub const NO_MEMORY: u32 = 30;
-pub const SCRIPT: u32 = 40;
-pub const ROOM: u32 = 42;
-pub const PLACE: u32 = 43;
-pub const CLOSED: u32 = 44;
-pub const OPEN: u32 = 45;
-
-pub const NOTHING: u8 = 0;
-pub const WRITE: u8 = 1;
-pub const SYNC: u8 = 2;
+pub const R10_OK: u32 = 0;
+pub const R10_FAILED: u32 = 1;
+pub const R10_NOT_MOUNTED: u32 = 2;
+pub const R10_MOUNTED: u32 = 3;
+pub const R10_BUSY: u32 = 4;
+pub const R10_NOT_RECORDING: u32 = 5;
+pub const R10_NO_CHANNEL: u32 = 6;
+pub const R10_WRONG_KIND: u32 = 7;
+pub const R10_BAD_MESSAGE: u32 = 8;
+pub const R10_TOO_LONG: u32 = 9;
+pub const R10_COUNT_RANGE: u32 = 10;
+pub const R10_COUNT_BACK: u32 = 11;
+pub const R10_OVERFLOW: u32 = 12;
+pub const R10_BAD_CIVIL: u32 = 13;
+pub const R10_NO_TIME: u32 = 14;
+pub const R10_BAD_NAME: u32 = 15;
+pub const R10_NAME_TAKEN: u32 = 16;
+pub const R10_BAD_EVENT: u32 = 17;
+pub const R10_UNSEALED: u32 = 18;
+pub const R10_NO_FILE: u32 = 19;
+pub const R10_STALE: u32 = 20;
+pub const R10_NO_CURSOR: u32 = 21;
+pub const R10_UNREAD: u32 = 22;
+pub const R10_DIRECTORY_FULL: u32 = 23;
+pub const R10_MEDIUM_FULL: u32 = 25;
+pub const R10_BAD_DIRECTORY: u32 = 26;
+pub const R10_BAD_FILE: u32 = 27;
+pub const R10_MEDIUM: u32 = 28;
+pub const R10_NO_MEMORY: u32 = 30;
+pub const R10_SCRIPT: u32 = 40;
+pub const R10_BLOCKS: u32 = 41;
+pub const R10_ROOM: u32 = 42;
+pub const R10_PLACE: u32 = 43;
+pub const R10_CLOSED: u32 = 44;
+pub const R10_OPEN: u32 = 45;
 
 /// A recorder, or none where it is all zeros.
 #[repr(C)]
 pub struct r10 {
     pub held: *mut c_void,
     pub open: bool,
-}
-
-/// The sending end of a channel's lane between two threads, or none where it is all zeros.
-#[repr(C)]
-pub struct r10_port {
-    pub held: *mut c_void,
-    pub open: bool,
-}
-
-/// Its receiving end, or none where it is all zeros.
-#[repr(C)]
-pub struct r10_outlet {
-    pub held: *mut c_void,
-    pub open: bool,
-}
-
-#[repr(C)]
-#[derive(Clone, Copy, Debug, Default)]
-pub struct r10_port_info {
-    pub accepted: u64,
-    pub lost: u64,
-    pub capacity: usize,
-    pub channel: u16,
 }
 
 #[repr(C)]
@@ -82,6 +71,14 @@ pub struct r10_civil {
     pub centi: u16,
 }
 
+pub const R10_UART: u8 = 1;
+pub const R10_1553: u8 = 2;
+pub const R10_ARINC: u8 = 3;
+pub const R10_DISCRETE: u8 = 4;
+pub const R10_MESSAGE: u8 = 5;
+pub const R10_TIME: u8 = 6;
+pub const R10_EVENT: u8 = 7;
+
 #[repr(C)]
 #[derive(Clone, Copy, Debug, Default)]
 pub struct r10_entry {
@@ -95,7 +92,13 @@ pub struct r10_entry {
     pub gap_times: u16,
     pub number: u16,
     pub occurrence: u16,
-    pub civil: r10_civil,
+    pub year: u16,
+    pub month: u16,
+    pub day: u16,
+    pub hour: u16,
+    pub minute: u16,
+    pub second: u16,
+    pub centi: u16,
     pub kind: u8,
     pub bus: u8,
     pub gap: bool,
@@ -113,6 +116,11 @@ pub struct r10_file_info {
     pub name_length: usize,
     pub closed: bool,
 }
+
+pub const R10_MODE_UNMOUNTED: u8 = 0;
+pub const R10_MODE_IDLE: u8 = 1;
+pub const R10_MODE_RECORDING: u8 = 2;
+pub const R10_MODE_FAILED: u8 = 3;
 
 #[repr(C)]
 #[derive(Clone, Copy, Debug, Default)]
@@ -144,6 +152,33 @@ pub struct r10_account_info {
     pub channel: u16,
 }
 
+/// The sending end of a channel's lane between two threads, or none where it is all zeros.
+#[repr(C)]
+pub struct r10_port {
+    pub held: *mut c_void,
+    pub open: bool,
+}
+
+/// Its receiving end, or none where it is all zeros.
+#[repr(C)]
+pub struct r10_outlet {
+    pub held: *mut c_void,
+    pub open: bool,
+}
+
+#[repr(C)]
+#[derive(Clone, Copy, Debug, Default)]
+pub struct r10_port_info {
+    pub accepted: u64,
+    pub lost: u64,
+    pub capacity: usize,
+    pub channel: u16,
+}
+
+pub const R10_NOTHING: u8 = 0;
+pub const R10_WRITE: u8 = 1;
+pub const R10_SYNC: u8 = 2;
+
 #[repr(C)]
 #[derive(Clone, Copy, Debug, Default)]
 pub struct r10_order_info {
@@ -166,6 +201,14 @@ pub struct r10_queue_info {
     pub places: usize,
     pub rings: usize,
 }
+
+pub const R10_FAULT_TRUNCATED: u16 = 1;
+pub const R10_FAULT_SYNC: u16 = 2;
+pub const R10_FAULT_HEADER_SUM: u16 = 3;
+pub const R10_FAULT_LENGTH: u16 = 4;
+pub const R10_FAULT_DATA_SUM: u16 = 5;
+pub const R10_FAULT_BODY: u16 = 6;
+pub const R10_FAULT_RULE: u16 = 7;
 
 #[repr(C)]
 #[derive(Clone, Copy, Debug, Default)]
@@ -208,11 +251,11 @@ const _: () = {
 
 unsafe extern "C" {
     pub fn r10_version() -> u32;
-    pub fn r10_check_script(script: *const u8, length: usize, info: *mut r10_script_info, text: *mut u8, text_room: usize) -> u32;
-    pub fn r10_format(region: r10_region, room: usize, script: *const u8, length: usize, recorder: *mut r10) -> u32;
-    pub fn r10_open(region: r10_region, room: usize, script: *const u8, length: usize, recorder: *mut r10) -> u32;
-    pub fn r10_orders(recorder: *mut r10, run: *mut r10_run_info, bytes: *mut u8, room: usize) -> u32;
-    pub fn r10_order(recorder: *mut r10, order: *mut r10_order_info, bytes: *mut u8, room: usize) -> u32;
+    pub fn r10_check_script(script: *const u8, script_length: usize, info: *mut r10_script_info, text: *mut u8, text_room: usize) -> u32;
+    pub fn r10_format(region: r10_region, room: usize, script: *const u8, script_length: usize, recorder: *mut r10) -> u32;
+    pub fn r10_open(region: r10_region, room: usize, script: *const u8, script_length: usize, recorder: *mut r10) -> u32;
+    pub fn r10_orders(recorder: *mut r10, run: *mut r10_run_info, bytes: *mut u8, byte_room: usize) -> u32;
+    pub fn r10_order(recorder: *mut r10, order: *mut r10_order_info, bytes: *mut u8, byte_room: usize) -> u32;
     pub fn r10_queue(recorder: *mut r10, info: *mut r10_queue_info) -> u32;
     pub fn r10_disk_failed(recorder: *mut r10) -> u32;
     pub fn r10_close(recorder: *mut r10);
@@ -226,8 +269,18 @@ unsafe extern "C" {
     pub fn r10_stop(recorder: *mut r10, taken: *mut usize, left: *mut usize) -> u32;
     pub fn r10_seal(recorder: *mut r10) -> u32;
     pub fn r10_erase(recorder: *mut r10) -> u32;
+    pub fn r10_offer_uart(recorder: *mut r10, channel: u16, count: u64, parity: bool, sub: u16, bytes: *const u8, length: usize) -> u32;
+    pub fn r10_offer_1553(recorder: *mut r10, channel: u16, count: u64, status: u16, gap: u16, words: *const u16, length: usize) -> u32;
+    pub fn r10_offer_arinc(recorder: *mut r10, channel: u16, count: u64, bus: u8, format: bool, parity: bool, high: bool, word: u32) -> u32;
+    pub fn r10_offer_discrete(recorder: *mut r10, channel: u16, count: u64, states: u32) -> u32;
+    pub fn r10_offer_message(recorder: *mut r10, channel: u16, count: u64, data_error: bool, format: bool, sub: u16, bytes: *const u8, length: usize) -> u32;
     pub fn r10_lost(recorder: *mut r10, channel: u16, count: u64) -> u32;
-    pub fn r10_port_open(script: *const u8, length: usize, channel: u16, port: *mut r10_port, outlet: *mut r10_outlet) -> u32;
+    pub fn r10_port_open(script: *const u8, script_length: usize, channel: u16, port: *mut r10_port, outlet: *mut r10_outlet) -> u32;
+    pub fn r10_port_uart(port: *mut r10_port, count: u64, parity: bool, sub: u16, bytes: *const u8, length: usize) -> u32;
+    pub fn r10_port_1553(port: *mut r10_port, count: u64, status: u16, gap: u16, words: *const u16, length: usize) -> u32;
+    pub fn r10_port_arinc(port: *mut r10_port, count: u64, bus: u8, format: bool, parity: bool, high: bool, word: u32) -> u32;
+    pub fn r10_port_discrete(port: *mut r10_port, count: u64, states: u32) -> u32;
+    pub fn r10_port_message(port: *mut r10_port, count: u64, data_error: bool, format: bool, sub: u16, bytes: *const u8, length: usize) -> u32;
     pub fn r10_port_lost(port: *mut r10_port, count: u64) -> u32;
     pub fn r10_port_state(port: *mut r10_port, info: *mut r10_port_info) -> u32;
     pub fn r10_port_close(port: *mut r10_port);
@@ -239,7 +292,7 @@ unsafe extern "C" {
     pub fn r10_fault(recorder: *mut r10, info: *mut r10_fault_info) -> u32;
     pub fn r10_channel(recorder: *mut r10, place: usize, info: *mut r10_channel_info) -> u32;
     pub fn r10_account(recorder: *mut r10, place: usize, info: *mut r10_account_info) -> u32;
-    pub fn r10_cursor(recorder: *mut r10, file: usize, channels: *const u16, count: usize, from: u64, to: u64, cursor: *mut usize) -> u32;
+    pub fn r10_cursor(recorder: *mut r10, file: usize, channels: *const u16, channel_count: usize, from: u64, to: u64, cursor: *mut usize) -> u32;
     pub fn r10_advance(recorder: *mut r10, cursor: usize, queued: *mut usize) -> u32;
     pub fn r10_next(
         recorder: *mut r10,

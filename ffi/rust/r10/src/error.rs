@@ -7,40 +7,40 @@ use std::fmt;
 pub struct Error(u32);
 
 impl Error {
-    pub const FAILED: Error = Error(1);
-    pub const NOT_MOUNTED: Error = Error(2);
-    pub const MOUNTED: Error = Error(3);
-    pub const BUSY: Error = Error(4);
-    pub const NOT_RECORDING: Error = Error(5);
-    pub const NO_CHANNEL: Error = Error(6);
-    pub const WRONG_KIND: Error = Error(7);
-    pub const BAD_MESSAGE: Error = Error(8);
-    pub const TOO_LONG: Error = Error(9);
-    pub const COUNT_RANGE: Error = Error(10);
-    pub const COUNT_BACK: Error = Error(11);
-    pub const OVERFLOW: Error = Error(12);
-    pub const BAD_CIVIL: Error = Error(13);
-    pub const NO_TIME: Error = Error(14);
-    pub const BAD_NAME: Error = Error(15);
-    pub const NAME_TAKEN: Error = Error(16);
-    pub const BAD_EVENT: Error = Error(17);
-    pub const UNSEALED: Error = Error(18);
-    pub const NO_FILE: Error = Error(19);
-    pub const STALE: Error = Error(20);
-    pub const NO_CURSOR: Error = Error(21);
-    pub const UNREAD: Error = Error(22);
-    pub const DIRECTORY_FULL: Error = Error(23);
-    pub const MEDIUM_FULL: Error = Error(25);
-    pub const BAD_DIRECTORY: Error = Error(26);
-    pub const BAD_FILE: Error = Error(27);
-    pub const MEDIUM: Error = Error(28);
-    pub const NO_MEMORY: Error = Error(30);
-    pub const SCRIPT: Error = Error(40);
-    pub const BLOCKS: Error = Error(41);
-    pub const ROOM: Error = Error(42);
-    pub const PLACE: Error = Error(43);
-    pub const CLOSED: Error = Error(44);
-    pub const OPEN: Error = Error(45);
+    pub const FAILED: Error = Error(sys::R10_FAILED);
+    pub const NOT_MOUNTED: Error = Error(sys::R10_NOT_MOUNTED);
+    pub const MOUNTED: Error = Error(sys::R10_MOUNTED);
+    pub const BUSY: Error = Error(sys::R10_BUSY);
+    pub const NOT_RECORDING: Error = Error(sys::R10_NOT_RECORDING);
+    pub const NO_CHANNEL: Error = Error(sys::R10_NO_CHANNEL);
+    pub const WRONG_KIND: Error = Error(sys::R10_WRONG_KIND);
+    pub const BAD_MESSAGE: Error = Error(sys::R10_BAD_MESSAGE);
+    pub const TOO_LONG: Error = Error(sys::R10_TOO_LONG);
+    pub const COUNT_RANGE: Error = Error(sys::R10_COUNT_RANGE);
+    pub const COUNT_BACK: Error = Error(sys::R10_COUNT_BACK);
+    pub const OVERFLOW: Error = Error(sys::R10_OVERFLOW);
+    pub const BAD_CIVIL: Error = Error(sys::R10_BAD_CIVIL);
+    pub const NO_TIME: Error = Error(sys::R10_NO_TIME);
+    pub const BAD_NAME: Error = Error(sys::R10_BAD_NAME);
+    pub const NAME_TAKEN: Error = Error(sys::R10_NAME_TAKEN);
+    pub const BAD_EVENT: Error = Error(sys::R10_BAD_EVENT);
+    pub const UNSEALED: Error = Error(sys::R10_UNSEALED);
+    pub const NO_FILE: Error = Error(sys::R10_NO_FILE);
+    pub const STALE: Error = Error(sys::R10_STALE);
+    pub const NO_CURSOR: Error = Error(sys::R10_NO_CURSOR);
+    pub const UNREAD: Error = Error(sys::R10_UNREAD);
+    pub const DIRECTORY_FULL: Error = Error(sys::R10_DIRECTORY_FULL);
+    pub const MEDIUM_FULL: Error = Error(sys::R10_MEDIUM_FULL);
+    pub const BAD_DIRECTORY: Error = Error(sys::R10_BAD_DIRECTORY);
+    pub const BAD_FILE: Error = Error(sys::R10_BAD_FILE);
+    pub const MEDIUM: Error = Error(sys::R10_MEDIUM);
+    pub const NO_MEMORY: Error = Error(sys::R10_NO_MEMORY);
+    pub const SCRIPT: Error = Error(sys::R10_SCRIPT);
+    pub const BLOCKS: Error = Error(sys::R10_BLOCKS);
+    pub const ROOM: Error = Error(sys::R10_ROOM);
+    pub const PLACE: Error = Error(sys::R10_PLACE);
+    pub const CLOSED: Error = Error(sys::R10_CLOSED);
+    pub const OPEN: Error = Error(sys::R10_OPEN);
 
     pub(crate) fn new(number: u32) -> Error {
         Error(number)
@@ -109,17 +109,17 @@ pub enum Fault {
 impl Fault {
     pub(crate) fn of(info: &sys::r10_fault_info) -> Option<Fault> {
         let name = match info.fault {
-            1 => "Truncated",
-            2 => "Sync",
-            3 => "HeaderSum",
-            4 => "Length",
-            5 => "DataSum",
-            6 => "Body",
+            sys::R10_FAULT_TRUNCATED => "Truncated",
+            sys::R10_FAULT_SYNC => "Sync",
+            sys::R10_FAULT_HEADER_SUM => "HeaderSum",
+            sys::R10_FAULT_LENGTH => "Length",
+            sys::R10_FAULT_DATA_SUM => "DataSum",
+            sys::R10_FAULT_BODY => "Body",
             _ => "Rule",
         };
         match info.number {
-            sys::BAD_DIRECTORY => Some(Fault::Directory { block: info.at }),
-            sys::BAD_FILE => Some(Fault::File { offset: info.at, name, rule: (info.fault == 7).then_some(info.rule) }),
+            sys::R10_BAD_DIRECTORY => Some(Fault::Directory { block: info.at }),
+            sys::R10_BAD_FILE => Some(Fault::File { offset: info.at, name, rule: (info.fault == sys::R10_FAULT_RULE).then_some(info.rule) }),
             _ => None,
         }
     }

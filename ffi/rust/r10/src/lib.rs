@@ -8,16 +8,17 @@
 
 mod disk;
 mod error;
+mod kinds;
 mod parts;
 mod port;
 mod script;
 
 pub use disk::{Disk, Region};
 pub use error::{Error, Fault};
+pub use kinds::{Content, Message};
 pub use parts::Parts;
 pub use port::{Outlet, Port, PortState, open_port};
 pub use r10_sys::r10_civil as Civil;
-pub use r10_sys::{Content, Message};
 pub use script::{Script, ScriptError, check_script};
 
 use r10_sys as sys;
@@ -187,7 +188,7 @@ pub struct Recorder {
 unsafe impl Send for Recorder {}
 
 fn answer(number: u32) -> Result<(), Error> {
-    if number == sys::OK { Ok(()) } else { Err(Error::new(number)) }
+    if number == sys::R10_OK { Ok(()) } else { Err(Error::new(number)) }
 }
 
 /// The version of the library: 200 for 0.2.0.
@@ -239,8 +240,8 @@ impl Recorder {
         let mut run = sys::r10_run_info::default();
         answer(unsafe { sys::r10_orders(&mut self.raw, &mut run, bytes.as_mut_ptr(), bytes.len()) })?;
         Ok(match run.kind {
-            sys::NOTHING => None,
-            sys::WRITE => Some(Run::Write { block: run.block, blocks: run.blocks }),
+            sys::R10_NOTHING => None,
+            sys::R10_WRITE => Some(Run::Write { block: run.block, blocks: run.blocks }),
             _ => Some(Run::Sync),
         })
     }
@@ -303,7 +304,7 @@ impl Recorder {
 
     /// Puts a message behind the others in its channel's lane.
     pub fn offer(&mut self, channel: u16, count: u64, message: Message) -> Result<(), Error> {
-        answer(unsafe { sys::offer(&mut self.raw, channel, count, message) })
+        answer(kinds::offer(&mut self.raw, channel, count, message))
     }
 
     /// So many of a channel's messages were lost before they were offered: the next one that is accepted has them in its gap.
@@ -386,9 +387,9 @@ impl Recorder {
         let mut info = sys::r10_status_info::default();
         answer(unsafe { sys::r10_status(&mut self.raw, &mut info) })?;
         let mode = match info.mode {
-            0 => Mode::Unmounted,
-            1 => Mode::Idle,
-            2 => Mode::Recording,
+            sys::R10_MODE_UNMOUNTED => Mode::Unmounted,
+            sys::R10_MODE_IDLE => Mode::Idle,
+            sys::R10_MODE_RECORDING => Mode::Recording,
             _ => Mode::Failed,
         };
         Ok(Status { mode, tick: info.ticked.then_some(info.tick), free: info.free, files: info.files, channels: info.channels })
@@ -451,7 +452,7 @@ impl Recorder {
         if !lent.there {
             return Ok(None);
         }
-        lent.bytes = vec![0; sys::bytes_of(&lent.entry)].into_boxed_slice();
+        lent.bytes = vec![0; kinds::bytes_of(&lent.entry)].into_boxed_slice();
         let (raw, l) = (&mut self.raw, &mut lent);
         answer(unsafe { sys::r10_taken(raw, l.bytes.as_mut_ptr(), l.bytes.len(), l.words.as_mut_ptr(), l.words.len()) })?;
         Ok(lent.entry())
@@ -526,7 +527,7 @@ impl Lent {
             return None;
         }
         let e = &self.entry;
-        let content = sys::content(e, &self.bytes, &self.words);
+        let content = kinds::content(e, &self.bytes, &self.words);
         let gap = match (e.gap, e.lost) {
             (false, _) => Gap::None,
             (true, 0) => Gap::Unknown,

@@ -1,5 +1,5 @@
 //! Offers from other threads.
-use crate::{Error, Message, answer};
+use crate::{Error, Message, answer, kinds};
 use r10_sys as sys;
 
 /// The sending end of a channel's lane between two threads. It can be moved to another thread, and offers there without a lock.
@@ -67,7 +67,7 @@ pub fn open_port(script: &str, channel: u16) -> Result<(Port, Outlet), Error> {
 impl Port {
     /// Puts a message after those that were offered before it.
     pub fn offer(&mut self, count: u64, message: Message) -> Result<(), Error> {
-        answer(unsafe { sys::offer_at(&mut self.raw, count, message) })
+        answer(kinds::offer_at(&mut self.raw, count, message))
     }
 
     /// So many messages were lost before they were offered: the next one that is accepted has them in its gap.

@@ -37,7 +37,7 @@ pub fn check_script(script: &str) -> Result<Script, ScriptError> {
     loop {
         let mut info = sys::r10_script_info::default();
         let number = unsafe { sys::r10_check_script(script.as_ptr(), script.len(), &mut info, text.as_mut_ptr(), text.len()) };
-        if number == sys::OK {
+        if number == sys::R10_OK {
             return Ok(Script { blocks: info.blocks, directory: info.directory, channels: info.channels });
         }
         if info.length > text.len() {
