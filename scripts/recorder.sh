@@ -5,11 +5,11 @@
 #     scripts/recorder.sh ready             # whether they can be built here; if not, a line says why, and the status is 1
 #     scripts/recorder.sh install PREFIX [DESTDIR]   # over the library below DESTDIR/PREFIX: puts both there, the unit for systemd,
 #                                           # its user, and an example of settings; or says in a line why not (install.sh calls it)
-#     scripts/recorder.sh check             # what the gate runs: tests of its parts, and recordings through the running service, in
-#                                           # under a minute
+#     scripts/recorder.sh check [NAME..]    # what the gate runs: tests of its parts, and recordings through the running service, in
+#                                           # under a minute; with names, as full-medium, those recordings alone
 #     scripts/recorder.sh long [WORDS..]    # 200 kills, 1,000 power cuts, failures at each operation, a flood:
 #                                           # recorder/tests/long.py says more
-#     scripts/recorder.sh soak HOURS        # records for so long, and draws memory and acknowledged messages
+#     scripts/recorder.sh soak HOURS [RATE]       # records for so long, and draws memory and acknowledged messages
 #
 # Crates come from Debian's packages where those are there (scripts/packages.sh names them), so no
 # network is needed; else from the registry, as cargo is set up. With --quick the library is the one without proofs. `check` takes
@@ -126,9 +126,11 @@ check)
     [[ $kept != */out/builds/* ]] || quick=(--quick)
     library=$(library "${quick[@]}") || give_up "there is no library to build r10d over"
     build || give_up "r10d was not built"
-    cargo fmt --check --manifest-path "$top/recorder/Cargo.toml" >/dev/null || give_up "run cargo fmt in recorder/"
-    build_by test --release --quiet --lib --bins -j 2 || give_up "a test of its parts failed"
-    "$top/recorder/tests/check.py" "$top/out/recorder/target/release" || give_up "a recording through the service failed"
+    if [ "$#" = 1 ]; then
+        cargo fmt --check --manifest-path "$top/recorder/Cargo.toml" >/dev/null || give_up "run cargo fmt in recorder/"
+        build_by test --release --quiet --lib --bins -j 2 || give_up "a test of its parts failed"
+    fi
+    "$top/recorder/tests/check.py" "$top/out/recorder/target/release" "${@:2}" || give_up "a recording through the service failed"
     ;;
 long | soak)
     library=$(library --quick) || give_up "there is no library to build r10d over"
@@ -136,7 +138,7 @@ long | soak)
     exec "$top/recorder/tests/$1.py" "$top/out/recorder/target/release" "${@:2}"
     ;;
 *)
-    sed -n '2,16s/^# \{0,1\}//p' "${BASH_SOURCE[0]}" >&2
+    sed -n '2,17s/^# \{0,1\}//p' "${BASH_SOURCE[0]}" >&2
     exit 2
     ;;
 esac

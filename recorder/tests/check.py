@@ -27,6 +27,8 @@ TRIALS = {
 
 def main() -> None:
     programs, names = sys.argv[1], sys.argv[2:] or list(TRIALS)
+    if unknown := [it for it in names if it not in TRIALS]:
+        fault(f'there is no trial {unknown[0]}; the trials are {", ".join(TRIALS)}')
     must(subprocess.run([R10, 'files'], input=b'', capture_output=True).returncode != 127, 'there is no r10')
     begin, needs_disk = time.monotonic(), (
         'a-clock-that-steps', 'power-cuts', 'disk-failures', 'a-block-that-cannot-be-read', 'a-disk-that-fails-twice'

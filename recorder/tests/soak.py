@@ -4,10 +4,11 @@
     soak.py PROGRAMS HOURS [RATE] [PICTURE.svg]
 
 Two channels get RATE messages a second together (2,000 where none is said). Each quarter of an hour the service is killed, and
-starts again; when the medium is full it is erased. Each five minutes a line says memory and messages. At the end each message that
-was acknowledged since the last erase has to be in the files, once and in order, and a picture is written.
+starts again; when the medium is full it is erased. Each five minutes a line says memory, open files and messages. At the end each
+message that was acknowledged since the last erase has to be in the files, once and in order, and a picture is written.
 """
 import collections
+import os
 import pathlib
 import subprocess
 import sys
@@ -22,11 +23,12 @@ CHANNELS = (5, 6)
 
 
 class Point(NamedTuple):
-    """Where a soak stands: hours, memory in KiB, messages acknowledged."""
+    """Where a soak stands: hours, memory in KiB, messages acknowledged, files that the service has open."""
 
     hours: float
     memory: int
     messages: int
+    open: int
 
 
 def picture(points: list[Point], kills: list[float]) -> str:
@@ -97,7 +99,7 @@ class Soak:
 
     def __init__(self, room: Room, rate: int) -> None:
         self.room, self.begin, self.base, self.durable = room, time.monotonic(), 0, 0
-        self.points, self.kills, self.erases, self.lost = [Point(0.0, 0, 0)], [0.0][1:], 0, 0
+        self.points, self.kills, self.erases, self.lost = [Point(0.0, 0, 0, 0)], [0.0][1:], 0, 0
         ports = room.ports(2)
         self.text = settings(udp_channels(ports), blocks=1 << 21, directory=63, start='resume', commit_ms=100, file_minutes=5)
         self.service = Service(room, self.text)
@@ -113,7 +115,8 @@ class Soak:
         if lost > self.lost:
             print(f'after {self.hours():.2f} h {lost} messages were lost since the service started', flush=True)
         self.lost = lost
-        self.points.append(Point(self.hours(), figures['memory_kib'], self.base + self.durable))
+        is_open = len(os.listdir(f'/proc/{self.service.child.pid}/fd'))
+        self.points.append(Point(self.hours(), figures['memory_kib'], self.base + self.durable, is_open))
         return figures
 
     def erase(self, is_recording: bool) -> None:
@@ -137,7 +140,10 @@ class Soak:
                 self.erase(figures['state'] == 'recording')
             if (now := time.monotonic()) > said + SAY:
                 last = self.points[-1]
-                print(f'{last.hours:.2f} h: memory {last.memory / 1024:.1f} MiB, {last.messages} messages', flush=True)
+                print(
+                    f'{last.hours:.2f} h: memory {last.memory / 1024:.1f} MiB, {last.open} open files, {last.messages} messages',
+                    flush=True,
+                )
                 said = now
             if now > killed + KILL:
                 self.kill()
@@ -167,7 +173,8 @@ def main() -> None:
     most = max(point.memory for point in it.points)
     print(
         f'{hours} h at {rate}/s: {it.points[-1].messages} acknowledged, {len(it.kills)} kills, {it.erases} erases, memory at most '
-        f'{most / 1024:.1f} MiB, from {min(late) / 1024:.1f} to {max(late) / 1024:.1f} after a sixth of the time; '
+        f'{most / 1024:.1f} MiB, from {min(late) / 1024:.1f} to {max(late) / 1024:.1f} after a sixth of the time; open files '
+        f'{it.points[1].open} at first, {it.points[-1].open} at the end, {max(point.open for point in it.points)} at most; '
         f'what the medium has at the end is right: {found}; drawn in {to}'
     )
 
