@@ -150,6 +150,40 @@ def events_that_fill_files(room: Room) -> str:
 
 
 @trial
+def far_into_a_medium(room: Room) -> str:
+    """A file that begins more than 4 GiB into the medium is recorded, cut off, closed and replayed as any other one."""
+    ports, medium, before = room.ports(1), room.folder / 'medium', 9 << 20
+    text = settings(udp_channels(ports), blocks=4096, start='wait')
+    service = Service(room, text)
+    service.ask('.RECORD FLT1', '.STOP')
+    service.end()
+    # its first file gets 4.5 GiB, of which the disk has almost none
+    with open(medium, 'r+b') as it:
+        it.seek(512 + 64 + 64)
+        it.write(before.to_bytes(8, 'big') + (512 * before).to_bytes(8, 'big'))
+        it.truncate(512 * (9 + before + 65536))
+    text = text.replace('blocks = 4096', f'blocks = {9 + before + 65536}')
+    service = Service(room, text)
+    service.ask('.RECORD FLT2')
+    load = room.load(ports, count=500, rate=20000)
+    service.until_durable(500)
+    load.wait()
+    service.kill()
+    service = Service(room, text)
+    listed = [it.split(' ') for it in service.ask('.FILES')]
+    wanted = [['1', 'FLT1', '9', 'closed'], ['2', 'FLT2', str(9 + before), 'closed']]
+    must([it[:3] + it[4:] for it in listed] == wanted, f'the files are {listed}')
+    found = service.ask('.FIND 2', '.REPLAY 5')
+    must(len(found) == 501 and found[0] == 'F 0 2 0', f'{len(found) - 1} entries are replayed: {found[:2]}')
+    service.end()
+    with open(medium, 'rb') as it:
+        it.seek(512 * (9 + before))
+        data = it.read(int(listed[1][3]))
+    must(r10(['check'], data) == (0, 'strict\n'), 'the file is not strict')
+    return f'{len(data)} bytes after {512 * before >> 20} MiB'
+
+
+@trial
 def a_full_directory(room: Room) -> str:
     """A directory that has all its files says so, and not that the medium is full; so does the log of the next start."""
     text = settings(channel(13, 'discrete', 'lines = "pipe"'), directory=1, start='wait')
