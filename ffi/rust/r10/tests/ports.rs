@@ -2,7 +2,7 @@
 use r10::{ALL_COUNTS, Civil, Content, Error, Gap, Message, Port, Recorder, Region, open_port};
 use std::thread;
 
-const SCRIPT: &str = "blocks = 8192
+const SCRIPT: &str = "blocks = 65536
 directory = 2
 volume = \"VOL\"
 nodes = 100
@@ -31,7 +31,7 @@ fn word(word: u32) -> Message<'static> {
 }
 
 fn recording() -> Result<Recorder, Error> {
-    let mut recorder = Recorder::format(Region::memory(8192), 64, SCRIPT).map_err(|(error, _)| error)?;
+    let mut recorder = Recorder::format(Region::memory(65_536), 64, SCRIPT).map_err(|(error, _)| error)?;
     recorder.mount()?;
     recorder.tick(1000, &CIVIL)?;
     recorder.start("FLT1", b"")?;
