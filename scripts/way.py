@@ -66,7 +66,7 @@ PASSED_OVER = re.compile(r'Destruct|(^|::)fn::|\+Fn|\w*laws::|::drop$|r10_refine
 def not_inlined(lines):
     """The lines of a module, in which each function stays one."""
     for line in lines:
-        if line.startswith('attributes #') and 'inline' not in line:
+        if line.startswith('attributes #') and not re.search(r'\w+inline\b', line):
             line = line.replace('{', '{ noinline', 1)
         yield re.sub(r'\balwaysinline\b', 'noinline', line) if line.startswith(('define ', 'attributes #')) else line
 
