@@ -4,12 +4,12 @@ and a `next` of a cursor.
 
     scripts/way.py             builds the program without proofs and without inlining, and runs it under callgrind, in three minutes
     scripts/way.py --names     prints each function too
-    scripts/way.py --copies    counts how often the way stores a byte of a message, and prints the functions that do
+    scripts/way.py --copies    counts how often a byte of a message is copied on the way, and by which functions
 
 A function counts once, whatever its type parameters are. Closures, what lets values go, laws and the program's own frames around
-the recorder do not count, nor does what is not of this repository. A copy is a function whose stores grow with the message: two
-messages of other lengths are recorded, and what is stored more is shared by the bytes that are more. It wants the toolchain and
-valgrind.
+the recorder do not count, nor does what is not of this repository. Copies are
+what the system's library copies more of a longer message, by its bytes: it copies 32 with a store. The medium in memory makes
+copies of its own. It wants the toolchain and valgrind.
 """
 from __future__ import annotations
 
@@ -55,9 +55,9 @@ STEPS = (
 )
 MESSAGE = '414243'
 LAST = '9 entry 5 1000 0 uart 0 0 '
-# Two messages' bytes, and how many of them one store takes at most.
+# Two messages' bytes, and how many of them the system's library copies by one store.
 LENGTHS = (2000, 6000)
-WIDEST = 64
+WIDTH = 32
 CALLS = ('control::offer', 'control::pump', 'control::commit', 'readers::advance', 'readers::next')
 FRAMES = ('r10_cli', 'r10_command', 'r10_session', 'r10_world::running', 'r10_world::world')
 PASSED_OVER = re.compile(r'Destruct|(^|::)fn::|\+Fn|\w*laws::|::drop$|r10_refinement::')
@@ -122,18 +122,24 @@ def stores_of(text: str) -> collections.Counter[str]:
 
 
 def copies_of(program: pathlib.Path, room: pathlib.Path) -> dict[str, float]:
-    """Of each function and its caller how many bytes a store of it takes from a message, where its stores grow with it."""
-    few, many = (stores_of(recorded(program, room, MESSAGE[:2] * length, '--cache-sim=yes', '--separate-callers=1'))
+    """Of each function of this repository how often it has each byte of a message copied."""
+    few, many = (stores_of(recorded(program, room, MESSAGE[:2] * length, '--cache-sim=yes', '--separate-callers=6'))
                  for length in LENGTHS)
-    more = LENGTHS[1] - LENGTHS[0]
-    return {it: more / (many[it] - few[it]) for it in many if many[it] - few[it] >= more / WIDEST}
+    found = collections.Counter()
+    for name in many:
+        # (a name is followed by those of its callers)
+        copier, *callers = name.split("'")
+        if re.match(r'_*mem(cpy|move)', copier):
+            own = next((it for it in callers if it.startswith('r10_')), 'others')
+            found[re.sub(r'::<.*', '', own)] += many[name] - few[name]
+    return {it: times for it, grown in found.items() if (times := grown * WIDTH / (LENGTHS[1] - LENGTHS[0])) >= 0.5}
 
 
 def main() -> None:
     """Prints how many functions each crate has on the way."""
     words = argparse.ArgumentParser(description=__doc__, formatter_class=argparse.RawDescriptionHelpFormatter)
     words.add_argument('--names', action='store_true', help='print each function too')
-    words.add_argument('--copies', action='store_true', help='count how often a byte of a message is stored')
+    words.add_argument('--copies', action='store_true', help='count how often a byte of a message is copied')
     words = words.parse_args()
     if not shutil.which('valgrind'):
         sys.exit('way: there is no valgrind here')
@@ -147,9 +153,9 @@ def main() -> None:
             said = log.read_text(encoding='utf-8', errors='replace') if log.is_file() else ''
             sys.exit('way: the tool built nothing: %s\n%s' % (fault, said[-2000:]))
     if words.copies:
-        for name, width in sorted(found.items(), key=lambda it: it[0]):
-            print(f'{width:4.0f} bytes a store  {name}')
-        print(f'{len(found):4}  functions store each byte of a message')
+        for name, times in sorted(found.items(), key=lambda it: (-it[1], it[0])):
+            print(f'{times:5.1f}  {name}')
+        print(f'{sum(found.values()):5.1f}  times each byte of a message is copied')
         return
     if words.names:
         print('\n'.join(found))
