@@ -10,7 +10,7 @@ has it.
 
 Each prover's processor time is read from the system twice a second while it runs. What is proved already is not proved again, and
 costs nothing here: for the whole, --anew, on a machine that does nothing else. A crate below MINUTES (1 where none is told) stands
-in one line with the others. Status 1 where the gate fails.
+in one line with the others. Status 1 where the gate fails; what it printed is kept then.
 
 A crate's paths are one, for itself, and those of each crate that it lists. A library is a crate with a `src/lib.rt` that is no
 static library.
@@ -140,7 +140,8 @@ def main():
     with tempfile.TemporaryFile('w+', errors='replace') as said:
         status, table, whole = watched(['.ci/run'] if words.whole else ['rt', 'ci', *others], said)
         said.seek(0)
-        last = said.read().rstrip().split('\n')[-1]
+        text = said.read()
+    last = text.rstrip().split('\n')[-1]
     sums = {it: sum(row[it] for row in table.values()) for it in ('proof', 'tests', 'edits')}
     print('| Crate | Proof | Tests | Edits | MB |\n|---|---|---|---|---|')
     least = [0.0, 0.0, 0.0]
@@ -154,7 +155,12 @@ def main():
     print('| all | %.1f | %.1f | %.1f | |' % (sums['proof'], sums['tests'], sums['edits']))
     print('\n%.0f minutes of a processor in all, with what compiles, links and runs; %.0f minutes of time. %s'
           % (whole, (time.time() - began) / 60, last))
-    sys.exit(1 if status else 0)
+    if status:
+        file, path = tempfile.mkstemp(prefix='gate-', suffix='.log')
+        with open(file, 'w', encoding='utf-8') as log:
+            log.write(text)
+        print('It failed. All that it printed is in ' + path)
+        sys.exit(1)
 
 
 if __name__ == '__main__':
