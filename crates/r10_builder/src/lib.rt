@@ -8,7 +8,6 @@ mod builders;
 mod closed;
 mod encode;
 mod grows;
-mod header;
 mod laws;
 mod limits;
 mod next;
