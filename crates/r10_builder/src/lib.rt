@@ -12,7 +12,6 @@ mod laws;
 mod limits;
 mod next;
 mod open_packet;
-mod packet;
 
 pub use builder::Builder;
 pub use builders::Builders;
