@@ -2,7 +2,7 @@
 
 ghost use Rattle.std.specs.Prelude.{◌≡◌, ◌+◌, ◌<◌, ◌^◌, Some};
 
-use r10_body::{Gap, Sample};
+use r10_body::Gap;
 use r10_count::Count;
 
 /// A packet with a message or more.
@@ -16,20 +16,6 @@ pub(crate) struct OpenPacket {
     pub(crate) number: usize,
     /// What was lost before the first one.
     pub(crate) gap: Gap,
-}
-
-impl OpenPacket {
-    /// A packet of one sample.
-    pub(crate) fn of(sample: &Sample) -> OpenPacket
-        ensures { result ≡ record { first = sample.now.count; last = sample.now.count; number = 1; gap = sample.now.gap } }
-    {
-        OpenPacket {
-            first: sample.count,
-            last: sample.count,
-            number: 1,
-            gap: sample.gap,
-        }
-    }
 }
 
 /// Counts a message into an open packet, which is this one, after its last.
