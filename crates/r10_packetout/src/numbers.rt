@@ -11,36 +11,18 @@ pub(crate) struct Number {
     pub(crate) next: u8,
 }
 
-/// The place of a channel, or the length where it has none.
+/// The place of a channel, or the length where it has none, and the number of its next packet: 0 where it has had none.
 #[inline(always)]
-pub(crate) fn place(numbers: &[Number], channel: u16) -> usize
-    ensures { IsPlace channel numbers.now result }
+pub(crate) fn next_number(numbers: &[Number], channel: u16) -> (usize, u8)
+    ensures place { IsPlace channel numbers.now result.0 }
+    ensures next { result.1 ≡ next_of channel numbers.now }
 {
     for (i, number) in numbers.iter().enumerate() {
         if number.channel == channel {
-            return i;
+            return (i, number.next);
         }
     }
-    numbers.len()
-}
-
-/// The number of the next packet of the channel that has this place: 0 where it has had none.
-#[inline(always)]
-pub(crate) fn number_at(numbers: &[Number], i: usize) -> u8
-    ensures { (channel : ℕ) → IsPlace channel numbers.now i → result ≡ next_of channel numbers.now }
-{
-    if i < numbers.len() {
-        numbers[i].next
-    } else {
-        0
-    }
-}
-
-/// The number of a channel's next packet: 0 where it has had none.
-pub(crate) fn next_number(numbers: &[Number], channel: u16) -> u8
-    ensures { result ≡ next_of channel numbers.now }
-{
-    number_at(numbers, place(numbers, channel))
+    (numbers.len(), 0)
 }
 
 /// Counts a packet of the channel that has this place: its next number is one more, and after 255 comes 0. There is
