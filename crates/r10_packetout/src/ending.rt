@@ -1,6 +1,6 @@
 //! What stands after a packet's body.
 
-ghost use Rattle.std.specs.Prelude.{◌≡◌, ◌+◌, ◌/◌, ◌≤◌, ◌∷◌, ◌++◌, length, take};
+ghost use Rattle.std.specs.Prelude.{◌≡◌, ◌≤◌, ◌++◌, length};
 ghost use Rattle.r10_packet.specs.Header.{check_bits_of};
 ghost use Rattle.r10_packet.specs.Limits.{longest_body};
 ghost use Rattle.r10_packet.specs.Packet.{least_filler};
@@ -29,8 +29,21 @@ impl Ending {
     {
         let width = check.width();
         let filler = (4 - (body.len() + width) % 4) % 4;
+        // three zeros and the data checksum, to which filler adds nothing, and zeros after it
+        let bytes = match check {
+            Check::Nothing => [0; 8],
+            Check::Sum8 => at_once(&[0, 0, 0, sum8(body), 0, 0, 0, 0]),
+            Check::Sum16 => {
+                let [a, b] = sum16(body).to_le_bytes();
+                at_once(&[0, 0, 0, a, b, 0, 0, 0])
+            }
+            Check::Sum32 => {
+                let [a, b, c, d] = sum32(body).to_le_bytes();
+                at_once(&[0, 0, 0, a, b, c, d, 0])
+            }
+        };
         Ending {
-            bytes: checksum(check, body),
+            bytes,
             start: 3 - filler,
             end: 3 + width,
         }
@@ -41,25 +54,6 @@ impl Ending {
         ensures { result.now ≡ said self.now }
     {
         &self.bytes[self.start..self.end]
-    }
-}
-
-/// Three zeros and the data checksum of a body, to which filler adds nothing, and zeros after it.
-#[inline(always)]
-fn checksum(check: Check, body: &[u8]) -> [u8; 8]
-    ensures { take (3 + check_bits_of check / 8) result ≡ 0 ∷ 0 ∷ 0 ∷ data_checksum (check_bits_of check) body.now }
-{
-    match check {
-        Check::Nothing => [0; 8],
-        Check::Sum8 => at_once(&[0, 0, 0, sum8(body), 0, 0, 0, 0]),
-        Check::Sum16 => {
-            let [a, b] = sum16(body).to_le_bytes();
-            at_once(&[0, 0, 0, a, b, 0, 0, 0])
-        }
-        Check::Sum32 => {
-            let [a, b, c, d] = sum32(body).to_le_bytes();
-            at_once(&[0, 0, 0, a, b, c, d, 0])
-        }
     }
 }
 
