@@ -8,12 +8,12 @@ ghost use Rattle.r10_packet.specs.Sums.{data_checksum};
 
 use r10_packet::{Check, sum8, sum16, sum32};
 
-/// Filler and data checksum: at most 3 bytes and at most 4.
+/// Filler and data checksum, at most 3 bytes and at most 4, as they stand within eight.
 #[derive(Clone, Copy, Debug)]
 pub(crate) struct Ending {
-    bytes: [u8; 8],
-    start: usize,
-    end: usize,
+    pub(crate) bytes: [u8; 8],
+    pub(crate) start: usize,
+    pub(crate) end: usize,
     ghost within: { start ≤ end },
     ghost few: { end ≤ 7 },
 }
@@ -47,13 +47,6 @@ impl Ending {
             start: 3 - filler,
             end: 3 + width,
         }
-    }
-
-    /// Its bytes.
-    pub(crate) fn as_slice(&self) -> &[u8]
-        ensures { result.now ≡ said self.now }
-    {
-        &self.bytes[self.start..self.end]
     }
 }
 
