@@ -67,8 +67,10 @@ impl Books {
         ensures same { Unchanged (M.disk medium.old) (M.disk medium.new) }
         ensures no_fewer { (M.disk medium.old).failures ≤ (M.disk medium.new).failures }
     {
-        if shown_of_written(written, file).is_some() {
-            return Ok(0);
+        if let Some(told) = written {
+            if told.file == file {
+                return Ok(0);
+            }
         }
         match finished_entry(directory, written, file) {
             Some(entry) => self.keep(alloc, medium, file, &entry, buffer),
@@ -93,10 +95,16 @@ impl Books {
             → IsLearned image chain written.entry file self.now.kept.items place → ShowsFile image chain written.entry file packets
             → IfSome result (λ shown. IsShownWith image shown.first shown.named.now shown.book.now packets) }
     {
-        match shown_of_written(written, file) {
-            Some(told) => Some(told),
-            None => self.book(place),
+        if let Some(told) = written {
+            if told.file == file {
+                return Some(Shown {
+                    first: told.first,
+                    named: told.named,
+                    book: told.book,
+                });
+            }
         }
+        self.book(place)
     }
 
     /// What is kept at a place.
@@ -177,23 +185,6 @@ impl Books {
             Err(_) => Err(ReadRefusal::OutOfMemory),
         }
     }
-}
-
-/// What is reported of a file, where it is the one that is written.
-fn shown_of_written<'a>(written: Option<Written<'a>>, file: usize) -> Option<Shown<'a>>
-    ensures some { IfSome result (λ shown. IsSomeAnd written.entry
-        (λ w. (w.file ≡ file) × (shown.first ≡ w.first) × (shown.named.now ≡ w.named.now) × (shown.book.now ≡ w.book.now))) }
-    ensures none { IfNone result (IfSome written.entry (λ w. w.file ≢ file)) }
-{
-    let told = written?;
-    if told.file != file {
-        return None;
-    }
-    Some(Shown {
-        first: told.first,
-        named: told.named,
-        book: told.book,
-    })
 }
 
 /// Judges a file under its directory entry, and answers what is kept of its packets. One of which the medium has more than 2^62

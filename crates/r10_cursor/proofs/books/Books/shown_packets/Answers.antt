@@ -1,20 +1,37 @@
-use Rattle.r10_cursor.proofs.Learned.{told_of, told_told, told_shown, kept_there, kept_told, kept_shown}
+use Rattle.std.proofs.Common.{◌≢◌, refl}
+use Rattle.std.specs.Prelude.{IfSome}
+use Rattle.r10_cursor.specs.declared.written.Shown.{Shown}
+use Rattle.r10_cursor.specs.declared.written.Written.{Written}
+use Rattle.r10_cursor.proofs.Learned.{here_told, kept_shown, kept_there, kept_told, none_told, other_told, told_parts, told_shown, told_told}
+use Rattle.r10_cursor.proofs.books.Books.shown_packets.Goals.{After-book, in-Some+else-told-file, in_default}
 use Rattle.r10_cursor.proofs.books.Books.shown_packets.Goals as goal
 
-pub returns-in-Some-clause-told : goal.returns-in-Some-clause-told
-returns-in-Some-clause-told c = λ image chain right learned. told_told image chain c.args.written c.args.file c.in-Some.told c.in-Some.ensures.some (right (told_of c.args.written c.args.file c.in-Some.told c.in-Some.ensures.some))
+-- the file isn't the one that is written
+other : (c : After-book) → IfSome c.args.written (λ (w : Written). w.file ≢ c.args.file)
+other c = elim c.match-written.branch [
+  | in-Some+else-told-file w ↦ other_told c.args.written w.in-Some.told c.args.file w.in-Some.is w.if-told-file.false
+  | in_default w ↦ none_told c.args.written c.args.file w.in_default.is
+]
 
-pub returns-in-Some-clause-shown : goal.returns-in-Some-clause-shown
-returns-in-Some-clause-shown c = λ image chain packets learned shows. told_shown image chain c.args.written c.args.file c.in-Some.told packets c.in-Some.ensures.some shows
+pub returns-then-told-file-clause-told : goal.returns-then-told-file-clause-told
+returns-then-told-file-clause-told c = λ image chain right learned.
+    let shown : Shown = record { first = c.in-Some.told.first; named = c.in-Some.told.named; book = c.in-Some.told.book } in
+    told_told image chain c.args.written c.args.file shown (told_parts c.args.written c.in-Some.told c.args.file shown c.in-Some.is c.if-told-file.true refl refl refl)
+    (right (here_told c.args.written c.in-Some.told c.args.file c.in-Some.is c.if-told-file.true))
 
-pub returns-in-None-clause-told : goal.returns-in-None-clause-told
-returns-in-None-clause-told c = λ image chain right learned.
-    kept_told image chain c.args.written c.args.file c.args.self.now.kept.items c.args.place c.book.result c.in-None.ensures.none c.book.ensures.some learned
+pub returns-then-told-file-clause-shown : goal.returns-then-told-file-clause-shown
+returns-then-told-file-clause-shown c = λ image chain packets learned shows.
+    let shown : Shown = record { first = c.in-Some.told.first; named = c.in-Some.told.named; book = c.in-Some.told.book } in
+    told_shown image chain c.args.written c.args.file shown packets (told_parts c.args.written c.in-Some.told c.args.file shown c.in-Some.is c.if-told-file.true refl refl refl) shows
 
-pub returns-in-None-clause-shown : goal.returns-in-None-clause-shown
-returns-in-None-clause-shown c = λ image chain packets learned shows.
-    kept_shown image chain c.args.written c.args.file c.args.self.now.kept.items c.args.place c.book.result packets c.in-None.ensures.none c.book.ensures.some learned shows
+pub returns-clause-told : goal.returns-clause-told
+returns-clause-told c = λ image chain right learned.
+    kept_told image chain c.args.written c.args.file c.args.self.now.kept.items c.args.place c.book.result (other (goal.at.returns-clause-told c).After-book) c.book.ensures.some learned
 
-pub returns-in-None-clause-there : goal.returns-in-None-clause-there
-returns-in-None-clause-there c = λ image chain learned.
-    kept_there image chain c.args.written c.args.file c.args.self.now.kept.items c.args.place c.book.result c.in-None.ensures.none c.book.ensures.some learned
+pub returns-clause-there : goal.returns-clause-there
+returns-clause-there c = λ image chain learned.
+    kept_there image chain c.args.written c.args.file c.args.self.now.kept.items c.args.place c.book.result (other (goal.at.returns-clause-there c).After-book) c.book.ensures.some learned
+
+pub returns-clause-shown : goal.returns-clause-shown
+returns-clause-shown c = λ image chain packets learned shows.
+    kept_shown image chain c.args.written c.args.file c.args.self.now.kept.items c.args.place c.book.result packets (other (goal.at.returns-clause-shown c).After-book) c.book.ensures.some learned shows
