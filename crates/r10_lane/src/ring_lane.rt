@@ -181,7 +181,7 @@ impl LaneOut for RingLane {
     }
 
     fn held(&mut self) -> usize {
-        self.len()
+        self.waiting.len()
     }
 
     ghost joins = { lane_took_joins };
