@@ -1,5 +1,6 @@
 -- The last file of a directory.
-use Rattle.std.proofs.Common.{◌≡◌, List, [], ◌∷◌, None, Some, refl, sym, ap}
+use Rattle.std.specs.Option.{UnwrapsOrElse}
+use Rattle.std.proofs.Common.{◌≡◌, List, [], ◌∷◌, Option, None, Some, refl, sym, ap}
 use Rattle.std.specs.List.{last_or}
 use Rattle.r10_dirblock.specs.declared.entry.Entry.{Entry}
 use Rattle.r10_dirblock.specs.Block.{blank}
@@ -8,7 +9,7 @@ use Rattle.r10_dirchain.specs.Steps.{entry_or_blank, last_listed}
 use Rattle.r10_dirchain.specs.declared.chain.ChainBlock.{ChainBlock}
 
 -- with another where there is none
-pub last_found : (d e : Entry) (l : List Entry) → last_or None l ≡ Some e → Some e ≡ last_or (Some d) l
+last_found : (d e : Entry) (l : List Entry) → last_or None l ≡ Some e → Some e ≡ last_or (Some d) l
 last_found d e [] is = absurd (cc)
 last_found d e (x ∷ l) is = sym is
 
@@ -16,9 +17,14 @@ some_last : (x : Entry) (l : List Entry) → last_or (Some x) l ≡ None → ⊥
 some_last x [] is = cc
 some_last x (y ∷ l) is = some_last y l is
 
-pub none_last : (d : Entry) (l : List Entry) → last_or None l ≡ None → Some d ≡ last_or (Some d) l
+none_last : (d : Entry) (l : List Entry) → last_or None l ≡ None → Some d ≡ last_or (Some d) l
 none_last d [] is = refl
 none_last d (x ∷ l) is = absurd (some_last x l is)
+
+-- the last, or one of zero bytes
+pub last_or_blank : (o : Option Entry) (e : Entry) (l : List Entry) → o ≡ last_or None l → UnwrapsOrElse o (λ x. x ≡ blank) e → Some e ≡ last_or (Some blank) l
+last_or_blank None e l is given = rw given (none_last blank l (sym is))
+last_or_blank (Some x) e l is given = rw given (last_found blank x l (sym is))
 
 -- its entry, as a search comes to it
 pub last_is : (chain : List ChainBlock) (e : Entry) → Some e ≡ last_or (Some blank) (listed_files chain) → e ≡ last_listed chain

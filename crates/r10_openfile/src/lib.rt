@@ -5,7 +5,6 @@
 
 mod channels;
 mod data;
-mod entries;
 mod fault;
 mod file;
 mod file_listing;
