@@ -4,6 +4,7 @@ mod Turning
 pub mod Ends
 pub mod Written
 mod Last
+mod AllPut
 mod Shown
 pub mod Grown
 pub mod Coming
