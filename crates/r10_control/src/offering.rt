@@ -1,15 +1,15 @@
 //! Offers to the lanes of one thread, and losses that are reported of them.
 
 ghost use Rattle.std.specs.Prelude.{◌≡◌, ◌≤◌, ◌^◌, None, Some, IfErr, IfOk, option_map};
-ghost use Rattle.std.specs.List.{position};
 ghost use Rattle.r10_body.specs.declared.refusal.Refusal.TheVariants as refusals;
 ghost use Rattle.r10_count.specs.Checks.{first_broken};
 ghost use Rattle.r10_machine.specs.Checks.{taking_checks};
-ghost use Rattle.r10_machine.specs.Machine.{is_channel, lane_in};
+ghost use Rattle.r10_machine.specs.Machine.{lane_in};
 ghost use Rattle.r10_control.specs.Lanes.{AnswersWith, HaveRisen, LosesOn, OffersTo};
 ghost use Rattle.r10_machine.specs.declared.event.Event.TheVariants as events;
 ghost use Rattle.r10_machine.specs.declared.reply.Reply.TheVariants as replies;
 
+use crate::pumping::place_of;
 use crate::recorder::Recorder;
 use r10_body::{ChannelSpec, Message, Refusal};
 use r10_count::Count;
@@ -61,13 +61,6 @@ impl<M: BlockMedium> Recorder<M, RingLane> {
             None => Err(Refusal::NoSuchChannel),
         }
     }
-}
-
-/// The place of a channel's lane.
-fn place_of(lanes: &[RingLane], channel: u16) -> Option<usize>
-    ensures { result ≡ position (is_channel channel) lanes.now }
-{
-    lanes.iter().position(|lane| lane.spec().id == channel)
 }
 
 /// Offers a message to a channel's lane.
