@@ -52,7 +52,7 @@ use Rattle.r10_control.specs.Refused.{RefusesCall}
 use Rattle.r10_control.specs.Started.{IsStarted, StartsNot}
 use Rattle.r10_control.specs.State.{RecorderState}
 use Rattle.r10_control.specs.Taking.{NoneBehind, PumpedLane, ShowsFirst, one_part}
-use Rattle.r10_control.specs.declared.pumping.PumpFault.{PumpFault}
+use Rattle.r10_control.specs.PumpFaults.{PumpFault}
 use Rattle.r10_control.specs.declared.recording.CommitFault.{CommitFault}
 use Rattle.r10_control.specs.declared.recording.EntryFault.{EntryFault}
 use Rattle.r10_control.specs.declared.starting.StartFault.{StartFault}

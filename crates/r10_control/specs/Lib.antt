@@ -10,6 +10,7 @@ pub mod Started
 pub mod Lanes
 pub mod Told
 pub mod Reading
+pub mod PumpFaults
 pub mod Taking
 pub mod Raising
 pub mod Recording

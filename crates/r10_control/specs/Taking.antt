@@ -37,8 +37,8 @@ use Rattle.r10_openfile.specs.Pumping.{Begins, PumpEnds, SampleHasRoom}
 pub use Rattle.r10_openfile.specs.Stopping.{Part, TellsWaiting, TookAll, entries_of, most_of, samples_on}
 use Rattle.r10_openfile.specs.Stopping.{GoesThrough}
 use Rattle.r10_control.specs.Leading.{KeptStepsTaking}
-use Rattle.r10_control.specs.declared.pumping.PumpFault.{PumpFault}
-use Rattle.r10_control.specs.declared.pumping.PumpFault.TheVariants as pump_faults
+use Rattle.r10_control.specs.PumpFaults.{PumpFault}
+use Rattle.r10_control.specs.PumpFaults as pump_faults
 use Rattle.r10_machine.specs.Says.{MediumSays}
 use Rattle.r10_machine.specs.declared.event.Event.{Event as EventValue}
 use Rattle.r10_machine.specs.declared.reply.Reply.{Reply as ReplyValue}
