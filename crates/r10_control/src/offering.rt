@@ -31,7 +31,14 @@ impl<M: BlockMedium> Recorder<M, RingLane> {
         // For the proof: an offer is a step of the machine; the channels are within limits.
         offers_are_steps();
         let _channels = self.keeping.settings.channels();
-        offer_to(&mut self.lanes, channel, count, message)
+        let Some(at) = place_of(self.lanes.as_slice(), channel) else {
+            return Err(Refusal::NoSuchChannel);
+        };
+        let Some(now) = Count::of(count) else {
+            return Err(refuse_late(&self.lanes[at].spec(), count, &message));
+        };
+        let lane = &mut self.lanes[at];
+        lane.offer(now, message)
     }
 
     /// A channel lost so many messages that were never offered, in any mode: the next one that is accepted has them in its gap,
@@ -61,26 +68,6 @@ impl<M: BlockMedium> Recorder<M, RingLane> {
             None => Err(Refusal::NoSuchChannel),
         }
     }
-}
-
-/// Offers a message to a channel's lane.
-fn offer_to(
-    lanes: &mut Vec<RingLane>,
-    channel: u16,
-    count: u64,
-    message: Message,
-) -> Result<(), Refusal>
-    ensures offers { OffersTo channel lanes.old.items count message result lanes.new.items }
-    ensures risen { HaveRisen lanes.old.items lanes.new.items }
-{
-    let Some(at) = place_of(lanes.as_slice(), channel) else {
-        return Err(Refusal::NoSuchChannel);
-    };
-    let lane = &mut lanes[at];
-    let Some(now) = Count::of(count) else {
-        return Err(refuse_late(&lane.spec(), count, &message));
-    };
-    lane.offer(now, message)
 }
 
 /// So many messages of a channel were lost: its lane counts them.
