@@ -11,7 +11,6 @@ use r10_region::{Onlooker, SteadyMedium};
 use std::alloc::Global;
 
 /// A recorder with lanes of one thread and the cursors of its readers.
-#[derive(Drop)]
 pub struct Desk<M: SteadyMedium> {
     pub(crate) alloc: Global,
     pub(crate) world: WorldPlace<M>,
@@ -19,6 +18,18 @@ pub struct Desk<M: SteadyMedium> {
     pub(crate) fault: FaultOut,
     // the reply with the entry that the program has in hand, or one without an entry
     pub(crate) hand: Reply,
+}
+
+/// Letting it go is one call, so that a body that holds one has one exit for it.
+impl<M: SteadyMedium + Drop> Drop for Desk<M> {
+    fn drop(self) {
+        let Desk {
+            alloc: _,
+            world: _,
+            fault: _,
+            hand: _,
+        } = self;
+    }
 }
 
 impl<M: SteadyMedium + Drop> Desk<M> {

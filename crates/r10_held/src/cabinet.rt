@@ -17,10 +17,16 @@ use std::sync::{Mutex, MutexGuard, Wait};
 
 /// A recorder that threads share, under a lock, and its gauge, at which they look without the lock: the one that `N` names, which
 /// is that of whatever the lock keeps. The recorder is nowhere else. Contracts see which gauge it is.
-#[derive(Drop)]
 pub struct Cabinet<M: BlockMedium, N: Rings> {
     lock: Mutex<Held<M, N>>,
     sight: Sight<N>,
+}
+
+/// Letting it go is one call, so that a body that holds one has one exit for it.
+impl<M: BlockMedium + Drop, N: Rings> Drop for Cabinet<M, N> {
+    fn drop(self) {
+        let Cabinet { lock: _, sight: _ } = self;
+    }
 }
 
 impl<M: BlockMedium, N: Rings> Model for Cabinet<M, N> {

@@ -11,12 +11,23 @@ use std::alloc::Global;
 use std::marker::Model;
 
 /// A recorder with all ends of one gauge, at which nothing was published. Contracts see the recorder, and which gauge it is.
-#[derive(Drop)]
 pub struct Gauged<M: BlockMedium> {
     recorder: Recorder<M, Outlet>,
     gauge: Gauge,
     watch: Watch,
     pass: Pass,
+}
+
+/// Letting it go is one call, so that a body that holds one has one exit for it.
+impl<M: BlockMedium + Drop> Drop for Gauged<M> {
+    fn drop(self) {
+        let Gauged {
+            recorder: _,
+            gauge: _,
+            watch: _,
+            pass: _,
+        } = self;
+    }
 }
 
 impl<M: BlockMedium> Model for Gauged<M> {

@@ -22,7 +22,6 @@ const MOST: usize = 16_384;
 
 /// Where the operations for a disk go in. Where the ring in use is full a further one is begun, whose other end goes out through
 /// the links.
-#[derive(Drop)]
 pub struct Line {
     alloc: Global,
     pub(crate) ring: Producer<Operation, Global>,
@@ -33,6 +32,19 @@ pub struct Line {
     pub(crate) first: Snapshot<Producer<Operation, Global>>,
     ghost last: { name_of ring.end ≡ last_name (name_of first.value.end) (sent links) },
     ghost linked: { AreLinked (name_of first.value.end) (sent links) },
+}
+
+/// Letting it go is one call, so that a body that holds one has one exit for it.
+impl Drop for Line {
+    fn drop(self) {
+        let Line {
+            alloc: _,
+            ring: _,
+            links: _,
+            spares: _,
+            first: _,
+        } = self;
+    }
 }
 
 /// How many places the ring after one of so many has.

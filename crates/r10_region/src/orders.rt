@@ -42,7 +42,6 @@ pub struct RunOut {
 }
 
 /// What the disk under a region has still to do.
-#[derive(Drop)]
 pub struct Orders {
     pub(crate) ring: Consumer<Operation, Global>,
     pub(crate) links: Consumer<Link, Global>,
@@ -62,6 +61,23 @@ pub struct Orders {
     ghost at: { name_of ring.end ≡ last_name (name_of first.value.end) (received done.value) },
     ghost taken: { received links ≡ received done.value ++ links_ahead ahead },
     ghost comes: { (a : Ahead) → ahead ≡ Some a → name_of a.was.value.before.end ≡ name_of ring.end },
+}
+
+/// Letting it go is one call, so that a body that holds one has one exit for it.
+impl Drop for Orders {
+    fn drop(self) {
+        let Orders {
+            ring: _,
+            links: _,
+            ahead: _,
+            done: _,
+            first: _,
+            was: _,
+            news: _,
+            spares: _,
+            room: _,
+        } = self;
+    }
 }
 
 /// How many operations wait, and how many have a place.

@@ -19,7 +19,6 @@ use std::snapshot::Snapshot;
 /// A medium over memory that a program lends. The memory reads as it was last written. What a stop leaves is what it leaves of a
 /// disk that held what was lent, and does the operations that `Orders` hands out, in order. A write or a sync fails only where
 /// memory for one operation more is refused, or where `Orders` was reported that the disk failed.
-#[derive(Drop)]
 pub struct Region {
     blocks: &'static mut [[u8; 512]],
     pub(crate) line: Line,
@@ -32,6 +31,19 @@ pub struct Region {
     ghost whole: { IsWhole was.value.held },
     ghost each_whole: { AreWhole (told_by line) },
     ghost fits: { length blocks.now < 2 ^ 64 },
+}
+
+/// Letting it go is one call, so that a body that holds one has one exit for it.
+impl Drop for Region {
+    fn drop(self) {
+        let Region {
+            blocks: _,
+            line: _,
+            news: _,
+            was: _,
+            failures: _,
+        } = self;
+    }
 }
 
 /// Each block has 512 bytes.

@@ -13,12 +13,23 @@ use std::sync::Wait;
 
 /// A source that waits for its worker, with its channel's line; and once it has run, the line, and what became of its messages. It
 /// may have a gauge, at which any thread sees the level of its lane while it runs.
-#[derive(Drop)]
 pub struct Feed<N: Rings> {
     pub(crate) source: Option<AnySource>,
     pub(crate) line: ChannelPort<N>,
     pub(crate) tally: Tally,
     pub(crate) gauge: Option<Gauge<Levels>>,
+}
+
+/// Letting it go is one call, so that a body that holds one has one exit for it.
+impl<N: Rings> Drop for Feed<N> {
+    fn drop(self) {
+        let Feed {
+            source: _,
+            line: _,
+            tally: _,
+            gauge: _,
+        } = self;
+    }
 }
 
 impl<N: Rings> Feed<N> {

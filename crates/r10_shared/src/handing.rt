@@ -14,10 +14,19 @@ use std::alloc::Global;
 use std::sync::Wait;
 
 /// A player that hands on each instalment to its sink as it comes. Without a sink it writes them down.
-#[derive(Drop)]
 pub struct Handing<K: Sink> {
     pub(crate) reading: Transcribing,
     pub(crate) sink: Option<K>,
+}
+
+/// Letting it go is one call, so that a body that holds one has one exit for it.
+impl<K: Sink + Drop> Drop for Handing<K> {
+    fn drop(self) {
+        let Handing {
+            reading: _,
+            sink: _,
+        } = self;
+    }
 }
 
 impl<K: Sink> Handing<K> {

@@ -21,10 +21,19 @@ pub(crate) fn pass_over(alloc: Global, player: &mut Player)
 }
 
 /// A player, and what it wrote down.
-#[derive(Drop)]
 pub struct Transcribing {
     pub(crate) player: Player,
     pub(crate) instalments: Vec<Instalment>,
+}
+
+/// Letting it go is one call, so that a body that holds one has one exit for it.
+impl Drop for Transcribing {
+    fn drop(self) {
+        let Transcribing {
+            player: _,
+            instalments: _,
+        } = self;
+    }
 }
 
 impl Transcribing {
