@@ -311,14 +311,32 @@ installed() {
     echo "ffi: installation and package of what was proved: $(grep -c '^ok: ' "$room/install.out") checks pass"
 }
 
+# Hands on what `rt ci` prints. When it has proved the library's crate, and there is memory beside its provers, the library is made
+# at the same time as the rest is proved. It is waited for at the end.
+make_meanwhile() {
+    local line making=''
+    while IFS= read -r line || [ -n "$line" ]; do
+        printf '%s\n' "$line"
+        if [[ -z $making && $line == 'rt: r10_ffi '@(proved|'is kept: '*) ]] && [ "$spare" -ge "${RT_JOBS:-1}" ]; then
+            (build over-ci) >"$room/made" 2>&1 &
+            making=$!
+        fi
+    done
+    [ -z "$making" ] || wait "$making" || :
+}
+
 # The run's last line and status are those of `rt ci`. A program that does not print what it is to is one more that failed, and so
 # are sessions of the program that do not end, or whose accounts do not add up.
 behind_ci() {
-    local status last
-    (cd "$top" && exec rt ci) | but_the_last "$room/last"
+    local status last spare service
+    spare=$("$top/scripts/provers.py" --beside 3000000000)
+    (cd "$top" && exec rt ci) | make_meanwhile | but_the_last "$room/last"
     status=${PIPESTATUS[0]}
     last=$(cat "$room/last")
     if [ "$status" = 0 ]; then
+        # the service is tried beside the programs
+        R10=$top/crates/r10_cli/out/r10_cli "$top/scripts/recorder.sh" check >"$room/service" 2>&1 &
+        service=$!
         (
             build over-ci
             if [ $? = 3 ]; then
@@ -327,8 +345,9 @@ behind_ci() {
                 check
             fi
         ) || status=1
+        wait "$service" || status=1
+        cat "$room/service"
         installed || status=1
-        R10=$top/crates/r10_cli/out/r10_cli "$top/scripts/recorder.sh" check || status=1
         "$top/scripts/hammer.py" --gate || status=1
         [ "$status" = 0 ] || last=$(sed 's/^\([0-9]* passed, \)[0-9]* failed/\11 failed/' "$room/last")
     fi

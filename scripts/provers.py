@@ -7,6 +7,7 @@ Without that number `rt ci` reckons from the length of each crate what its prove
 (docs/GATE.md). Then the crates of the longest chain wait for memory that nobody uses. No prover of this repository has held more
 than 4.3 GB; five are taken here. Limits of a control group count, as do the processors that this process may run on.
 
+    --beside BYTES     as many as memory holds beside other work that takes so many bytes: none, or fewer, where there is no room
     --root FOLDER      reads proc/meminfo and sys/fs/cgroup below FOLDER, for the tests
 """
 import argparse
@@ -62,8 +63,10 @@ def main() -> None:
     """Prints the number."""
     words = argparse.ArgumentParser(description=__doc__, formatter_class=argparse.RawDescriptionHelpFormatter)
     words.add_argument('--root', type=pathlib.Path, default=pathlib.Path('/'))
-    root = words.parse_args().root
-    print(max(1, min(processors(root), free_memory(root) // MOST)))
+    words.add_argument('--beside', type=int, default=0, metavar='BYTES')
+    given = words.parse_args()
+    found = min(processors(given.root), (free_memory(given.root) - given.beside) // MOST)
+    print(found if given.beside else max(1, found))
 
 
 if __name__ == '__main__':

@@ -7,9 +7,11 @@ and a `next` of a cursor.
     scripts/way.py --copies    counts how often a byte of a message is copied on the way, and by which functions
 
 A function counts once, whatever its type parameters are. Closures, what lets values go, laws and the program's own frames around
-the recorder do not count, nor does what is not of this repository. Copies are
-what the system's library copies more of a longer message, by its bytes: it copies 32 with a store. The medium in memory makes
-copies of its own. It wants the toolchain and valgrind.
+the recorder do not count, nor does what is not of this repository. Of those that count, a line says how many only answer or lend
+a field of their value.
+
+Copies are what the system's library copies more of a longer message, by its bytes: it copies 32 with a store. The medium in memory
+makes copies of its own. It wants the toolchain and valgrind.
 """
 from __future__ import annotations
 
@@ -60,6 +62,9 @@ LENGTHS = (2000, 6000)
 WIDTH = 32
 CALLS = ('control::offer', 'control::pump', 'control::commit', 'readers::advance', 'readers::next')
 FRAMES = ('r10_cli', 'r10_command', 'r10_session', 'r10_world::running', 'r10_world::world')
+# A function whose body is one field, or what a list in a field says of itself; and one function of a file, with its body.
+FIELD = re.compile(r'(?:&(?:mut )?)?\*?self(?:\.\w+)+(?:\.(?:len|get|is_empty|as_slice|as_mut_slice)\(\))?')
+WITH_BODY = re.compile(r'(?ms)^( *)(?:pub(?:\(\w+\))? )?(?:const )?fn (\w+).*?^\1\{\n(.*?)^\1\}$')
 PASSED_OVER = re.compile(r'Destruct|(^|::)fn::|\+Fn|\w*laws::|::drop$|r10_refinement::')
 
 
@@ -98,6 +103,16 @@ def functions_of(program: pathlib.Path, room: pathlib.Path) -> list[str]:
     names = re.findall(r'(?m)^c?fn=\(\d+\) (r10_\S*)', recorded(program, room, MESSAGE))
     found = {re.sub(r'::<.*', '', it) for it in names}
     return sorted(it for it in found if not PASSED_OVER.search(it) and not it.startswith(FRAMES))
+
+
+def only_a_field(name: str) -> bool:
+    """Whether each function of this name in its file only answers or lends a field. A trait's are looked for by the name alone."""
+    crate, *modules, function = name.split('::')
+    files = sorted((TOP / 'crates' / crate / 'src').rglob('*.rt'))
+    own = [it for it in files if modules and it.stem == modules[0]]
+    texts = [file.read_text(encoding='utf-8') for file in own or files]
+    bodies = [body for text in texts for _, named, body in WITH_BODY.findall(text) if named == function]
+    return bool(bodies) and all(FIELD.fullmatch(body.strip()) for body in bodies)
 
 
 def stores_of(text: str) -> collections.Counter[str]:
@@ -162,7 +177,8 @@ def main() -> None:
     crates = collections.Counter(it.split('::')[0] for it in found)
     for crate, count in sorted(crates.items(), key=lambda it: (-it[1], it[0])):
         print(f'{count:4}  {crate}')
-    print(f'{len(found):4}  functions in {len(crates)} crates')
+    fields = len([it for it in found if only_a_field(it)])
+    print(f'{len(found):4}  functions in {len(crates)} crates; {fields} only answer or lend a field, {len(found) - fields} do more')
 
 
 if __name__ == '__main__':

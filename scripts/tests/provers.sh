@@ -30,5 +30,10 @@ printf '100000 100000\n' >"$room/group/sys/fs/cgroup/cpu.max"
 check "a group's time of one processor" is "$(provers group)" 1
 printf 'max 100000\n' >"$room/group/sys/fs/cgroup/cpu.max"
 check "a group with all time" is "$(provers group)" "$all"
+machine beside 10000000
+besides() { taskset -c 0 "$top/scripts/provers.py" --root "$room/$1" --beside "$2"; }
+check "fewer beside other work" is "$(besides beside 3000000000)" 1
+check "none beside work that leaves no room" is "$(besides beside 7000000000)" 0
+check "none where the other work does not fit" test "$(besides least 3000000000)" -lt 1
 # shellcheck disable=SC2154
 exit "$failed"
