@@ -22,9 +22,12 @@ mod replay;
 mod whole;
 
 use fault::BenchFault;
+use std::alloc::Global;
+use std::fmt::Display;
 use std::io;
 use std::process::ExitCode;
 use std::rt::Env;
+use std::time::CpuClock;
 
 /// What the command line asks for.
 #[derive(Clone, Copy)]
@@ -61,49 +64,71 @@ fn read_words<R: Env + AllocGlobal>(rt: &R) -> io::Result<Option<BenchRequest>> 
     Ok(Some(BenchRequest::Lengths(number)))
 }
 
+/// Prints the figures of a part, if it has any.
+fn show<R: Print, F: Display + Drop>(
+    rt: &R,
+    part: Result<F, BenchFault>,
+) -> Result<(), BenchFault> {
+    match part {
+        Ok(figures) => match print!(rt; "{figures}") {
+            Ok(()) => Ok(()),
+            Err(fault) => Err(BenchFault::System(fault)),
+        },
+        Err(fault) => Err(fault),
+    }
+}
+
+/// The parts that need no recorder.
+fn show_parts<R: Print + CpuClock>(rt: &R, alloc: Global, number: u32) -> Result<(), BenchFault> {
+    show(rt, bench::run(rt, alloc, number))?;
+    show(rt, book::run(rt, alloc, number))
+}
+
+/// A whole recorder, and the replay of what it recorded.
+fn show_whole<R: Print + CpuClock>(rt: &R, alloc: Global, number: u32) -> Result<(), BenchFault> {
+    let (figures, recorder) = whole::run(rt, alloc, number, whole::LENGTH, &whole::TEXT)?;
+    let messages = figures.messages;
+    show(rt, Ok(figures))?;
+    show(rt, replay::run(rt, alloc, recorder, messages))?;
+    show(rt, replay::follow(rt, alloc, number))
+}
+
+/// Searches, the end of a file, and what judges one.
+fn show_files<R: Print + CpuClock>(rt: &R, alloc: Global, number: u32) -> Result<(), BenchFault> {
+    for step in finding::STEPS {
+        show(rt, finding::run(rt, alloc, step, number))?;
+    }
+    show(rt, closing::run(rt, alloc, number))?;
+    for shape in &check::SHAPES {
+        show(rt, check::run(rt, alloc, shape, number))?;
+    }
+    Ok(())
+}
+
+fn show_lengths<R: Print + CpuClock>(rt: &R, alloc: Global, number: u32) -> Result<(), BenchFault> {
+    for length in &lengths::LENGTHS {
+        show(rt, lengths::run(rt, alloc, *length, number))?;
+    }
+    Ok(())
+}
+
 fn main(rt: HostRuntime) -> Result<ExitCode, BenchFault> {
-    let number = match read_words(&rt)? {
-        Some(BenchRequest::All(number)) => number,
-        Some(BenchRequest::Close(number)) => {
-            let figures = closing::run(&rt, rt.alloc(), number)?;
-            print!(rt; "{figures}")?;
-            return Ok(ExitCode::SUCCESS);
+    let alloc = rt.alloc();
+    match read_words(&rt)? {
+        Some(BenchRequest::All(number)) => {
+            show_parts(&rt, alloc, number)?;
+            show_whole(&rt, alloc, number)?;
+            show_files(&rt, alloc, number)?;
+            show(&rt, lanes::run(&rt, alloc, number))?;
         }
-        Some(BenchRequest::Lengths(number)) => {
-            for length in &lengths::LENGTHS {
-                let figures = lengths::run(&rt, rt.alloc(), *length, number)?;
-                print!(rt; "{figures}")?;
-            }
-            return Ok(ExitCode::SUCCESS);
-        }
+        Some(BenchRequest::Close(number)) => show(&rt, closing::run(&rt, alloc, number))?,
+        Some(BenchRequest::Lengths(number)) => show_lengths(&rt, alloc, number)?,
         None => {
             println!(rt;
                 "usage: r10_bench MESSAGES, or r10_bench close PACKETS, or r10_bench lengths MESSAGES"
             )?;
             return Ok(ExitCode::from(2));
         }
-    };
-    let figures = bench::run(&rt, rt.alloc(), number)?;
-    print!(rt; "{figures}")?;
-    let book = book::run(&rt, rt.alloc(), number)?;
-    print!(rt; "{book}")?;
-    let (figures, recorder) = whole::run(&rt, rt.alloc(), number, whole::LENGTH, &whole::TEXT)?;
-    print!(rt; "{figures}")?;
-    let figures = replay::run(&rt, rt.alloc(), recorder, figures.messages)?;
-    print!(rt; "{figures}")?;
-    let figures = replay::follow(&rt, rt.alloc(), number)?;
-    print!(rt; "{figures}")?;
-    for step in finding::STEPS {
-        let figures = finding::run(&rt, rt.alloc(), step, number)?;
-        print!(rt; "{figures}")?;
     }
-    let figures = closing::run(&rt, rt.alloc(), number)?;
-    print!(rt; "{figures}")?;
-    for shape in &check::SHAPES {
-        let figures = check::run(&rt, rt.alloc(), shape, number)?;
-        print!(rt; "{figures}")?;
-    }
-    let lanes = lanes::run(&rt, rt.alloc(), number)?;
-    print!(rt; "{lanes}")?;
     Ok(ExitCode::SUCCESS)
 }
