@@ -328,23 +328,22 @@ make_meanwhile() {
 # The run's last line and status are those of `rt ci`. A program that does not print what it is to is one more that failed, and so
 # are sessions of the program that do not end, or whose accounts do not add up.
 behind_ci() {
-    local status last spare service
+    local status last spare made service
     spare=$("$top/scripts/provers.py" --beside 3000000000)
     (cd "$top" && exec rt ci) | make_meanwhile | but_the_last "$room/last"
     status=${PIPESTATUS[0]}
     last=$(cat "$room/last")
     if [ "$status" = 0 ]; then
+        (build over-ci)
+        made=$?
         # the service is tried beside the programs
         R10=$top/crates/r10_cli/out/r10_cli "$top/scripts/recorder.sh" check >"$room/service" 2>&1 &
         service=$!
-        (
-            build over-ci
-            if [ $? = 3 ]; then
-                echo "ffi: NOT TRIED: rt ci left no libraries to make r10_ffi over"
-            else
-                check
-            fi
-        ) || status=1
+        case $made in
+        0) (check) || status=1 ;;
+        3) echo "ffi: NOT TRIED: rt ci left no libraries to make r10_ffi over" ;;
+        *) status=1 ;;
+        esac
         wait "$service" || status=1
         cat "$room/service"
         installed || status=1
