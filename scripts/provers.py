@@ -5,7 +5,7 @@
 
 Without that number `rt ci` reckons from the length of each crate what its prover will hold: 9.9 GB for r10_control, which held 2.7
 (docs/GATE.md). Then the crates of the longest chain wait for memory that nobody uses. No prover of this repository has held more
-than 4.3 GB; five are taken here. Limits of a control group count, as do the processors that this process may run on.
+than 4.6 GB; five are taken here. Limits of a control group count, as do the processors that this process may run on.
 
     --beside BYTES     as many as memory holds beside other work that takes so many bytes: none, or fewer, where there is no room
     --root FOLDER      reads proc/meminfo and sys/fs/cgroup below FOLDER, for the tests
