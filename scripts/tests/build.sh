@@ -77,15 +77,17 @@ check "what was proved before is taken over" is "$(grep -c 'r10_low\|r10_two' "$
 for signal in TERM INT KILL; do
     rm -rf "$top"/crates/*/out "$top/out"
     : >"$kit/proofs"
-    (until [ "$(wc -l <"$kit/proofs")" -ge 2 ]; do sleep 0.01; done; touch "$kit/slow") & # (the second proof is held up)
-    touch "$kit/proofs"
+    echo 2 >"$kit/slow_from" # (the second proof is held up)
     "$top/scripts/build.sh" 1 >"$room/first" 2>&1 & one=$!
-    for _ in $(seq 200); do [ "$(grep -c took "$room/first" 2>/dev/null)" -ge 1 ] && [ -e "$kit/slow" ] && break; sleep 0.05; done
+    for _ in $(seq 400); do
+        [ "$(grep -c took "$room/first" 2>/dev/null)" -ge 1 ] && [ "$(wc -l <"$kit/proofs")" -ge 2 ] && break
+        sleep 0.05
+    done
     kill -"$signal" "$one"
     wait "$one" 2>/dev/null
     sleep 0.5
     check "after $signal no proof goes on" ended
-    rm -f "$kit/slow"
+    rm -f "$kit/slow_from"
     before=$(grep -c took "$room/first")
     : >"$kit/proofs"
     build 1
