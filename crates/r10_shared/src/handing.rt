@@ -104,6 +104,8 @@ impl<K: Sink> SessionReader for Handing<K> {
 
     ghost reads_on = { λ old new. HandsOn K.accepted K.has_refused old.reading old.sink new.reading new.sink };
 
+    ghost queue = { λ handing. handing.reading.player.cursor.reading.queue };
+
     fn pass_over(&mut self, alloc: Global) {
         pass_over(alloc, &mut self.reading.player);
     }

@@ -1,7 +1,8 @@
 //! Players of a session, whatever becomes of what they take.
 
-ghost use Rattle.std.specs.Prelude.{◌≡◌};
+ghost use Rattle.std.specs.Prelude.{◌≡◌, [], List};
 ghost use Rattle.atomic_table.specs.Seated.{TableId};
+ghost use Rattle.r10_body.specs.declared.entry.Entry.{Entry as EntryValue};
 
 use r10_body::Refusal;
 use r10_held::{Cabinet, Rings};
@@ -17,9 +18,13 @@ pub(crate) trait SessionReader {
     /// It has read on.
     ghost reads_on: { Self → Self → Type 0 };
 
+    /// What it has yet to give.
+    ghost queue: { Self → List EntryValue };
+
     /// Drops what was still to be given.
     fn pass_over(&mut self, alloc: Global)
-        ensures { reads_on self.old self.new };
+        ensures reads { reads_on self.old self.new }
+        ensures none { queue self.new ≡ [] };
 
     /// Takes the next instalment.
     fn read_next<M: BlockMedium, N: Rings, R: Wait>(

@@ -1,6 +1,6 @@
 //! Players, and what they write down.
 
-ghost use Rattle.std.specs.Prelude.{◌≡◌, ◌≤◌, ◌+◌, List, length};
+ghost use Rattle.std.specs.Prelude.{◌≡◌, ◌≤◌, ◌+◌, [], List, length};
 ghost use Rattle.r10_held.specs.declared.transcript.Instalment.{Instalment as InstalmentValue};
 ghost use Rattle.r10_shared.specs.ReadingLaws.{reads_both, reads_stay};
 ghost use Rattle.r10_shared.specs.Readings.{HasTaken, ReadsOn};
@@ -15,7 +15,8 @@ use std::sync::Wait;
 
 /// Drops what a player was still to give.
 pub(crate) fn pass_over(alloc: Global, player: &mut Player)
-    ensures { (all : List InstalmentValue) → HasTaken player.old all player.new all }
+    ensures taken { (all : List InstalmentValue) → HasTaken player.old all player.new all }
+    ensures none { player.new.cursor.reading.queue ≡ [] }
 {
     let _passed_over = player.rest(alloc);
 }
@@ -83,6 +84,8 @@ impl SessionReader for Transcribing {
     ghost gauge = { λ reading. reading.player.pass.cell };
 
     ghost reads_on = { ReadsOn };
+
+    ghost queue = { λ reading. reading.player.cursor.reading.queue };
 
     fn pass_over(&mut self, alloc: Global) {
         pass_over(alloc, &mut self.player);
