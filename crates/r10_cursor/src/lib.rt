@@ -27,7 +27,6 @@ pub use cursor::Cursor;
 pub use fault::ReplayFault;
 pub use laws::{files_that_are_said, what_is_known_stays};
 pub use listing::entry_at;
-pub use packet::read_packet;
 pub use reader::Reader;
 pub use refusal::ReadRefusal;
 pub use replay::FileReplay;

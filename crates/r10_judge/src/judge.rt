@@ -279,13 +279,6 @@ impl Judge {
         Some(FileFault::Rule(8))
     }
 
-    /// What is kept of the packets that keep the rules.
-    pub fn tracks(&self) -> &Tracks
-        ensures { result.now ≡ self.now.tracks }
-    {
-        &self.tracks
-    }
-
     /// Whether the packets are two at least, have a whole index or no index packet, and no report stands last.
     fn is_whole(&self) -> bool
         ensures { (packets : List Packet) → IsTracked self.now.tracks packets
