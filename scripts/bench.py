@@ -392,7 +392,7 @@ def main(words):
     parser.add_argument('--lengths', action='store_true')
     words = parser.parse_args(words)
     if not words.proved.is_file():
-        sys.exit('bench: there is no %s: rt run in crates/r10_bench makes it' % words.proved)
+        sys.exit('bench: there is no %s: scripts/build.py --crate r10_bench makes it' % words.proved)
     if words.plain == PLAIN:
         subprocess.run(['cargo', 'build', '--release', '--offline', '--quiet'], cwd=TOP / 'bench', check=True)
     before, proved, plain, first = os.getloadavg()[0], [], [], state_of(words.plain)

@@ -4,6 +4,8 @@
     scripts/build.py [LANES] [--crate NAME]     proves the crates that NAME stands on, and NAME (r10_cli, the program, where none is
                                                 named)
 
+Of r10_bench and r10_session_bench, which are libraries, it makes programs: crates/NAME/out/NAME.
+
 The tool locks each crate below the one that it proves, so one checkout proves one crate at a time. Here each lane has a copy of the
 sources, and a library that one lane has proved is handed to the others by links. The crate with the longest chain above it goes
 first, by the seconds in build_costs.txt, and all others yield to it. Lanes lie in the folder of git (or in that which R10_LANES
@@ -33,7 +35,8 @@ from typing import NoReturn
 
 sys.dont_write_bytecode = True
 
-from quick_build import PROGRAM, TOP, Fault, Kept, PROVED, below, give_up, kit, note, remove, say, tool  # noqa: E402
+from quick_build import (  # noqa: E402
+    MEASURED, PROGRAM, PROVED, TOP, Fault, Kept, below, give_up, kit, make_main, note, remove, say, tool)
 
 # What one proof is reckoned to take: most take 1 to 3 GB, and few are so large at the same time.
 MEMORY = 2_500_000_000
@@ -236,6 +239,12 @@ class Build:
                 elif one.is_file() and name == self.name:
                     other.parent.mkdir(parents=True, exist_ok=True)
                     shutil.copy2(one, other)
+        if self.name in MEASURED:
+            make_main(lane, self.name)
+
+    def is_program(self, name: str) -> bool:
+        """Whether a program is made of a crate."""
+        return self.crates.of[name].is_program or name in MEASURED
 
     def is_stamped(self, library: pathlib.Path, name: str) -> bool:
         """Whether this library is of the sources as they stand."""
@@ -273,13 +282,13 @@ class Build:
                 hand(self.store(it), library)
         folder = lane / 'crates' / name
         (folder / 'out').mkdir(exist_ok=True)
-        crate = self.crates.of[name]
+        is_program = self.is_program(name)
         words = ['setpriv', '--pdeathsig', 'TERM'] if shutil.which('setpriv') else []
         words += [sys.executable, str(TOP / 'scripts' / 'rt_once.py')]
-        words += ['run'] if crate.is_program else ['lib', '--statements']
+        words += ['run'] if is_program else ['lib', '--statements']
         words += ['--jobs', str(jobs)]
         given = folder / 'stdin'
-        with open(given if crate.is_program and given.is_file() else os.devnull, 'rb') as stdin, open(self.log(name), 'wb') as log:
+        with open(given if is_program and given.is_file() else os.devnull, 'rb') as stdin, open(self.log(name), 'wb') as log:
             # (in a session of its own, so that all that it started can be ended)
             made = subprocess.Popen(words, cwd=folder, stdin=stdin, stdout=log, stderr=log, start_new_session=True)
         self.running[number] = (name, jobs, made, time.time())
@@ -331,10 +340,9 @@ class Build:
         if made.returncode:
             self.end_all()
             give_up('%s is not proved: see %s' % (name, os.path.relpath(self.log(name), TOP)), 1)
-        crate = self.crates.of[name]
-        if crate.is_program:
+        if self.is_program(name):
             shutil.copy(folder / 'out' / name, TOP / 'crates' / name / 'out' / name)
-        elif crate.is_static:
+        elif self.crates.of[name].is_static:
             shutil.copy(folder / 'out' / ('lib%s.a' % name), TOP / 'crates' / name / 'out')
         else:
             hand(folder / 'out' / 'rlib', self.store(name))

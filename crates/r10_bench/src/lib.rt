@@ -1,5 +1,5 @@
-//! The program `r10_bench`, run by hand: how many small UART messages a second go through a lane and a builder, beside a
-//! plain copy of the same bytes, how many go through lanes of one thread and between two, how long searches in the book
+//! What the program `r10_bench` measures, run by hand: how many small UART messages a second go through a lane and a builder,
+//! beside a plain copy of the same bytes, how many go through lanes of one thread and between two, how long searches in the book
 //! of a file's packets take, and its index, how many messages a second a recorder records onto a medium in memory, how many entries
 //! a second it replays, how long it takes to find one in a file of many packets, how many bytes of index a second it writes where
 //! it closes one, and how many bytes of a file are judged in a second.
@@ -21,13 +21,16 @@ mod path;
 mod replay;
 mod whole;
 
-use fault::BenchFault;
+pub use fault::BenchFault;
+
 use std::alloc::Global;
 use std::fmt::Display;
 use std::io;
 use std::process::ExitCode;
 use std::rt::Env;
-use std::time::CpuClock;
+use std::sync::Wait;
+use std::thread::Threads;
+use std::time::{Clock, CpuClock};
 
 /// What the command line asks for.
 #[derive(Clone, Copy)]
@@ -112,17 +115,21 @@ fn show_lengths<R: Print + CpuClock>(rt: &R, alloc: Global, number: u32) -> Resu
     Ok(())
 }
 
-fn main(rt: HostRuntime) -> Result<ExitCode, BenchFault> {
+/// Measures what the command line asks for, and prints it. `scripts/build.py` makes a program of this crate, whose `main` is this
+/// call: so the gate proves it, and builds none.
+pub fn measure<R: Env + AllocGlobal + Print + Clock + CpuClock + Threads + Wait + Sync>(
+    rt: &R,
+) -> Result<ExitCode, BenchFault> {
     let alloc = rt.alloc();
-    match read_words(&rt)? {
+    match read_words(rt)? {
         Some(BenchRequest::All(number)) => {
-            show_parts(&rt, alloc, number)?;
-            show_whole(&rt, alloc, number)?;
-            show_files(&rt, alloc, number)?;
-            show(&rt, lanes::run(&rt, alloc, number))?;
+            show_parts(rt, alloc, number)?;
+            show_whole(rt, alloc, number)?;
+            show_files(rt, alloc, number)?;
+            show(rt, lanes::run(rt, alloc, number))?;
         }
-        Some(BenchRequest::Close(number)) => show(&rt, closing::run(&rt, alloc, number))?,
-        Some(BenchRequest::Lengths(number)) => show_lengths(&rt, alloc, number)?,
+        Some(BenchRequest::Close(number)) => show(rt, closing::run(rt, alloc, number))?,
+        Some(BenchRequest::Lengths(number)) => show_lengths(rt, alloc, number)?,
         None => {
             println!(rt;
                 "usage: r10_bench MESSAGES, or r10_bench close PACKETS, or r10_bench lengths MESSAGES"
