@@ -23,9 +23,7 @@ INSIDE = re.compile(r'^\s+type ')
 ALLOWED = {
     'AnySource': 'a boxed source, named where it is used and where it is handed out',
     'Apparatus': 'the recorder of a bench, and that of the trials',
-    'Ask': 'a call of a recorder, in each crate of tests',
     'BeginFault': 'why a file was not begun: of the multiplexer, and of the open file over it',
-    'Call': 'a call with its answer, in two files of tests',
     'Civil': 'a civil time, and the same for C',
     'Entry': "an entry of a file, and of a directory: each is its format's word",
     'ListSource': 'a source that gives what is in a list: of the program, and of tests',

@@ -11,8 +11,8 @@
 #     scripts/ffi.sh random CALLS [SEED]   # random calls under the address sanitizer, a tenth of them under valgrind, and scripts
 #                                            of 1,000 beside `r10 sim`
 #     scripts/ffi.sh check             # runs both, ffi/calls.c, which calls each function, also as C++, ffi/flight.c, ffi/disk.c,
-#                                        ffi/commits.c, ffi/accounts.c, ffi/refused.c, ffi/parts.c, ffi/memory.c and ffi/ports.c,
-#                                        and compares what they print with ffi/*.expected
+#                                        ffi/commits.c, ffi/accounts.c, ffi/refused.c, ffi/media.c, ffi/parts.c, ffi/memory.c and
+#                                        ffi/ports.c, and compares what they print with ffi/*.expected
 #     scripts/ffi.sh kept              # prints where the library is: the proved one if it is there, else one that is not proved
 #     scripts/ffi.sh proved            # prints where the proved library is; status 1 if it is not there, or a source has changed
 #     scripts/ffi.sh behind-ci         # `rt ci`; after it `check` over its libraries, an installation of what was proved, the
@@ -235,7 +235,7 @@ check() {
         c_example commits.c "$room/commits"
         "$room/commits" >"$room/commits.out" || give_up "commits: status $?"
         compare commits.expected "$room/commits.out"
-        for trial in accounts refused parts memory ports; do
+        for trial in accounts refused media parts memory ports; do
             c_example "$trial.c" "$room/$trial"
             "$room/$trial" >"$room/$trial.out" || give_up "$trial: status $?"
             compare "$trial.expected" "$room/$trial.out"

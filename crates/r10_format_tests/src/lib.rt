@@ -1,27 +1,17 @@
-//! Calls of the formats, of media, directories and readers once each with ample memory, and what their contracts do not say.
+//! Texts that are printed, calls that no program makes, and what else no contract says of media and verdicts.
 #![tactic(auto)]
 
 #[cfg(test)]
 mod base;
 #[cfg(test)]
+mod bodies;
+#[cfg(test)]
 mod contents;
 #[cfg(test)]
-mod directories;
+mod faults;
 #[cfg(test)]
-mod files;
-#[cfg(test)]
-mod inputs;
+mod machines;
 #[cfg(test)]
 mod media;
 #[cfg(test)]
-mod packets;
-#[cfg(test)]
-mod readers;
-#[cfg(test)]
-mod strict;
-#[cfg(test)]
-mod tracks;
-#[cfg(test)]
 mod verdicts;
-#[cfg(test)]
-mod volumes;

@@ -1,5 +1,5 @@
 // Media of blocks.
-use r10_medium::{BlockMedium, Choice, Crashing, Memory, publish};
+use r10_medium::{BlockMedium, Choice, Crashing, Memory};
 use std::alloc::Global;
 use std::process::Abort;
 use std::test::Fail;
@@ -30,16 +30,6 @@ fn write_fails<M: BlockMedium>(
 ) -> bool {
     assert!(rt; n < medium.blocks());
     medium.write(n, block).is_err()
-}
-
-#[test]
-fn a_published_block(rt: HostRuntime) -> Result<(), Fail> {
-    let mut medium = Memory::new(rt.alloc(), 3)?;
-    assert!(rt; 1 < medium.blocks());
-    let failed = publish(&mut medium, 1, &A).is_err();
-    let image = medium.image(rt.alloc())?;
-    assert_eq!(rt; (failed, ends(&image)), (false, [0, 0, 65, 65, 0, 0, 255]));
-    Ok(())
 }
 
 // The largest medium that a recorder takes is there at once.

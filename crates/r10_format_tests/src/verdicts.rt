@@ -1,36 +1,31 @@
-// All files of a medium, each with its verdict, and the first fault of a file.
-use crate::packets::FIRST;
+// All files of a medium, each with its verdict.
 use r10_body::{FileFault, Refusal};
-use r10_checker::{Verdict, check_file, check_medium, find_fault};
+use r10_checker::{Verdict, check_medium};
 use r10_dirblock::{DirBlock, Entries, Entry, encode, pad};
-use r10_judge::Judge;
-use r10_medium::{BlockMedium, Faulty, Memory};
-use r10_packet_rules::FirstFault;
+use r10_medium::{BlockMedium, Memory};
 use std::alloc::{AllocError, Global};
 use std::process::Abort;
 use std::test::Fail;
 
-// the report that a message was lost on channel 5
-const REPORT: [u8; 44] = [
-    0x25, 0xEB, 0, 0, 0x2C, 0, 0, 0, 20, 0, 0, 0, 8, 1, 0, 0, 0xE8, 3, 0, 0, 0, 0, 0x55, 0xF0, //
-    0, 0, 0, 0, 0x4C, 0x4F, 0x53, 0x53, 5, 0, 0, 0, 1, 0, 0, 0, 0, 0, 0, 0,
+// the first recording: setup, time, two UART messages, node and root, a header a line and then its body
+const FIRST: [u8; 272] = [
+    0x25, 0xEB, 0, 0, 0x20, 0, 0, 0, 8, 0, 0, 0, 8, 0, 0, 1, 0xE8, 3, 0, 0, 0, 0, 0x3D, 0xF0, //
+    0x0C, 0, 0, 0, 0x41, 0x42, 0x43, 0x44, //
+    0x25, 0xEB, 1, 0, 0x24, 0, 0, 0, 12, 0, 0, 0, 8, 0, 0, 0x11, 0xE8, 3, 0, 0, 0, 0, 0x46, 0, //
+    0x01, 0x03, 0, 0, 0x78, 0x56, 0x34, 0x12, 0x29, 0x02, 0x24, 0x20, //
+    0x25, 0xEB, 5, 0, 0x38, 0, 0, 0, 32, 0, 0, 0, 8, 0, 0, 0x50, 0xE8, 3, 0, 0, 0, 0, 0x72, 0x3F, //
+    0, 0, 0, 0x80, 0xE8, 3, 0, 0, 0, 0, 0, 0, 3, 0, 0, 0, 0x41, 0x42, 0x43, 0, //
+    0xF2, 3, 0, 0, 0, 0, 0, 0, 0, 0, 0, 0, //
+    0x25, 0xEB, 0, 0, 0x58, 0, 0, 0, 64, 0, 0, 0, 8, 1, 0, 3, 0xE8, 3, 0, 0, 0, 0, 0xAD, 0xF3, //
+    3, 0, 0, 0x80, //
+    0xE8, 3, 0, 0, 0, 0, 0, 0, 0, 0, 0x01, 0, 0, 0, 0, 0, 0, 0, 0, 0, //
+    0xE8, 3, 0, 0, 0, 0, 0, 0, 1, 0, 0x11, 0, 32, 0, 0, 0, 0, 0, 0, 0, //
+    0xE8, 3, 0, 0, 0, 0, 0, 0, 5, 0, 0x50, 0, 68, 0, 0, 0, 0, 0, 0, 0, //
+    0x25, 0xEB, 0, 0, 0x3C, 0, 0, 0, 36, 0, 0, 0, 8, 2, 0, 3, 0xE8, 3, 0, 0, 0, 0, 0x75, 0xF4, //
+    2, 0, 0, 0, //
+    0xE8, 3, 0, 0, 0, 0, 0, 0, 124, 0, 0, 0, 0, 0, 0, 0, //
+    0xE8, 3, 0, 0, 0, 0, 0, 0, 212, 0, 0, 0, 0, 0, 0, 0,
 ];
-
-// a flagged packet of this channel: an empty message at 1011
-const FLAGGED: [u8; 40] = [
-    0x25, 0xEB, 5, 0, 0x28, 0, 0, 0, 16, 0, 0, 0, 8, 1, 0x10, 0x50, 0xF3, 3, 0, 0, 0, 0, 0x6D,
-    0x40, //
-    0, 0, 0, 0x80, 0xF3, 3, 0, 0, 0, 0, 0, 0, 0, 0, 0, 0,
-];
-
-// the data of the first recording, then the report and what answers it
-pub(crate) fn with_loss() -> [u8; 208] {
-    let mut bytes = [0; 208];
-    bytes[..124].copy_from_slice(&FIRST[..124]);
-    bytes[124..168].copy_from_slice(&REPORT);
-    bytes[168..].copy_from_slice(&FLAGGED);
-    bytes
-}
 
 // a file of so many bytes, from a block on
 fn file(first_block: u64, size: u64, closed: bool) -> Entry {
@@ -91,65 +86,5 @@ fn each_file_has_its_verdict(rt: HostRuntime) -> Result<(), Fail> {
         None,
     ];
     assert_eq!(rt; verdicts_of(rt.alloc(), &mut medium), Ok(wanted));
-    Ok(())
-}
-
-#[test]
-fn a_file_outside_is_told_by_its_block(rt: HostRuntime) -> Result<(), Fail> {
-    let files = [file(0, 272, true), file(2, 1, true), file(0, 212, false)];
-    let mut medium = medium(&rt, rt.alloc(), &files)?;
-    assert_eq!(rt;
-        verdicts_of(rt.alloc(), &mut medium),
-        Err(Refusal::BadDirectory(1))
-    );
-    Ok(())
-}
-
-#[test]
-fn a_failing_medium_has_no_verdicts(rt: HostRuntime) -> Result<(), Fail> {
-    let files = [file(0, 272, true), file(0, 212, false), file(0, 1, true)];
-    let mut medium = Faulty::new(medium(&rt, rt.alloc(), &files)?, 2);
-    assert_eq!(rt; verdicts_of(rt.alloc(), &mut medium), Err(Refusal::Medium));
-    Ok(())
-}
-
-#[test]
-fn an_unclosed_file_has_no_index(rt: HostRuntime) -> Result<(), Fail> {
-    let found = find_fault(rt.alloc(), &FIRST, false)?;
-    let offset = 124;
-    let fault = FileFault::Rule(8);
-    assert!(rt; found == Some(FirstFault { offset, fault }));
-    Ok(())
-}
-
-#[test]
-fn a_setup_alone_lacks_a_time(rt: HostRuntime) -> Result<(), Fail> {
-    let mut judge = Judge::new(rt.alloc(), false);
-    judge.take(&FIRST[..32])?;
-    let offset = 32;
-    let fault = FileFault::Rule(4);
-    assert!(rt; judge.end() == Some(FirstFault { offset, fault }));
-    Ok(())
-}
-
-// the same, cut after the report
-fn with_report() -> [u8; 168] {
-    let mut bytes = [0; 168];
-    bytes[..124].copy_from_slice(&FIRST[..124]);
-    bytes[124..].copy_from_slice(&REPORT);
-    bytes
-}
-
-#[test]
-fn a_report_is_answered(rt: HostRuntime) -> Result<(), Fail> {
-    let alloc = rt.alloc();
-    let bytes = with_loss();
-    let cut = with_report();
-    let offset = 124;
-    let fault = FileFault::Rule(11);
-    assert!(rt; find_fault(alloc, &bytes, false)?.is_none());
-    assert!(rt; find_fault(alloc, &cut, false)? == Some(FirstFault { offset, fault }));
-    assert!(rt; check_file(alloc, &bytes)? == Verdict::Strict);
-    assert!(rt; check_file(alloc, &cut)? == Verdict::Lenient { opaque: 0 });
     Ok(())
 }

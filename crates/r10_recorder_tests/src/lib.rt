@@ -1,14 +1,11 @@
-//! Recorders with their readers at concrete media, in tables of events and replies; and commands whose reader or
-//! writers fail.
+//! Commands whose reader or writers fail, scripts that are too long to be written by hand, and what faults of a file say.
 #![tactic(auto)]
 
 #[cfg(test)]
 mod failing;
 #[cfg(test)]
-mod groups;
+mod faults;
 #[cfg(test)]
 mod losses;
-#[cfg(test)]
-mod recording;
 #[cfg(test)]
 mod sessions;

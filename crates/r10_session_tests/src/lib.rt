@@ -7,8 +7,6 @@ mod asks;
 #[cfg(test)]
 mod beside;
 #[cfg(test)]
-mod fakes;
-#[cfg(test)]
 mod handing;
 #[cfg(test)]
 mod inputs;
@@ -21,6 +19,8 @@ mod losing;
 #[cfg(test)]
 mod meeting;
 #[cfg(test)]
+mod orders;
+#[cfg(test)]
 mod readers;
 #[cfg(test)]
 mod run;
@@ -30,5 +30,3 @@ mod sessions;
 mod sources;
 #[cfg(test)]
 mod window;
-#[cfg(test)]
-mod workers;

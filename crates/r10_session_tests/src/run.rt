@@ -14,7 +14,7 @@ use r10_cursor::Cursor;
 use r10_medium::{BlockMedium, Memory};
 use r10_port::Port;
 use r10_shared::{
-    AnySource, Cabinet, Feed, FeedReport, Gate, Open, Order, Player, Rings, SessionReport,
+    AnySource, Cabinet, Feed, FeedReport, Gate, Open, Order, Pass, Player, Rings, SessionReport,
     StopFlag, audit, end_session, run_session, run_session_until,
 };
 use std::alloc::{AllocError, Global};
@@ -187,6 +187,49 @@ pub fn run_recorded<N: Rings + Send + Sync, R: Threads + Wait + Sync, G: Gate + 
     let feeds = one_feed(alloc, five, source)?;
     let players = alone(alloc, Player::new(cursor, pass))?;
     run_and_end(rt, alloc, gate, cabinet, feeds, Vec::new(alloc), players)
+}
+
+/// A reader of all channels that was given what is shown so far, and has not handed it on.
+fn advanced<N: Rings, R: Wait>(
+    rt: &R,
+    alloc: Global,
+    cabinet: &Cabinet<Memory, N>,
+    pass: Pass,
+) -> Result<Player, Fail>
+    requires { pass.cell ≡ cabinet.now }
+    ensures { IfOk result (λ player. player.pass.cell ≡ cabinet.now) }
+{
+    let channels = Items::of(Vec::new(alloc));
+    let opened = cabinet.hold(rt).cursor(0, channels, 0, LAST);
+    let Ok(cursor) = opened else {
+        return Err(Fail::new("no cursor"));
+    };
+    let mut player = Player::new(cursor, pass);
+    match player.advance(rt, cabinet) {
+        Ok(1) => Ok(player),
+        _ => Err(Fail::new("the first time is not shown")),
+    }
+}
+
+/// A feed of the channel 5 and a reader that was advanced before, while a file is recorded.
+pub fn run_advanced<N: Rings + Send + Sync, R: Threads + Wait + Sync>(
+    rt: &R,
+    alloc: Global,
+    made: NewRecorder,
+    source: AnySource,
+) -> Result<SessionReport<Memory>, Fail>
+    requires new { IsNew memory_disk outlet_spec outlet_received made.gauged.recorder }
+    requires named { AreNamed N.rings made.gauged.recorder.lanes }
+    requires gauge { made.gauged.cell ≡ N.gauge }
+    requires five { ring_for 5 N.rings ≡ Some made.five.ring }
+{
+    let NewRecorder { gauged, five, .. } = made;
+    let (cabinet, pass) = cabinet_of::<N>(gauged);
+    let _cursor = begin_session(rt, alloc, &cabinet)?;
+    let feeds = one_feed(alloc, five, source)?;
+    let player = advanced(rt, alloc, &cabinet, pass)?;
+    let players = alone(alloc, player)?;
+    run_and_end(rt, alloc, &Open, cabinet, feeds, Vec::new(alloc), players)
 }
 
 /// The same with a stop, and then a further session of the feed with another source: how many messages were sent until the stop was

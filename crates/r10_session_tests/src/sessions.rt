@@ -3,7 +3,9 @@
 use crate::inputs::make;
 use crate::losing::{ALL, Barrier, LOST, Losing};
 use crate::meeting::{Meet, MeetingPlace, MeetingSource, Shut};
-use crate::run::{SessionNumbers, end_of, run_one, run_recorded, run_twice, run_two, seen_in};
+use crate::run::{
+    SessionNumbers, end_of, run_advanced, run_one, run_recorded, run_twice, run_two, seen_in,
+};
 use crate::sources::{ListSource, Stopping};
 use r10_shared::{AnySource, Open, StopFlag};
 use std::marker::Brand;
@@ -27,6 +29,24 @@ fn two_feeds_are_filed_and_read(rt: HostRuntime) -> Result<(), Fail> {
     let made = make(alloc, 1000)?;
     let report = run_two::<Brand, _, _>(&rt, alloc, &Open, made, first, second)?;
     assert_eq!(rt; end_of(alloc, report), all_filed_and_read());
+    Ok(())
+}
+
+/// A reader lets go what its cursor has queued, and goes on: an advance would be refused otherwise.
+#[test]
+fn a_reader_that_was_advanced_before_reads_on(rt: HostRuntime) -> Result<(), Fail> {
+    let alloc = rt.alloc();
+    let source: AnySource = Box::new(alloc, ListSource::of(alloc, 2)?)?;
+    let made = make(alloc, 2)?;
+    let report = run_advanced::<Brand, _>(&rt, alloc, made, source)?;
+    assert_eq!(rt;
+        end_of(alloc, report),
+        SessionNumbers {
+            feeds: [Some((5, 2, 0, 0, 2, 0)), None],
+            entries: 2,
+            audited: Ok(true),
+        }
+    );
     Ok(())
 }
 
