@@ -14,9 +14,9 @@ check "no command at all" is "$("$top/scripts/side_by_side.sh" </dev/null && ech
 printf 'echo last' | "$top/scripts/side_by_side.sh" >"$room/said"
 check "a last line without an end" is "$(cat "$room/said")" last
 mkfifo "$room/pipe"
-export room
+export pipe="$room/pipe" # (the script has a room of its own)
 if [ "$(nproc)" -gt 1 ]; then
-    check "two at the same time" is "$(run 'timeout 9 sh -c "echo met >$room/pipe"' 'timeout 9 cat $room/pipe')" met
+    check "two at the same time" is "$(run 'timeout 50 sh -c "echo met >$pipe"' 'timeout 50 cat "$pipe"')" met
 else
     echo "NOT TRIED: two at the same time: there is one processor"
 fi
