@@ -22,7 +22,6 @@ mod replay;
 mod whole;
 
 pub use fault::BenchFault;
-
 use std::alloc::Global;
 use std::fmt::Display;
 use std::io;

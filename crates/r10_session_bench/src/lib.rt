@@ -12,7 +12,6 @@ mod session;
 mod slow;
 
 pub use fault::SessionBenchFault;
-
 use std::io;
 use std::process::ExitCode;
 use std::rt::Env;
