@@ -286,7 +286,8 @@ class Build:
         words = ['setpriv', '--pdeathsig', 'TERM'] if shutil.which('setpriv') else []
         words += [sys.executable, str(TOP / 'scripts' / 'rt_once.py')]
         words += ['run'] if is_program else ['lib', '--statements']
-        words += ['--jobs', str(jobs)]
+        # (a program that measures has a number of messages to be run with)
+        words += ['--jobs', str(jobs), *(['--', '1'] if name in MEASURED else [])]
         given = folder / 'stdin'
         with open(given if is_program and given.is_file() else os.devnull, 'rb') as stdin, open(self.log(name), 'wb') as log:
             # (in a session of its own, so that all that it started can be ended)
