@@ -4,6 +4,7 @@
 #include <stdio.h>
 #include <string.h>
 
+#include "expect.h"
 #include "r10.h"
 
 #define SCRIPT(blocks, nodes)                                                                                                                                  \
@@ -13,14 +14,6 @@
 static const r10_civil civil = {2024, 2, 29, 12, 34, 56, 78};
 static unsigned char memory[64 * 512];
 static r10 recorder;
-static bool is_wrong;
-
-static void expect(const char *what, uint32_t number, uint32_t wanted) {
-    if (number != wanted) {
-        printf("%s: %u, and not %u\n", what, number, wanted);
-        is_wrong = true;
-    }
-}
 
 static void open_over(size_t blocks, const char *script) {
     expect("open", r10_open((r10_region){memory, blocks}, 64, script, strlen(script), &recorder), R10_OK);

@@ -3,6 +3,7 @@
 #include <stdio.h>
 #include <string.h>
 
+#include "expect.h"
 #include "kinds.h"
 #include "r10.h"
 
@@ -12,14 +13,6 @@
 static const char script[] = TOP CHANNEL;
 static unsigned char memory[64 * 512];
 static r10 recorder;
-static bool is_wrong;
-
-static void expect(const char *what, uint32_t number, uint32_t wanted) {
-    if (number != wanted) {
-        printf("%s: %u, and not %u\n", what, number, wanted);
-        is_wrong = true;
-    }
-}
 
 /* ---- scripts */
 

@@ -6,7 +6,7 @@ use r10_b1553::{BusBody, BusEntry};
 use r10_count::{Civil, Count, Parts, Reading};
 use r10_discrete::{DiscreteBody, DiscreteEntry};
 use r10_event::{EventBody, EventEntry};
-use r10_indexbody::LossBody;
+use r10_indexbody::{LossBody, NodeBody, NodeEntry, RootBody, RootEntry};
 use r10_message::{MessageBody, MessageEntry};
 use r10_setup::SetupBody;
 use r10_timebody::TimeBody;
@@ -283,5 +283,52 @@ fn a_setup_is_written_and_read(rt: HostRuntime) -> Result<(), Fail> {
         Reading::Strict(read) => assert_eq!(rt; read.text, b"ABCD".as_slice()),
         Reading::Lenient | Reading::Neither => panic!(rt; "no setup"),
     }
+    Ok(())
+}
+
+/// A node that names a setup text at 1000, where the file begins.
+const NODE: [u8; 24] = [
+    1, 0, 0, 0x80, 0xE8, 3, 0, 0, 0, 0, 0, 0, 0, 0, 0x01, 0, 0, 0, 0, 0, 0, 0, 0, 0,
+];
+
+/// A root that names a node and itself.
+const ROOT: [u8; 36] = [
+    2, 0, 0, 0, 0xE8, 3, 0, 0, 0, 0, 0, 0, 124, 0, 0, 0, 0, 0, 0, 0, 0xE8, 3, 0, 0, 0, 0, 0, 0,
+    212, 0, 0, 0, 0, 0, 0, 0,
+];
+
+fn node_bytes(alloc: Global, counter: Count) -> Result<Vec<u8>, AllocError> {
+    let mut out = Vec::new(alloc);
+    let setup = NodeEntry {
+        counter,
+        data_type: 1,
+        channel: 0,
+        offset: 0,
+    };
+    NodeBody::write(&[setup], &mut out)?;
+    Ok(out)
+}
+
+fn root_bytes(alloc: Global, counter: Count) -> Result<Vec<u8>, AllocError> {
+    let mut out = Vec::new(alloc);
+    let node = RootEntry {
+        counter,
+        offset: 124,
+    };
+    let root = RootEntry {
+        counter,
+        offset: 212,
+    };
+    RootBody::write(&[node, root], &mut out)?;
+    Ok(out)
+}
+
+#[test]
+fn nodes_and_roots_are_written(rt: HostRuntime) -> Result<(), Fail> {
+    let counter = count(1000)?;
+    let node = node_bytes(rt.alloc(), counter)?;
+    let root = root_bytes(rt.alloc(), counter)?;
+    assert_eq!(rt; node.as_slice(), NODE.as_slice());
+    assert_eq!(rt; root.as_slice(), ROOT.as_slice());
     Ok(())
 }
