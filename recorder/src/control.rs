@@ -66,8 +66,10 @@ impl Asking {
 
 /// How many may be connected at a time to the socket, and as many over TCP: so these cannot shut out those.
 const MOST: usize = 32;
-/// After so many seconds of silence a peer over TCP is asked whether it is still there.
+/// After so many seconds of silence the other side of a TCP connection is asked whether it is still there.
 const KEEPALIVE: u32 = 60;
+/// Until it answers it is asked again after so many seconds, and so many times in all. Then the connection fails.
+const ASKED_AGAIN: (u32, u32) = (10, 6);
 /// A command of more bytes is none.
 const LONGEST: u64 = 4096;
 
@@ -120,6 +122,15 @@ pub fn connected<S>(listener: impl Iterator<Item = io::Result<S>>) -> impl Itera
     listener.filter_map(|it| it.inspect_err(|_| thread::sleep(AGAIN)).ok())
 }
 
+/// Has a TCP connection fail two minutes after the other side went without a word, as by its power or a cable.
+pub fn ask_in_silence(stream: &TcpStream) -> nix::Result<()> {
+    let fd = stream.as_raw_fd();
+    setsockopt(fd, sockopt::TcpKeepIdle, &KEEPALIVE)?;
+    setsockopt(fd, sockopt::TcpKeepInterval, &ASKED_AGAIN.0)?;
+    setsockopt(fd, sockopt::TcpKeepCount, &ASKED_AGAIN.1)?;
+    setsockopt(fd, sockopt::KeepAlive, &true)
+}
+
 /// Starts to listen.
 pub fn start(settings: &Settings, asking: &Asking) -> io::Result<()> {
     let path = &settings.socket;
@@ -144,10 +155,7 @@ pub fn start(settings: &Settings, asking: &Asking) -> io::Result<()> {
         for stream in connected(listener.incoming()) {
             match stream.peer_addr() {
                 Ok(peer) if is_welcome(peer.ip(), &peers) => {
-                    // one that went without a word, as by a cable, leaves its place after some minutes
-                    let fd = stream.as_raw_fd();
-                    let _ =
-                        setsockopt(fd, sockopt::KeepAlive, &true).and_then(|()| setsockopt(fd, sockopt::TcpKeepIdle, &KEEPALIVE));
+                    let _ = ask_in_silence(&stream);
                     connect(stream, Origin::Tcp, &asking, &open);
                 }
                 Ok(peer) => strangers.warn(|| format!("control: {peer} is not one of control.peers, and is not heard")),
@@ -269,6 +277,19 @@ fn stream<S: Connection>(
 #[cfg(test)]
 mod tests {
     use super::*;
+    use nix::sys::socket::getsockopt;
+
+    #[test]
+    fn a_silent_connection_is_asked() {
+        let listener = TcpListener::bind("127.0.0.1:0").unwrap();
+        let stream = TcpStream::connect(listener.local_addr().unwrap()).unwrap();
+        ask_in_silence(&stream).unwrap();
+        let fd = stream.as_raw_fd();
+        assert!(getsockopt(fd, sockopt::KeepAlive).unwrap());
+        assert_eq!(getsockopt(fd, sockopt::TcpKeepIdle).unwrap(), 60);
+        assert_eq!(getsockopt(fd, sockopt::TcpKeepInterval).unwrap(), 10);
+        assert_eq!(getsockopt(fd, sockopt::TcpKeepCount).unwrap(), 6);
+    }
 
     #[test]
     fn peers_are_those_of_the_list_or_this_machine() {

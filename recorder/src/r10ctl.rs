@@ -2,13 +2,14 @@
 #![forbid(unsafe_code)]
 use std::fmt::Write as _;
 use std::io::{self, BufRead, BufReader, IsTerminal, Read, Write};
-use std::net::TcpStream;
+use std::net::{TcpStream, ToSocketAddrs};
 use std::os::unix::net::UnixStream;
 use std::path::PathBuf;
 use std::process::ExitCode;
 use std::time::{Duration, Instant};
 
 use clap::Parser;
+use r10_recorder::control::ask_in_silence;
 use r10_recorder::kinds::Kind;
 use r10_recorder::words::{PATIENCE, WORDS};
 use serde_json::{Value, json};
@@ -51,15 +52,35 @@ trait Line: Read + Write {}
 impl Line for UnixStream {}
 impl Line for TcpStream {}
 
+/// How long a machine has to take a connection.
+const CONNECTS: Duration = Duration::from_secs(10);
+
+/// A connection to the first of an address's machines that takes one.
+fn connect_tcp(address: &str) -> io::Result<TcpStream> {
+    let mut last = io::Error::new(io::ErrorKind::InvalidInput, "it names no machine");
+    for it in address.to_socket_addrs()? {
+        match TcpStream::connect_timeout(&it, CONNECTS) {
+            Ok(stream) => {
+                ask_in_silence(&stream)?;
+                return Ok(stream);
+            }
+            Err(error) => last = error,
+        }
+    }
+    Err(last)
+}
+
 struct Recorder {
     line: BufReader<Box<dyn Line>>,
+    /// What came of a line whose end has not come yet.
+    begun: Vec<u8>,
 }
 
 impl Recorder {
     fn connect(words: &Words) -> Result<Recorder, String> {
         let line: Box<dyn Line> = match &words.tcp {
             Some(address) => {
-                let it = TcpStream::connect(address).map_err(|it| {
+                let it = connect_tcp(address).map_err(|it| {
                     format!("no recorder at {address}: {it}; is control.tcp set to it, and this machine one of control.peers?")
                 })?;
                 it.set_read_timeout(Some(PATIENCE)).map_err(|it| it.to_string())?;
@@ -77,7 +98,7 @@ impl Recorder {
                 Box::new(it)
             }
         };
-        Ok(Recorder { line: BufReader::new(line) })
+        Ok(Recorder { line: BufReader::new(line), begun: Vec::new() })
     }
 
     fn send(&mut self, command: &str) -> Result<(), String> {
@@ -88,15 +109,20 @@ impl Recorder {
         }
     }
 
-    /// The next line of an answer, or none at its end.
+    /// The next line of an answer, or none at its end. After an answer that it did not come yet it can be asked for again.
     fn next(&mut self) -> Result<Option<String>, String> {
-        let mut text = String::new();
-        match self.line.read_line(&mut text) {
-            Ok(0) => Err("the recorder went away; see its log".to_string()),
-            Ok(_) if text == "*\n" => Ok(None),
-            Ok(_) => Ok(Some(text.trim_end_matches('\n').to_string())),
-            Err(error) if matches!(error.kind(), io::ErrorKind::WouldBlock | io::ErrorKind::TimedOut) => {
+        match self.line.read_until(b'\n', &mut self.begun) {
+            Ok(_) if !self.begun.ends_with(b"\n") => Err("the recorder went away; see its log".to_string()),
+            Ok(_) => {
+                let text = String::from_utf8_lossy(&std::mem::take(&mut self.begun)).trim_end_matches('\n').to_string();
+                Ok(if text == "*" { None } else { Some(text) })
+            }
+            Err(error) if error.kind() == io::ErrorKind::WouldBlock => {
                 Err(format!("the recorder did not answer for {} s; see its log", PATIENCE.as_secs()))
+            }
+            // (of a connection over TCP whose other side no longer answers the system)
+            Err(error) if error.kind() == io::ErrorKind::TimedOut => {
+                Err("the recorder's machine no longer answers; has it power, and is its cable in?".to_string())
             }
             Err(error) => Err(format!("the recorder went away: {error}; see its log")),
         }
@@ -354,6 +380,26 @@ mod tests {
         );
         assert_eq!(of_entry("entry 1 7 0 time 2026-11-28 07:14:05.40")["civil"], "2026-11-28 07:14:05.40");
         assert_eq!(of_entry("skipped: x"), json!({ "text": "skipped: x" }));
+    }
+
+    #[test]
+    fn a_line_in_two_parts_is_one() {
+        let (here, mut there) = UnixStream::pair().unwrap();
+        here.set_read_timeout(Some(Duration::from_millis(20))).unwrap();
+        let mut recorder = Recorder { line: BufReader::new(Box::new(here)), begun: Vec::new() };
+        there.write_all(b"entry 5").unwrap();
+        assert!(recorder.next().unwrap_err().contains("did not answer"));
+        there.write_all(b" 7\n*\nentr").unwrap();
+        assert_eq!(recorder.next(), Ok(Some("entry 5 7".to_string())));
+        assert_eq!(recorder.next(), Ok(None));
+        drop(there);
+        assert!(recorder.next().unwrap_err().contains("went away"));
+    }
+
+    #[test]
+    fn a_machine_that_is_not_there_is_named() {
+        assert!(connect_tcp("127.0.0.1:1").is_err());
+        assert!(connect_tcp("127.0.0.1").is_err());
     }
 
     #[test]
