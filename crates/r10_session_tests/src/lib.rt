@@ -1,5 +1,5 @@
-//! Sessions: feeds, a writer, orders and readers at the same time, and what became of each message; and the lock and
-//! its readers, called once each.
+//! Lanes and sources between threads; sessions: feeds, a writer, orders and readers at the same time, and what became of each
+//! message; and the lock and its readers, called once each.
 #![tactic(auto)]
 
 #[cfg(test)]
@@ -7,9 +7,15 @@ mod asks;
 #[cfg(test)]
 mod beside;
 #[cfg(test)]
+mod crossing;
+#[cfg(test)]
 mod handing;
 #[cfg(test)]
 mod inputs;
+#[cfg(test)]
+mod lane_inputs;
+#[cfg(test)]
+mod lanes;
 #[cfg(test)]
 mod levels;
 #[cfg(test)]
@@ -20,6 +26,8 @@ mod losing;
 mod meeting;
 #[cfg(test)]
 mod orders;
+#[cfg(test)]
+mod port_sources;
 #[cfg(test)]
 mod readers;
 #[cfg(test)]

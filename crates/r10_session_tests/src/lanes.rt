@@ -2,7 +2,7 @@
 
 ghost use Rattle.std.specs.Prelude.{◌≡◌};
 
-use crate::inputs::{CHANNEL, count, empty};
+use crate::lane_inputs::{CHANNEL, count, empty};
 use r10_body::{Gap, Refusal, Sample};
 use r10_lane::LaneOut;
 use r10_port::{Port, lane};

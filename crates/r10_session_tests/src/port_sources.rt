@@ -1,6 +1,6 @@
 // A source that gives what it was made of.
 
-use crate::inputs::{CHANNEL, count, empty};
+use crate::lane_inputs::{CHANNEL, count, empty};
 use r10_body::Timed;
 use r10_port::lane;
 use r10_source::{ChannelSource, Given, Pumped, SourceItem, pump_source};
