@@ -61,65 +61,33 @@ MEASURES = [
 # What both must agree on.
 SAME = (('recorder-file', 'bytes of the file'), ('replay-entries', 'entries of the replay'), ('close-index', 'bytes of the index'))
 
-# The lines of the proved program, and the measures that their groups are.
-LINES = (
-    (r'plain copy +\d+ ms +(\d+) messages/s', ('copy',)),
-    (r'lane and builder +\d+ ms +(\d+) messages/s', ('channel',)),
-    (r'recorder: .* a file of (\d+) bytes, \d+ us +(\d+) messages/s', ('recorder-file', 'recorder')),
-    (r'replay: (\d+) entries in 1 instalments, .* us +(\d+) entries/s; the file is checked in (\d+) us',
-     ('replay-entries', 'replay', 'check-time')),
-    (r'replay: .* us +(\d+) entries/s; the file is checked in \d+ us', ('replay-behind',)),
-    (r'find: \d+ packets .*, (\d+) counts apart, recorded at (\d+) packets/s: (\d+) ns each', ('step', 'packets', 'find')),
-    (r'close: .*: (\d+) bytes of index in \d+ us +(\d+) bytes/s', ('close-index', 'close')),
-    (r'judging \d+ bytes, +(\d+) channels, checksum (\d), (.+) of +(\d+) bytes: +\d+ ms +(\d+) bytes/s',
-     ('channels', 'flags', 'kind', 'size', 'judge')),
-)
-
-
 # Messages of several lengths, in bytes, which both programs measure.
 LENGTHS = (8, 16, 32, 39, 64, 255, 256, 1000, 60000)
-LENGTH_LINE = r'recorder: (\d+) messages of (\d+) bytes, .* us +(\d+) messages/s'
+# The lines of the proved program for one length: the length, messages a second, and how many messages.
+LENGTH_LINES = r'recorder-length (\d+) bytes\n(?:.*\n)*?recorder (\d+) messages/s (\d+) in '
 
 # The numbers of messages of which instructions are counted; of long ones, of those with as many bytes as so many of 64.
 COUNTED = (65536, 131072)
 COUNTED_BY_LENGTH = (32768, 65536)
+
+# How many rounds of messages the proved program records before it commits.
+COMMITTED = 64
 
 # How often an entry is looked for, whatever the number of messages.
 SEARCHES = 10000
 
 
 def proved_figures(text):
-    """What the proved program printed, by the names of the plain one."""
-    found = {}
-    for line in text.splitlines():
-        for form, names in LINES:
-            seen = re.match(form, line)
-            if seen:
-                here = {name: value if name == 'kind' else int(value) for name, value in zip(names, seen.groups())}
-                if 'step' in here:
-                    step = here['step']
-                    here = {'packets-%d' % step: here['packets'], 'find-%d' % step: here['find']}
-                elif 'judge' in here:
-                    here = {'judge-%s-%d-%d-%d' % (KINDS[here['kind']], here['channels'], here['flags'],
-                                                   here['size']): here['judge']}
-                # Of a small number both replays have one instalment: the first one that is printed is that of the closed file.
-                if 'replay' in found and 'replay' in here:
-                    here = {'replay-behind': here['replay']}
-                found.update(here)
-                break
-    if 'check-time' in found:
-        found['check'] = found['recorder-file'] * 1000000 // max(1, found['check-time'])
+    """What the proved program printed, by the names of the plain one. It says how many searches a second there were, of so many."""
+    found = plain_figures(text)
+    for name, number, nanos in re.findall(r'^(find-\d+) \d+ searches/s (\d+) in (\d+) ns$', text, re.MULTILINE):
+        found[name] = int(nanos) // int(number)
     return found
 
 
 def figures_by_length(text):
     """What the proved program printed of messages of several lengths: messages a second."""
-    found = {}
-    for line in text.splitlines():
-        seen = re.match(LENGTH_LINE, line)
-        if seen:
-            found['length-%s' % seen.group(2)] = int(seen.group(3))
-    return found
+    return {'length-%s' % length: int(rate) for length, rate, _ in re.findall(LENGTH_LINES, text)}
 
 
 def state_of(plain):
@@ -129,8 +97,8 @@ def state_of(plain):
 
 
 def plain_figures(text):
-    """What the plain program printed."""
-    return {name: int(value) for name, value, _ in (line.split(' ') for line in text.splitlines())}
+    """What a program printed: lines NAME VALUE UNIT, behind which more may stand."""
+    return {name: int(value) for name, value, *_ in (line.split(' ') for line in text.splitlines())}
 
 
 def output(words, **more):
@@ -265,13 +233,21 @@ def spans(program, words, folder):
     return [it for it in found if it], text
 
 
+def recorded(part):
+    """The instructions of a recording in the proved program. Of each group of rounds the span of each round is timed, and the one
+    behind the last, with the commit; then the stop."""
+    size, (*groups, _, stop) = 2 * COMMITTED + 1, part
+    return stop + sum(span for at, span in enumerate(groups)
+                      if at % size % 2 == 0 and at % size < size - 1 or at % size == size - 2 or at == len(groups) - 1)
+
+
 def proved_instructions(words, number, folder):
     """The instructions of each measure of the proved program, and its figures."""
     (small, _, recorder, replay, follow, wide, narrow, close, *judged), text = spans(words.proved, [str(number)], folder)
     found = {
-        'copy': sum(small[0::3]), 'channel': sum(small[1::3]), 'recorder': sum(recorder[::2]), 'check': replay[0],
-        'replay': sum(replay[2:4]), 'replay-behind': sum(follow[0::3]) + sum(follow[1::3]), 'close': close[-1],
-        'packets-20000': sum(wide[:-1:2]), 'find-20000': wide[-1], 'find-2000': narrow[-1],
+        'copy': sum(small[0::3]), 'channel': sum(small[1::3]), 'recorder': recorded(recorder), 'check': replay[0],
+        'replay': sum(replay[2:4]), 'replay-behind': sum(follow[9::12]) + sum(follow[10::12]), 'close': close[-1],
+        'packets-20000': sum(wide[:-3:2]) + wide[-3], 'find-20000': wide[-1], 'find-2000': narrow[-1],
     }
     for (kind, size, channels, flags), judging in zip(FILES, judged):
         found['judge-%s-%d-%d-%d' % (KINDS[kind], channels, flags, size)] = judging[0]
@@ -320,16 +296,17 @@ def instructions(words):
 
 def length_instructions(words):
     """Instructions a message by its length: those of a run with more messages, less those of one with fewer."""
-    sent = [re.findall(LENGTH_LINE, output([words.proved, 'lengths', number])) for number in COUNTED_BY_LENGTH]
+    sent = [re.findall(LENGTH_LINES, output([words.proved, 'lengths', number])) for number in COUNTED_BY_LENGTH]
     with tempfile.TemporaryDirectory() as folder, concurrent.futures.ThreadPoolExecutor(2) as both:
         ours = [both.submit(spans, words.proved, ['lengths', str(number)], folder) for number in COUNTED_BY_LENGTH]
         theirs = [both.submit(spans, words.plain, [str(number), 'lengths'], folder) for number in COUNTED_BY_LENGTH]
-        ours, theirs = [[[sum(part[::2]) for part in it.result()[0]] for it in of_one] for of_one in (ours, theirs)]
+        ours = [[recorded(part) for part in it.result()[0]] for it in ours]
+        theirs = [[sum(part[::2]) for part in it.result()[0]] for it in theirs]
     found = {}
     for at, (less, more) in enumerate(zip(*sent)):
-        number = int(more[0]) - int(less[0])
+        number = int(more[2]) - int(less[2])
         if number > 0:  # (of the longest there are as many in both)
-            found[int(more[1])] = tuple((it[1][at] - it[0][at]) / number for it in (ours, theirs))
+            found[int(more[0])] = tuple((it[1][at] - it[0][at]) / number for it in (ours, theirs))
     return found
 
 
@@ -362,12 +339,12 @@ def print_memory(words):
         shim = pathlib.Path(folder) / 'count_malloc.so'
         subprocess.run([os.environ.get('CC', 'cc'), '-O2', '-shared', '-fPIC', '-o', shim, TOP / 'bench' / 'count_malloc.c'],
                        check=True)
-        ours, text = most_asked(words.proved, [str(number)], shim, 'replay: ')
+        ours, text = most_asked(words.proved, [str(number)], shim, 'replay-entries ')
         theirs, other = most_asked(words.plain, [str(number), 'replay'], shim, 'check ')
         entries = proved_figures(text)['replay-entries'], plain_figures(other)['replay-entries']
-        recorded = [most_asked(words.proved, [str(number)], shim, 'recorder: ')[0],
+        recorded = [most_asked(words.proved, [str(number)], shim, 'recorder-length ')[0],
                     most_asked(words.plain, [str(number), 'record'], shim, 'recorder ')[0]]
-        packets = [most_asked(words.proved, ['close', str(number)], shim, 'close: ')[0],
+        packets = [most_asked(words.proved, ['close', str(number)], shim, 'close-packets ')[0],
                    most_asked(words.plain, [str(number), 'close'], shim, 'close ')[0]]
     each = [most / count for most, count in zip((ours, theirs), entries)]
     beyond = [(most - medium_of(number, 32)) / 1e6 for most in recorded]

@@ -1,4 +1,4 @@
-//! The measuring.
+//! The measuring of a lane and a builder.
 
 ghost use Rattle.std.specs.Prelude.{◌≡◌, ◌≤◌, IfOk, OnOk};
 ghost use Rattle.r10_lane.specs.Lanes.{reached};
@@ -6,7 +6,7 @@ ghost use Rattle.r10_bench.specs.Behind.{IsBehind};
 
 use crate::copy::copy_all;
 use crate::fault::BenchFault;
-use crate::figures::{BenchFigures, Packets};
+use crate::figures::{Packets, lap, show};
 use crate::messages::make;
 use crate::path::{offer_all, pack_all};
 use r10_body::{ChannelSpec, Kind};
@@ -30,12 +30,18 @@ const CHANNEL: ChannelSpec = ChannelSpec {
     bits: 0,
 };
 
-/// Where messages go: their bytes to `copied`, and then they to the lane and the builder.
+/// Where messages go: their bytes to `copied`, and then they to the lane and the builder. And what was measured of that.
 #[derive(Drop)]
 struct Bench {
     copied: Vec<u8>,
     lane: RingLane,
     builder: Builder,
+    messages: u64,
+    packets: Packets,
+    /// Processor time of the plain copy.
+    copying: u64,
+    /// Processor time of lane and builder.
+    packing: u64,
 }
 
 impl Bench {
@@ -48,6 +54,13 @@ impl Bench {
             copied: Vec::with_capacity(alloc, CHANNEL.bytes)?,
             lane: RingLane::new(alloc, CHANNEL)?,
             builder,
+            messages: 0,
+            packets: Packets {
+                number: 0,
+                bytes: 0,
+            },
+            copying: 0,
+            packing: 0,
         })
     }
 
@@ -57,40 +70,53 @@ impl Bench {
         rt: &R,
         alloc: Global,
         numbers: Range<u32>,
-        figures: &mut BenchFigures,
     ) -> Result<(), BenchFault>
         requires { IsBehind self.old.lane.spec (reached self.old.lane) self.old.builder }
         ensures { OnOk result (IsBehind self.new.lane.spec (reached self.new.lane) self.new.builder) }
     {
         let messages = make(alloc, numbers, &[0x55; 8])?;
-        let start = rt.thread_cpu_time()?;
+        let mut last = 0;
+        lap(rt, &mut last);
         copy_all(messages.as_slice(), &mut self.copied);
-        let middle = rt.thread_cpu_time()?;
+        let copying = lap(rt, &mut last);
         offer_all(messages, &mut self.lane)?;
-        let number = pack_all(&mut self.lane, &mut self.builder, &mut figures.packets);
-        let end = rt.thread_cpu_time()?;
-        figures.messages = figures.messages.saturating_add(number);
-        figures.copying = figures.copying.saturating_add(middle.saturating_sub(start));
-        figures.packing = figures.packing.saturating_add(end.saturating_sub(middle));
+        let number = pack_all(&mut self.lane, &mut self.builder, &mut self.packets);
+        self.messages = self.messages.saturating_add(number);
+        self.copying = self.copying.saturating_add(copying);
+        self.packing = self.packing.saturating_add(lap(rt, &mut last));
         Ok(())
     }
 }
 
-/// Sends so many messages through a lane and a builder, and copies their bytes.
-pub fn run<R: CpuClock>(rt: &R, alloc: Global, number: u32) -> Result<BenchFigures, BenchFault>
-    ensures { IfOk result (λ figures. figures.messages ≡ number) }
+/// Sends so many messages through a lane and a builder, and copies their bytes. Answers how many came through.
+pub(crate) fn run<R: Print + CpuClock>(
+    rt: &R,
+    alloc: Global,
+    number: u32,
+) -> Result<u64, BenchFault>
+    ensures { IfOk result (λ messages. messages ≡ number) }
 {
     let mut bench = Bench::new(alloc)?;
-    let mut figures = BenchFigures::default();
     for first in (0..number).step_by(BATCH) {
         let next = number.min(first.saturating_add(BATCH as u32));
-        bench.round(rt, alloc, first..next, &mut figures)?;
+        bench.round(rt, alloc, first..next)?;
     }
     if let Some(closed) = bench.builder.flush() {
-        figures.packets.add(&closed);
+        bench.packets.add(&closed);
     }
-    if figures.messages != u64::from(number) {
+    let (messages, packets) = (bench.messages, bench.packets);
+    if messages != u64::from(number) {
         return Err(BenchFault::Lost);
     }
-    Ok(figures)
+    let bytes = messages.saturating_mul(8);
+    let figures = [
+        ("channel-packets", packets.number, "packets", 0),
+        ("channel-file", packets.bytes, "bytes", 0),
+        ("copy", messages, "messages", bench.copying),
+        ("copy-bytes", bytes, "bytes", bench.copying),
+        ("channel", messages, "messages", bench.packing),
+        ("channel-bytes", bytes, "bytes", bench.packing),
+    ];
+    show(rt, true, &figures)?;
+    Ok(messages)
 }

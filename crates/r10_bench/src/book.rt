@@ -3,30 +3,18 @@
 ghost use Rattle.std.specs.Prelude.{◌≡◌, ◌≤◌, length, IfOk};
 
 use crate::fault::BenchFault;
+use crate::figures::{lap, show};
 use r10_count::Count;
 use r10_index::{IndexBook, IndexPlace};
 use r10_indexbody::NodeEntry;
-use std::alloc::Global;
-use std::fmt;
-use std::time::{CpuClock, Duration};
+use std::alloc::{AllocError, Global};
+use std::time::CpuClock;
 
 /// How many packets a book has at most.
 const MOST: u32 = 10_000_000;
 
 /// How many counts a packet begins after the one before it.
 const STEP: u64 = 20_000;
-
-/// What was measured.
-#[derive(Clone, Copy, Default)]
-pub struct BookFigures {
-    /// How many packets the book has, and how often it was searched for what one of them has.
-    pub packets: u32,
-    pub candidates: u64,
-    /// The bytes of the index.
-    pub bytes: u64,
-    pub searching: Duration,
-    pub writing: Duration,
-}
 
 /// What a node says of the packet of this number, on one of four channels.
 fn entry(number: u32) -> NodeEntry {
@@ -42,7 +30,7 @@ fn entry(number: u32) -> NodeEntry {
 }
 
 /// A book of so many packets.
-fn fill(alloc: Global, packets: u32) -> Result<IndexBook, BenchFault>
+fn fill(alloc: Global, packets: u32) -> Result<IndexBook, AllocError>
     ensures { IfOk result (λ book. length book.entries ≡ packets) }
 {
     let mut book = IndexBook::new(alloc);
@@ -52,31 +40,24 @@ fn fill(alloc: Global, packets: u32) -> Result<IndexBook, BenchFault>
     Ok(book)
 }
 
-/// How many candidates there are for a count on a channel.
-fn count_candidates(book: &IndexBook, sought: NodeEntry) -> u64 {
-    let mut left = book.candidates(Some(sought.channel), sought.counter, sought.counter);
-    let mut number = 0u64;
-    for _ in 0..MOST {
-        if left.next().is_none() {
-            break;
-        }
-        number = number.wrapping_add(1);
-    }
-    number
-}
-
 /// Searches for what each packet begins with, here and there in the file, and answers how many candidates that gave.
 fn search(book: &IndexBook, packets: u32) -> u64 {
     let mut found = 0u64;
     for number in 0..packets {
-        let place = number.wrapping_mul(7919) % packets;
-        found = found.wrapping_add(count_candidates(book, entry(place)));
+        let sought = entry(number.wrapping_mul(7919) % packets);
+        let mut left = book.candidates(Some(sought.channel), sought.counter, sought.counter);
+        for _ in 0..MOST {
+            if left.next().is_none() {
+                break;
+            }
+            found = found.wrapping_add(1);
+        }
     }
     found
 }
 
 /// Writes nodes and roots into one buffer, one after the other, in groups of 32,765 nodes, and answers how many bytes they have.
-fn write_index(alloc: Global, book: &IndexBook) -> Result<u64, BenchFault>
+fn write_index(alloc: Global, book: &IndexBook) -> Result<u64, AllocError>
     requires { length book.now.entries ≤ MOST }
 {
     let counter = entry(0).counter;
@@ -91,31 +72,23 @@ fn write_index(alloc: Global, book: &IndexBook) -> Result<u64, BenchFault>
 }
 
 /// Searches in the book of so many packets, and writes the index of it.
-pub fn run<R: CpuClock>(rt: &R, alloc: Global, number: u32) -> Result<BookFigures, BenchFault> {
+pub(crate) fn run<R: Print + CpuClock>(
+    rt: &R,
+    alloc: Global,
+    number: u32,
+) -> Result<(), BenchFault> {
     let packets = number.min(MOST);
     let book = fill(alloc, packets)?;
-    let start = rt.thread_cpu_time()?;
+    let mut last = 0;
+    lap(rt, &mut last);
     let candidates = search(&book, packets);
-    let middle = rt.thread_cpu_time()?;
+    let searching = lap(rt, &mut last);
     let bytes = write_index(alloc, &book)?;
-    let end = rt.thread_cpu_time()?;
-    Ok(BookFigures {
-        packets,
-        candidates,
-        bytes,
-        searching: middle.saturating_sub(start),
-        writing: end.saturating_sub(middle),
-    })
-}
-
-impl fmt::Display for BookFigures {
-    fn fmt<W: fmt::Write>(&self, f: &mut fmt::Formatter<W>) -> fmt::Result {
-        let (packets, candidates, bytes) = (self.packets, self.candidates, self.bytes);
-        let (searching, writing) = (self.searching.as_micros(), self.writing.as_micros());
-        writeln!(
-            f,
-            "{packets} searches for one of as many packets: {candidates} candidates in {searching} us"
-        )?;
-        writeln!(f, "their index: {bytes} bytes in {writing} us")
-    }
+    let writing = lap(rt, &mut last);
+    let figures = [
+        ("book-search", u64::from(packets), "searches", searching),
+        ("book-candidates", candidates, "candidates", 0),
+        ("book-index", bytes, "bytes", writing),
+    ];
+    show(rt, true, &figures)
 }

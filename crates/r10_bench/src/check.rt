@@ -1,16 +1,15 @@
 //! Files judged: how long the verdict on a file of one kind of messages takes.
 
 use crate::fault::BenchFault;
-use crate::figures::a_second;
+use crate::figures::{lap, show};
 use r10_body::Kind;
 use r10_checker::{Verdict, check_file};
 use r10_count::{Civil, Count, Parts};
 use r10_packet::{Check, Header, Packet};
 use r10_setup::SetupBody;
 use r10_timebody::TimeBody;
-use std::alloc::Global;
-use std::fmt;
-use std::time::{CpuClock, Duration};
+use std::alloc::{AllocError, Global};
+use std::time::CpuClock;
 
 /// How many bytes a file has at most, and how many for each message that is asked for.
 const MOST: usize = 0x2000_0000;
@@ -25,148 +24,140 @@ const TEXT: [u8; 1024] = [0x55; 1024];
 
 /// What a file has.
 #[derive(Clone, Copy)]
-pub struct Shape {
-    pub kind: Kind,
-    /// What its messages are called.
-    pub name: &'static str,
-    pub channels: u16,
-    /// The packet flags that tell the data checksum.
-    pub flags: u8,
+pub(crate) struct Shape {
+    /// What is printed: the kind, the channels, the packet flags that tell the data checksum, and the bytes of a message.
+    name: &'static str,
+    kind: Kind,
+    channels: u16,
+    flags: u8,
     /// How many bytes a message has, after its stamp and its header.
-    pub message: usize,
+    message: usize,
+    /// Stamp and header of a message, at count 0.
+    front: &'static [u8],
+    /// The channel specific data word, or 0 where it is the number of messages.
+    word: u32,
 }
 
+/// What a file of UART messages has, and what others have in common with it.
+const UART: Shape = Shape {
+    name: "judge-uart-4-3-1024",
+    kind: Kind::Uart,
+    channels: 4,
+    flags: 3,
+    message: 1024,
+    front: &[0, 0, 0, 0, 0, 0, 0, 0, 0, 4, 0, 0],
+    word: 0x8000_0000,
+};
+
 /// The files that are judged.
-pub const SHAPES: [Shape; 11] = [
+pub(crate) const SHAPES: [Shape; 11] = [
+    UART,
     Shape {
-        kind: Kind::Uart,
-        name: "UART messages",
-        channels: 4,
-        flags: 3,
-        message: 1024,
-    },
-    Shape {
-        kind: Kind::Uart,
-        name: "UART messages",
-        channels: 4,
+        name: "judge-uart-4-2-1024",
         flags: 2,
-        message: 1024,
+        ..UART
     },
     Shape {
-        kind: Kind::Uart,
-        name: "UART messages",
+        name: "judge-uart-256-3-1024",
         channels: 256,
-        flags: 3,
-        message: 1024,
+        ..UART
     },
     Shape {
-        kind: Kind::Uart,
-        name: "UART messages",
+        name: "judge-uart-256-2-1024",
         channels: 256,
         flags: 2,
-        message: 1024,
+        ..UART
     },
     Shape {
-        kind: Kind::Uart,
-        name: "UART messages",
-        channels: 4,
-        flags: 3,
+        name: "judge-uart-4-3-64",
         message: 64,
+        front: &[0, 0, 0, 0, 0, 0, 0, 0, 64, 0, 0, 0],
+        ..UART
     },
     Shape {
-        kind: Kind::Uart,
-        name: "UART messages",
-        channels: 4,
-        flags: 3,
+        name: "judge-uart-4-3-8",
         message: 8,
+        front: &[0, 0, 0, 0, 0, 0, 0, 0, 8, 0, 0, 0],
+        ..UART
     },
     Shape {
+        name: "judge-message-4-3-64",
         kind: Kind::Message,
-        name: "message channel messages",
-        channels: 4,
-        flags: 3,
         message: 64,
+        front: &[0, 0, 0, 0, 0, 0, 0, 0, 64, 0, 0, 0],
+        word: 0,
+        ..UART
     },
     Shape {
+        name: "judge-bus-4-3-4",
         kind: Kind::Bus1553,
-        name: "MIL-STD-1553 messages",
-        channels: 4,
-        flags: 3,
         message: 4,
+        front: &[0, 0, 0, 0, 0, 0, 0, 0, 0, 0, 0, 0, 4, 0],
+        word: 0,
+        ..UART
     },
     Shape {
+        name: "judge-bus-4-3-64",
         kind: Kind::Bus1553,
-        name: "MIL-STD-1553 messages",
-        channels: 4,
-        flags: 3,
         message: 64,
+        front: &[0, 0, 0, 0, 0, 0, 0, 0, 0, 0, 0, 0, 64, 0],
+        word: 0,
+        ..UART
     },
     Shape {
+        name: "judge-arinc-4-3-4",
         kind: Kind::Arinc,
-        name: "ARINC 429 words",
-        channels: 4,
-        flags: 3,
         message: 4,
+        front: &[0, 0, 0, 0],
+        word: 0,
+        ..UART
     },
     Shape {
+        name: "judge-discrete-4-3-4",
         kind: Kind::Discrete,
-        name: "discrete states",
-        channels: 4,
-        flags: 3,
         message: 4,
+        front: &[0, 0, 0, 0, 0, 0, 0, 0],
+        word: 8 * 31,
+        ..UART
     },
 ];
 
-/// How long the verdict on a file took.
-#[derive(Clone, Copy)]
-pub struct CheckFigures {
-    pub shape: Shape,
-    pub bytes: u64,
-    pub judging: Duration,
-}
-
-/// The count of each packet and each message.
-fn start() -> Count {
-    let Some(count) = Count::of(0) else {
-        unreachable!()
-    };
-    count
-}
-
-/// Adds a packet of a body.
+/// Adds a packet of a body, at count 0.
 fn push_packet(
     alloc: Global,
-    header: &Header,
+    channel: u16,
+    data_type: u8,
+    sequence: u8,
+    flags: u8,
     body: &[u8],
     file: &mut Vec<u8>,
 ) -> Result<(), BenchFault> {
-    let width = Check::of_flags(header.flags).width();
+    let width = Check::of_flags(flags).width();
     if body.len() > 524_264 - width {
         return Err(BenchFault::Lost);
     }
-    let packet = Packet::frame(alloc, header, body)?;
-    file.extend_from_slice(packet.as_slice())?;
-    Ok(())
-}
-
-/// The header of a packet at count 0.
-fn header(channel: u16, data_type: u8) -> Header {
-    Header {
+    let Some(counter) = Count::of(0) else {
+        unreachable!()
+    };
+    let header = Header {
         channel,
         packet_len: 0,
         data_len: 0,
         version: 8,
-        sequence: 0,
-        flags: 0,
+        sequence,
+        flags,
         data_type,
-        counter: start(),
-    }
+        counter,
+    };
+    let packet = Packet::frame(alloc, &header, body)?;
+    file.extend_from_slice(packet.as_slice())?;
+    Ok(())
 }
 
 /// Adds setup and time.
 fn push_start(alloc: Global, file: &mut Vec<u8>) -> Result<(), BenchFault> {
     let setup = SetupBody { text: &[] }.encode(alloc)?;
-    push_packet(alloc, &header(0, 0x01), setup.as_slice(), file)?;
+    push_packet(alloc, 0, 0x01, 0, 0, setup.as_slice(), file)?;
     let parts = Parts {
         year: 2026,
         month: 11,
@@ -179,39 +170,23 @@ fn push_start(alloc: Global, file: &mut Vec<u8>) -> Result<(), BenchFault> {
     let Some(civil) = Civil::of(parts) else {
         return Err(BenchFault::Lost);
     };
-    push_packet(alloc, &header(1, 0x11), &TimeBody { civil }.encode(), file)
-}
-
-/// What stands in front of a message of so many bytes: the stamp and the header of count 0, and how many bytes these have.
-fn front(kind: Kind, size: u16) -> ([u8; 14], usize) {
-    let [low, high] = size.to_le_bytes();
-    match kind {
-        Kind::Uart | Kind::Message => ([0, 0, 0, 0, 0, 0, 0, 0, low, high, 0, 0, 0, 0], 12),
-        Kind::Bus1553 => ([0, 0, 0, 0, 0, 0, 0, 0, 0, 0, 0, 0, low, high], 14),
-        Kind::Arinc => ([0; 14], 4),
-        Kind::Discrete => ([0; 14], 8),
-    }
-}
-
-/// The channel specific data word of so many messages, or of 31 discretes.
-fn word(kind: Kind, number: u32) -> u32 {
-    match kind {
-        Kind::Uart => 0x8000_0000,
-        Kind::Bus1553 | Kind::Arinc | Kind::Message => number,
-        Kind::Discrete => 8 * 31,
-    }
+    push_packet(alloc, 1, 0x11, 0, 0, &TimeBody { civil }.encode(), file)
 }
 
 /// The body of a packet of messages.
-fn make_body(alloc: Global, shape: &Shape) -> Result<Vec<u8>, BenchFault> {
+fn make_body(alloc: Global, shape: &Shape) -> Result<Vec<u8>, AllocError> {
     let text = &TEXT[..shape.message.min(1024)];
-    let (front, size) = front(shape.kind, text.len() as u16);
-    let front = &front[..size.min(14)];
-    let number = PACKET / (front.len() + text.len() + 2);
+    let size = shape.front.len().saturating_add(text.len());
+    let number = PACKET / size.saturating_add(2).max(1);
+    let word = if shape.word == 0 {
+        number as u32
+    } else {
+        shape.word
+    };
     let mut body = Vec::with_capacity(alloc, PACKET)?;
-    body.extend_from_slice(&word(shape.kind, number as u32).to_le_bytes())?;
+    body.extend_from_slice(&word.to_le_bytes())?;
     for _ in 0..number {
-        body.extend_from_slice(front)?;
+        body.extend_from_slice(shape.front)?;
         body.extend_from_slice(text)?;
     }
     Ok(body)
@@ -225,53 +200,33 @@ fn make_file(alloc: Global, shape: &Shape, bytes: usize) -> Result<Vec<u8>, Benc
     let channels = usize::from(shape.channels.max(1));
     for number in 0..bytes / body.len().saturating_add(28) {
         let channel = ((number % channels) as u16).wrapping_add(2);
-        let header = Header {
-            sequence: (number / channels % 256) as u8,
-            flags: shape.flags,
-            ..header(channel, shape.kind.data_type())
-        };
-        push_packet(alloc, &header, body.as_slice(), &mut file)?;
+        let sequence = (number / channels % 256) as u8;
+        push_packet(
+            alloc,
+            channel,
+            shape.kind.data_type(),
+            sequence,
+            shape.flags,
+            body.as_slice(),
+            &mut file,
+        )?;
     }
     Ok(file)
 }
 
 /// Judges a file of this shape, as long as so many messages.
-pub fn run<R: CpuClock>(
+pub(crate) fn run<R: Print + CpuClock>(
     rt: &R,
     alloc: Global,
     shape: &Shape,
     number: u32,
-) -> Result<CheckFigures, BenchFault> {
+) -> Result<(), BenchFault> {
     let bytes = (number as usize).min(MOST / SHARE) * SHARE;
     let file = make_file(alloc, shape, bytes)?;
-    let start = rt.thread_cpu_time()?;
+    let mut last = 0;
+    lap(rt, &mut last);
     let verdict = check_file(alloc, file.as_slice())?;
-    let end = rt.thread_cpu_time()?;
-    if verdict != Verdict::Strict {
-        return Err(BenchFault::Lost);
-    }
-    Ok(CheckFigures {
-        shape: *shape,
-        bytes: file.len() as u64,
-        judging: end.saturating_sub(start),
-    })
-}
-
-impl fmt::Display for CheckFigures {
-    fn fmt<W: fmt::Write>(&self, f: &mut fmt::Formatter<W>) -> fmt::Result {
-        let Shape {
-            name,
-            channels,
-            flags,
-            message,
-            ..
-        } = self.shape;
-        let (bytes, millis) = (self.bytes, self.judging.as_millis());
-        let rate = a_second(bytes, self.judging);
-        writeln!(
-            f,
-            "judging {bytes} bytes, {channels:>3} channels, checksum {flags}, \
-            {name} of {message:>4} bytes: {millis:>6} ms {rate:>12} bytes/s"
-        )
-    }
+    let judging = lap(rt, &mut last);
+    let figure = (shape.name, file.len() as u64, "bytes", judging);
+    show(rt, verdict == Verdict::Strict, &[figure])
 }

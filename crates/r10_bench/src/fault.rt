@@ -10,7 +10,7 @@ use thiserror::Error;
 pub enum BenchFault {
     #[error("out of memory")]
     Memory(#[from] AllocError),
-    /// The clock, the command line or the output failed.
+    /// The command line or the output failed.
     #[error("{0}")]
     System(#[from] io::Error),
     /// A lane refused a message, or the recorder a call.
@@ -19,6 +19,8 @@ pub enum BenchFault {
     /// A recorder can't be set up so.
     #[error("the settings are out of their limits")]
     Settings,
+    #[error("the clock failed")]
+    Clock,
     #[error("messages were lost")]
     Lost,
 }

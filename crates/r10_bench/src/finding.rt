@@ -1,14 +1,13 @@
 //! How long it takes to find an entry in a file of many packets that is still recorded, in processor time.
 
 use crate::fault::BenchFault;
-use crate::figures::a_second;
+use crate::figures::{lap, show};
 use crate::mounted::{InMemory, begin, channel_of};
-use crate::whole::{LENGTH, TEXT, make_round, record, rounds};
+use crate::whole::{LENGTH, TEXT, fill};
 use r10_body::Refusal;
 use r10_machine::Found;
 use std::alloc::Global;
-use std::fmt;
-use std::time::{CpuClock, Duration};
+use std::time::CpuClock;
 
 /// How many packets a file has at most.
 const MOST: u32 = 10_000_000;
@@ -16,45 +15,12 @@ const MOST: u32 = 10_000_000;
 /// How often an entry is looked for.
 const SEARCHES: u32 = 10_000;
 
-/// How many counts a message comes after the one before it, which is on another of the four channels: 2 ms and 200 us.
-pub const STEPS: [u64; 2] = [20_000, 2_000];
-
-/// What was measured.
-#[derive(Clone, Copy, Default)]
-pub struct FindFigures {
-    /// How many counts lie between two messages.
-    pub step: u64,
-    /// How many packets with a message each the file has.
-    pub packets: u32,
-    /// How many searches there were.
-    pub searches: u32,
-    /// Processor time of recording the packets.
-    pub recording: Duration,
-    /// Processor time of all searches.
-    pub finding: Duration,
-}
-
-/// Records so many packets of one message each, so many counts apart, and answers the processor time of that.
-pub(crate) fn fill<R: CpuClock>(
-    rt: &R,
-    alloc: Global,
-    recorder: &mut InMemory,
-    packets: u32,
-    step: u64,
-) -> Result<Duration, BenchFault> {
-    let mut recording = Duration::default();
-    for round in 0..rounds(packets) {
-        let messages = make_round(alloc, round, packets, &TEXT)?;
-        let start = rt.thread_cpu_time()?;
-        record(recorder, messages, step)?;
-        let time = rt.thread_cpu_time()?.saturating_sub(start);
-        recording = recording.saturating_add(time);
-    }
-    let start = rt.thread_cpu_time()?;
-    recorder.commit()?;
-    let time = rt.thread_cpu_time()?.saturating_sub(start);
-    Ok(recording.saturating_add(time))
-}
+/// How many counts a message comes after the one before it, which is on another of the four channels: 2 ms and 200 us. And what the
+/// figures are called.
+pub(crate) const STEPS: [(u64, &str, &str); 2] = [
+    (20_000, "packets-20000", "find-20000"),
+    (2_000, "packets-2000", "find-2000"),
+];
 
 /// Whether something was found, and at this count.
 fn is_at(found: &Option<Found>, count: u64) -> bool {
@@ -64,59 +30,38 @@ fn is_at(found: &Option<Found>, count: u64) -> bool {
     }
 }
 
-/// Whether the message of this number is found by its channel and count.
-fn is_found(recorder: &mut InMemory, number: u64, step: u64) -> Result<bool, Refusal> {
-    let count = number.saturating_mul(step);
-    let found = recorder.find(0, channel_of(number), count)?;
-    Ok(is_at(&found, count))
-}
-
-/// Looks for messages here and there in the file, and answers how many were found.
+/// Looks for messages here and there in the file by their channel and count, and answers how many were found.
 fn find_all(recorder: &mut InMemory, packets: u32, step: u64) -> Result<u32, Refusal> {
-    let mut found = 0u32;
+    let mut seen = 0u32;
     for search in 0..SEARCHES {
-        let number = search.wrapping_mul(7919) % packets.max(1);
-        if is_found(recorder, u64::from(number), step)? {
-            found = found.wrapping_add(1);
+        let number = u64::from(search.wrapping_mul(7919) % packets.max(1));
+        let count = number.saturating_mul(step);
+        let found = recorder.find(0, channel_of(number), count)?;
+        if is_at(&found, count) {
+            seen = seen.wrapping_add(1);
         }
     }
-    Ok(found)
+    Ok(seen)
 }
 
 /// Records so many packets with a message each, so many counts apart, and finds messages of them.
-pub fn run<R: CpuClock>(
+pub(crate) fn run<R: Print + CpuClock>(
     rt: &R,
     alloc: Global,
-    step: u64,
+    step: &(u64, &'static str, &'static str),
     number: u32,
-) -> Result<FindFigures, BenchFault> {
+) -> Result<(), BenchFault> {
+    let (step, packets_name, find_name) = *step;
     let packets = number.clamp(1, MOST);
     let mut recorder = begin(alloc, packets, LENGTH, 1)?;
-    let recording = fill(rt, alloc, &mut recorder, packets, step)?;
-    let start = rt.thread_cpu_time()?;
+    let recording = fill(rt, alloc, &mut recorder, 0..packets, &TEXT, step, true)?;
+    let mut last = 0;
+    lap(rt, &mut last);
     let found = find_all(&mut recorder, packets, step)?;
-    let finding = rt.thread_cpu_time()?.saturating_sub(start);
-    if found != SEARCHES {
-        return Err(BenchFault::Lost);
-    }
-    Ok(FindFigures {
-        step,
-        packets,
-        searches: SEARCHES,
-        recording,
-        finding,
-    })
-}
-
-impl fmt::Display for FindFigures {
-    fn fmt<W: fmt::Write>(&self, f: &mut fmt::Formatter<W>) -> fmt::Result {
-        let (packets, step, searches) = (self.packets, self.step, self.searches);
-        let rate = a_second(u64::from(packets), self.recording);
-        let nanos = self.finding.as_nanos() / u128::from(searches.max(1));
-        writeln!(
-            f,
-            "find: {packets} packets of a message each, {step} counts apart, recorded at {rate} packets/s: {nanos} ns each of \
-            {searches} searches"
-        )
-    }
+    let finding = lap(rt, &mut last);
+    let figures = [
+        (packets_name, u64::from(packets), "packets", recording),
+        (find_name, u64::from(SEARCHES), "searches", finding),
+    ];
+    show(rt, found == SEARCHES, &figures)
 }

@@ -1,7 +1,7 @@
 //! Lanes of one thread and between two, for messages without bytes.
 
 use crate::fault::BenchFault;
-use crate::figures::{HandingFigures, LaneFigures};
+use crate::figures::{lap, show};
 use r10_body::{ChannelSpec, Kind, Message};
 use r10_count::{Bytes, Count};
 use r10_lane::{LaneOut, RingLane};
@@ -11,7 +11,7 @@ use std::sync::Wait;
 use std::sync::atomic::{AtomicBool, Ordering};
 use std::thread;
 use std::thread::Threads;
-use std::time::{Clock, CpuClock, Duration, Instant};
+use std::time::{Clock, CpuClock, Instant};
 
 /// How many messages go through a lane at once.
 const BATCH: u32 = 1024;
@@ -45,24 +45,19 @@ impl Inlet for Port {
     }
 }
 
-/// Offers the message of this number, and says whether it was accepted.
-fn offer<I: Inlet>(inlet: &mut I, alloc: Global, number: u32) -> bool {
-    let Some(count) = Count::of(u64::from(number)) else {
-        unreachable!()
-    };
-    let message = Message::Uart {
-        parity: false,
-        sub: 0,
-        bytes: Bytes::of(Vec::new(alloc)),
-    };
-    inlet.accepts(count, message)
-}
-
-/// Offers the messages of these numbers, and answers how many were accepted.
+/// Offers the messages before this number, from another on, and answers how many were accepted.
 fn offer_all<I: Inlet>(inlet: &mut I, alloc: Global, first: u32, next: u32) -> u64 {
     let mut accepted = 0u64;
     for number in first..next {
-        if offer(inlet, alloc, number) {
+        let Some(count) = Count::of(u64::from(number)) else {
+            unreachable!()
+        };
+        let message = Message::Uart {
+            parity: false,
+            sub: 0,
+            bytes: Bytes::of(Vec::new(alloc)),
+        };
+        if inlet.accepts(count, message) {
             accepted = accepted.wrapping_add(1);
         }
     }
@@ -81,41 +76,51 @@ fn take_all<L: LaneOut>(lane: &mut L) -> u64 {
 }
 
 /// Sends so many messages through a lane of one thread, a batch at a time.
-fn through_lane<R: CpuClock>(
+pub(crate) fn through_lane<R: Print + CpuClock>(
     rt: &R,
     alloc: Global,
     number: u32,
-) -> Result<HandingFigures, BenchFault> {
+) -> Result<(), BenchFault> {
+    let (mut last, mut accepted, mut taken) = (0, 0u64, 0u64);
+    let (mut offering, mut taking) = (0u64, 0u64);
     let mut lane = RingLane::new(alloc, CHANNEL)?;
-    let mut handing = HandingFigures::default();
     for first in (0..number).step_by(BATCH as usize) {
         let next = number.min(first.saturating_add(BATCH));
-        let start = rt.thread_cpu_time()?;
-        let accepted = offer_all(&mut lane, alloc, first, next);
-        let middle = rt.thread_cpu_time()?;
-        let taken = take_all(&mut lane);
-        handing.add([start, middle, rt.thread_cpu_time()?], accepted, taken);
+        lap(rt, &mut last);
+        accepted = accepted.saturating_add(offer_all(&mut lane, alloc, first, next));
+        offering = offering.saturating_add(lap(rt, &mut last));
+        taken = taken.saturating_add(take_all(&mut lane));
+        taking = taking.saturating_add(lap(rt, &mut last));
     }
-    Ok(handing)
+    let figures = [
+        ("lane-offers", accepted, "messages", offering),
+        ("lane-takes", taken, "messages", taking),
+    ];
+    show(rt, true, &figures)
 }
 
 /// The same through a lane between threads, with both ends in this one.
-fn through_ports<R: CpuClock>(
+pub(crate) fn through_ports<R: Print + CpuClock>(
     rt: &R,
     alloc: Global,
     number: u32,
-) -> Result<HandingFigures, BenchFault> {
+) -> Result<(), BenchFault> {
+    let (mut last, mut accepted, mut taken) = (0, 0u64, 0u64);
+    let (mut offering, mut taking) = (0u64, 0u64);
     let (mut port, mut outlet) = lane(alloc, CHANNEL)?;
-    let mut handing = HandingFigures::default();
     for first in (0..number).step_by(BATCH as usize) {
         let next = number.min(first.saturating_add(BATCH));
-        let start = rt.thread_cpu_time()?;
-        let accepted = offer_all(&mut port, alloc, first, next);
-        let middle = rt.thread_cpu_time()?;
-        let taken = take_all(&mut outlet);
-        handing.add([start, middle, rt.thread_cpu_time()?], accepted, taken);
+        lap(rt, &mut last);
+        accepted = accepted.saturating_add(offer_all(&mut port, alloc, first, next));
+        offering = offering.saturating_add(lap(rt, &mut last));
+        taken = taken.saturating_add(take_all(&mut outlet));
+        taking = taking.saturating_add(lap(rt, &mut last));
     }
-    Ok(handing)
+    let figures = [
+        ("port-offers", accepted, "messages", offering),
+        ("outlet-takes", taken, "messages", taking),
+    ];
+    show(rt, true, &figures)
 }
 
 /// Offers all messages, and answers how many were accepted.
@@ -144,45 +149,29 @@ fn receive(rt: &impl Wait, outlet: Outlet, done: &AtomicBool) -> u64 {
     taken
 }
 
-/// Sends so many messages from one thread to another, and answers how many were accepted and taken.
-fn cross<R: Threads + Wait + Sync>(
+/// Sends so many messages from one thread to another: how many were accepted, in which time that passed.
+pub(crate) fn cross<R: Print + Clock + Threads + Wait + Sync>(
     rt: &R,
     alloc: Global,
     number: u32,
-) -> Result<(u64, u64), BenchFault> {
+) -> Result<(), BenchFault> {
     let spec = ChannelSpec {
         capacity: 65_536,
         ..CHANNEL
     };
+    let start = Instant::now(rt)?;
     let (port, outlet) = lane(alloc, spec)?;
     let done = AtomicBool::new(false);
     let flag = &done;
-    Ok(thread::join(
+    let (accepted, taken) = thread::join(
         rt,
         move || send(alloc, port, number, flag),
         move || receive(rt, outlet, flag),
-    ))
-}
-
-/// Sends so many messages through lanes of each kind.
-pub fn run<R: CpuClock + Clock + Threads + Wait + Sync>(
-    rt: &R,
-    alloc: Global,
-    number: u32,
-) -> Result<LaneFigures, BenchFault> {
-    let lane = through_lane(rt, alloc, number)?;
-    let ports = through_ports(rt, alloc, number)?;
-    let start = Instant::now(rt)?;
-    let (accepted, taken) = cross(rt, alloc, number)?;
-    let crossing = start.elapsed(rt)?;
-    if accepted != taken {
-        return Err(BenchFault::Lost);
-    }
-    Ok(LaneFigures {
-        lane,
-        ports,
-        offered: u64::from(number),
-        accepted,
-        crossing,
-    })
+    );
+    let passed = start.elapsed(rt)?.as_nanos().min(u128::from(u64::MAX)) as u64;
+    let figures = [
+        ("crossing-offers", u64::from(number), "messages", 0),
+        ("crossing", accepted, "messages", passed),
+    ];
+    show(rt, accepted == taken, &figures)
 }

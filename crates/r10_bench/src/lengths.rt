@@ -3,7 +3,6 @@
 
 use crate::fault::BenchFault;
 use crate::whole;
-use crate::whole::WholeFigures;
 use std::alloc::Global;
 use std::time::CpuClock;
 
@@ -14,27 +13,18 @@ pub(crate) const LENGTHS: [u16; 9] = [8, 16, 32, 39, 64, 255, 256, 1000, 60_000]
 /// The least number of messages.
 const LEAST: u64 = 1024;
 
-/// How many messages of this length have as many bytes together as so many of 64 have, or that many, where they are shorter.
-fn how_many(length: u16, number: u32) -> u32 {
-    let same = u64::from(number) * 64 / u64::from(length).max(64);
-    same.clamp(LEAST, 4_294_967_295) as u32
-}
-
-/// Records messages of this length in a file, which is closed then.
-pub(crate) fn run<R: CpuClock>(
+/// Records messages of this length in a file, which is closed then: as many as have as many bytes together as so many of 64, or that
+/// many, where they are shorter.
+pub(crate) fn run<R: Print + CpuClock>(
     rt: &R,
     alloc: Global,
     length: u16,
     number: u32,
-) -> Result<WholeFigures, BenchFault> {
+) -> Result<(), BenchFault> {
+    let same = u64::from(number) * 64 / u64::from(length).max(64);
+    let messages = same.clamp(LEAST, 4_294_967_295) as u32;
     let mut text = Vec::new(alloc);
     text.resize(usize::from(length), 0x55)?;
-    let (figures, _recorder) = whole::run(
-        rt,
-        alloc,
-        how_many(length, number),
-        length,
-        text.as_slice(),
-    )?;
-    Ok(figures)
+    let _recorder = whole::run(rt, alloc, messages, length, text.as_slice())?;
+    Ok(())
 }

@@ -23,7 +23,6 @@ mod whole;
 
 pub use fault::BenchFault;
 use std::alloc::Global;
-use std::fmt::Display;
 use std::io;
 use std::process::ExitCode;
 use std::rt::Env;
@@ -31,85 +30,73 @@ use std::sync::Wait;
 use std::thread::Threads;
 use std::time::{Clock, CpuClock};
 
-/// What the command line asks for.
+/// What is measured.
 #[derive(Clone, Copy)]
-enum BenchRequest {
-    /// All parts, of so many messages.
-    All(u32),
-    /// Only the part that closes a file, of so many packets.
-    Close(u32),
+enum Part {
+    All,
+    /// Only the end of a file, of so many packets.
+    Close,
     /// Only the whole recorder, with messages of several lengths: so many of 64 bytes, of others as many bytes together.
-    Lengths(u32),
+    Lengths,
 }
 
-fn read_words<R: Env + AllocGlobal>(rt: &R) -> io::Result<Option<BenchRequest>> {
+/// The part and the number that the command line asks for.
+fn read_words<R: Env + AllocGlobal>(rt: &R) -> io::Result<Option<(Part, u32)>> {
     let mut words = std::env::args(rt)?;
     let Some(first) = words.nth(1) else {
         return Ok(None);
     };
-    let closes = first.as_str() == "close";
-    if !closes && first.as_str() != "lengths" {
-        let Ok(number) = first.parse() else {
-            return Ok(None);
-        };
-        return Ok(Some(BenchRequest::All(number)));
-    }
-    let Some(second) = words.next() else {
-        return Ok(None);
+    let part = if first.as_str() == "close" {
+        Part::Close
+    } else if first.as_str() == "lengths" {
+        Part::Lengths
+    } else {
+        Part::All
     };
-    let Ok(number) = second.parse() else {
-        return Ok(None);
-    };
-    if closes {
-        return Ok(Some(BenchRequest::Close(number)));
-    }
-    Ok(Some(BenchRequest::Lengths(number)))
-}
-
-/// Prints the figures of a part, if it has any.
-fn show<R: Print, F: Display + Drop>(
-    rt: &R,
-    part: Result<F, BenchFault>,
-) -> Result<(), BenchFault> {
-    match part {
-        Ok(figures) => match print!(rt; "{figures}") {
-            Ok(()) => Ok(()),
-            Err(fault) => Err(BenchFault::System(fault)),
+    let number = match part {
+        Part::All => first.parse().ok(),
+        Part::Close | Part::Lengths => match words.next() {
+            Some(second) => second.parse().ok(),
+            None => None,
         },
-        Err(fault) => Err(fault),
+    };
+    match number {
+        Some(number) => Ok(Some((part, number))),
+        None => Ok(None),
     }
 }
 
-/// The parts that need no recorder.
-fn show_parts<R: Print + CpuClock>(rt: &R, alloc: Global, number: u32) -> Result<(), BenchFault> {
-    show(rt, bench::run(rt, alloc, number))?;
-    show(rt, book::run(rt, alloc, number))
-}
-
-/// A whole recorder, and the replay of what it recorded.
-fn show_whole<R: Print + CpuClock>(rt: &R, alloc: Global, number: u32) -> Result<(), BenchFault> {
-    let (figures, recorder) = whole::run(rt, alloc, number, whole::LENGTH, &whole::TEXT)?;
-    let messages = figures.messages;
-    show(rt, Ok(figures))?;
-    show(rt, replay::run(rt, alloc, recorder, messages))?;
-    show(rt, replay::follow(rt, alloc, number))
-}
-
-/// Searches, the end of a file, and what judges one.
-fn show_files<R: Print + CpuClock>(rt: &R, alloc: Global, number: u32) -> Result<(), BenchFault> {
-    for step in finding::STEPS {
-        show(rt, finding::run(rt, alloc, step, number))?;
+/// All parts, of so many messages.
+fn measure_all<R: Print + Clock + CpuClock + Threads + Wait + Sync>(
+    rt: &R,
+    alloc: Global,
+    number: u32,
+) -> Result<(), BenchFault> {
+    bench::run(rt, alloc, number)?;
+    book::run(rt, alloc, number)?;
+    let recorder = whole::run(rt, alloc, number, whole::LENGTH, &whole::TEXT)?;
+    replay::run(rt, alloc, recorder, number)?;
+    replay::follow(rt, alloc, number)?;
+    for step in &finding::STEPS {
+        finding::run(rt, alloc, step, number)?;
     }
-    show(rt, closing::run(rt, alloc, number))?;
+    closing::run(rt, alloc, number)?;
     for shape in &check::SHAPES {
-        show(rt, check::run(rt, alloc, shape, number))?;
+        check::run(rt, alloc, shape, number)?;
     }
-    Ok(())
+    lanes::through_lane(rt, alloc, number)?;
+    lanes::through_ports(rt, alloc, number)?;
+    lanes::cross(rt, alloc, number)
 }
 
-fn show_lengths<R: Print + CpuClock>(rt: &R, alloc: Global, number: u32) -> Result<(), BenchFault> {
+/// Recording alone, with messages of each length.
+fn measure_lengths<R: Print + CpuClock>(
+    rt: &R,
+    alloc: Global,
+    number: u32,
+) -> Result<(), BenchFault> {
     for length in &lengths::LENGTHS {
-        show(rt, lengths::run(rt, alloc, *length, number))?;
+        lengths::run(rt, alloc, *length, number)?;
     }
     Ok(())
 }
@@ -121,14 +108,9 @@ pub fn measure<R: Env + AllocGlobal + Print + Clock + CpuClock + Threads + Wait 
 ) -> Result<ExitCode, BenchFault> {
     let alloc = rt.alloc();
     match read_words(rt)? {
-        Some(BenchRequest::All(number)) => {
-            show_parts(rt, alloc, number)?;
-            show_whole(rt, alloc, number)?;
-            show_files(rt, alloc, number)?;
-            show(rt, lanes::run(rt, alloc, number))?;
-        }
-        Some(BenchRequest::Close(number)) => show(rt, closing::run(rt, alloc, number))?,
-        Some(BenchRequest::Lengths(number)) => show_lengths(rt, alloc, number)?,
+        Some((Part::All, number)) => measure_all(rt, alloc, number)?,
+        Some((Part::Close, number)) => closing::run(rt, alloc, number)?,
+        Some((Part::Lengths, number)) => measure_lengths(rt, alloc, number)?,
         None => {
             println!(rt;
                 "usage: r10_bench MESSAGES, or r10_bench close PACKETS, or r10_bench lengths MESSAGES"

@@ -45,44 +45,32 @@ pub(crate) fn channel_of(number: u64) -> u16 {
     CHANNELS[(number % 4) as usize]
 }
 
-/// A channel of UART messages with a data checksum of 16 bits, and with so many in a packet at most.
-fn channel(id: u16, number: usize) -> ChannelSpec {
-    ChannelSpec {
-        id,
-        kind: Kind::Uart,
-        capacity: WAITING,
-        check: 16,
-        bytes: 524_288,
-        number,
-        bits: 0,
-    }
-}
+/// The first channel: UART messages with a data checksum of 16 bits.
+const CHANNEL: ChannelSpec = ChannelSpec {
+    id: 3,
+    kind: Kind::Uart,
+    capacity: WAITING,
+    check: 16,
+    bytes: 524_288,
+    number: 1,
+    bits: 0,
+};
 
-/// The channels, with so many messages in a packet at most.
-fn channels_for(alloc: Global, number: usize) -> Result<Vec<ChannelSpec>, AllocError> {
-    let mut channels = Vec::new(alloc);
-    for id in CHANNELS {
-        channels.push(channel(id, number))?;
-    }
-    Ok(channels)
-}
-
-/// The blocks of a medium with room for so many messages of so many bytes each.
-fn blocks_for(messages: u32, bytes: u16) -> usize {
-    let blocks = (COST + u64::from(bytes)) * u64::from(messages) / 512 + 64;
-    blocks.min(MOST_BLOCKS) as usize
-}
-
-/// Settings for so many messages of so many bytes each, of which so many stand in a packet at most.
+/// Settings for so many messages of so many bytes each, of which so many stand in a packet at most: the medium has room for them.
 fn settings_for(
     alloc: Global,
     messages: u32,
     bytes: u16,
     number: usize,
 ) -> Result<Settings, BenchFault> {
-    let channels = channels_for(alloc, number)?;
+    let three = ChannelSpec { number, ..CHANNEL };
+    let four = ChannelSpec { id: 4, ..three };
+    let five = ChannelSpec { id: 5, ..three };
+    let six = ChannelSpec { id: 6, ..three };
+    let channels = Vec::from_slice(alloc, &[three, four, five, six])?;
     let volume = Vec::from_slice(alloc, b"BENCH")?;
-    let blocks = blocks_for(messages, bytes);
+    let blocks = (COST + u64::from(bytes)) * u64::from(messages) / 512 + 64;
+    let blocks = blocks.min(MOST_BLOCKS) as usize;
     let Ok(settings) = Settings::of(blocks, 2, volume, 32_765, 1, 2, channels) else {
         return Err(BenchFault::Settings);
     };

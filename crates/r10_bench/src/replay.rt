@@ -3,46 +3,39 @@
 //! is recorded is replayed after each commit.
 
 use crate::fault::BenchFault;
-use crate::figures::a_second;
+use crate::figures::{lap, show};
 use crate::mounted::{InMemory, begin};
-use crate::whole::{LENGTH, NUMBER, TEXT, make_round, record, rounds};
+use crate::whole::{LENGTH, NUMBER, ROUND, TEXT, fill, size_of_file};
 use r10_body::Refusal;
 use r10_count::Items;
 use r10_cursor::Cursor;
 use std::alloc::Global;
-use std::fmt;
-use std::time::{CpuClock, Duration};
+use std::time::CpuClock;
 
 /// The last count that there is.
 const LAST: u64 = 281_474_976_710_655;
 
-/// How many rounds there are to a commit and an instalment, where a file is replayed while it is recorded.
-const ROUNDS: u32 = 4;
+/// How many messages there are to a commit and an instalment, where a file is replayed while it is recorded.
+const SHOWN: u32 = 4 * ROUND;
 
-/// What was measured.
-#[derive(Clone, Copy, Default)]
-pub struct ReplayFigures {
-    /// How many instalments there were.
-    pub instalments: u64,
-    pub entries: u64,
-    /// Processor time of the check of the file.
-    pub checking: Duration,
+/// What instalments gave.
+#[derive(Clone, Copy)]
+struct Replayed {
+    instalments: u64,
+    entries: u64,
     /// Processor time of the instalments.
-    pub advancing: Duration,
+    advancing: u64,
     /// Processor time of all entries that were given, which are dropped then.
-    pub giving: Duration,
+    giving: u64,
 }
 
-impl ReplayFigures {
-    /// Adds an instalment: the times before it, after it and after what it gave, and how many entries that was.
-    fn add(&mut self, times: [Duration; 3], entries: u64) {
-        let [start, middle, end] = times;
-        self.instalments = self.instalments.saturating_add(1);
-        self.entries = self.entries.saturating_add(entries);
-        self.advancing = self.advancing.saturating_add(middle.saturating_sub(start));
-        self.giving = self.giving.saturating_add(end.saturating_sub(middle));
-    }
-}
+/// Nothing yet.
+const NONE: Replayed = Replayed {
+    instalments: 0,
+    entries: 0,
+    advancing: 0,
+    giving: 0,
+};
 
 /// A cursor on the first file, for all channels and all counts.
 fn open(alloc: Global, recorder: &mut InMemory) -> Result<Cursor, Refusal> {
@@ -60,73 +53,90 @@ fn take_all(cursor: &mut Cursor) -> u64 {
     taken
 }
 
-/// Takes a cursor's next instalment and all that it gives, and answers how many entries that was.
+/// Takes a cursor's next instalment and all that it gives, and counts it in.
 fn take_instalment<R: CpuClock>(
     rt: &R,
     recorder: &mut InMemory,
     cursor: &mut Cursor,
-    figures: &mut ReplayFigures,
-) -> Result<u64, BenchFault> {
-    let start = rt.thread_cpu_time()?;
+    replayed: &mut Replayed,
+) -> Result<(), Refusal> {
+    let mut last = 0;
+    lap(rt, &mut last);
     recorder.advance(cursor)?;
-    let middle = rt.thread_cpu_time()?;
+    let advancing = lap(rt, &mut last);
     let taken = take_all(cursor);
-    figures.add([start, middle, rt.thread_cpu_time()?], taken);
-    Ok(taken)
+    replayed.giving = replayed.giving.saturating_add(lap(rt, &mut last));
+    replayed.instalments = replayed.instalments.saturating_add(1);
+    replayed.entries = replayed.entries.saturating_add(taken);
+    replayed.advancing = replayed.advancing.saturating_add(advancing);
+    Ok(())
 }
 
 /// Replays all that a recorder's first file has, which is closed, and of which at least so many entries must come.
-pub(crate) fn run<R: CpuClock>(
+pub(crate) fn run<R: Print + CpuClock>(
     rt: &R,
     alloc: Global,
     mut recorder: InMemory,
-    least: u64,
-) -> Result<ReplayFigures, BenchFault> {
-    let mut figures = ReplayFigures::default();
-    let start = rt.thread_cpu_time()?;
+    least: u32,
+) -> Result<(), BenchFault> {
+    let (mut last, mut replayed) = (0, NONE);
+    let bytes = size_of_file(&recorder)?;
+    lap(rt, &mut last);
     let mut cursor = open(alloc, &mut recorder)?;
-    figures.checking = rt.thread_cpu_time()?.saturating_sub(start);
-    let taken = take_instalment(rt, &mut recorder, &mut cursor, &mut figures)?;
-    if taken < least {
-        return Err(BenchFault::Lost);
-    }
-    Ok(figures)
+    let checking = lap(rt, &mut last);
+    take_instalment(rt, &mut recorder, &mut cursor, &mut replayed)?;
+    let Replayed {
+        instalments,
+        entries,
+        advancing,
+        giving,
+    } = replayed;
+    let figures = [
+        ("replay-entries", entries, "entries", 0),
+        ("replay-instalments", instalments, "instalments", 0),
+        ("replay-advance", entries, "entries", advancing),
+        ("replay-next", entries, "entries", giving),
+        (
+            "replay",
+            entries,
+            "entries",
+            advancing.saturating_add(giving),
+        ),
+        ("check", bytes, "bytes", checking),
+    ];
+    show(rt, entries >= u64::from(least), &figures)
 }
 
 /// Records so many messages in a file, with a commit after each four rounds, and replays it after each.
-pub(crate) fn follow<R: CpuClock>(
+pub(crate) fn follow<R: Print + CpuClock>(
     rt: &R,
     alloc: Global,
     number: u32,
-) -> Result<ReplayFigures, BenchFault> {
-    let mut figures = ReplayFigures::default();
+) -> Result<(), BenchFault> {
+    let mut replayed = NONE;
     let mut recorder = begin(alloc, number, LENGTH, NUMBER)?;
     let mut cursor = open(alloc, &mut recorder)?;
-    for round in 0..rounds(number) {
-        record(&mut recorder, make_round(alloc, round, number, &TEXT)?, 1)?;
-        if round % ROUNDS == ROUNDS - 1 {
-            recorder.commit()?;
-            take_instalment(rt, &mut recorder, &mut cursor, &mut figures)?;
-        }
+    for first in (0..number).step_by(SHOWN as usize) {
+        let next = number.min(first.saturating_add(SHOWN));
+        fill(rt, alloc, &mut recorder, first..next, &TEXT, 1, true)?;
+        take_instalment(rt, &mut recorder, &mut cursor, &mut replayed)?;
     }
-    recorder.commit()?;
-    take_instalment(rt, &mut recorder, &mut cursor, &mut figures)?;
-    if figures.entries < u64::from(number) {
-        return Err(BenchFault::Lost);
-    }
-    Ok(figures)
-}
-
-impl fmt::Display for ReplayFigures {
-    fn fmt<W: fmt::Write>(&self, f: &mut fmt::Formatter<W>) -> fmt::Result {
-        let (entries, instalments) = (self.entries, self.instalments);
-        let checking = self.checking.as_micros();
-        let (advancing, giving) = (self.advancing.as_micros(), self.giving.as_micros());
-        let rate = a_second(entries, self.advancing.saturating_add(self.giving));
-        writeln!(
-            f,
-            "replay: {entries} entries in {instalments} instalments, advance {advancing} us, next {giving} us {rate:>12} \
-            entries/s; the file is checked in {checking} us"
-        )
-    }
+    let Replayed {
+        instalments,
+        entries,
+        advancing,
+        giving,
+    } = replayed;
+    let figures = [
+        ("replay-behind-instalments", instalments, "instalments", 0),
+        ("replay-behind-advance", entries, "entries", advancing),
+        ("replay-behind-next", entries, "entries", giving),
+        (
+            "replay-behind",
+            entries,
+            "entries",
+            advancing.saturating_add(giving),
+        ),
+    ];
+    show(rt, entries >= u64::from(number), &figures)
 }

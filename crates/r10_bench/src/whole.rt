@@ -2,19 +2,19 @@
 //! messages, and beginning the file, is not timed.
 
 use crate::fault::BenchFault;
-use crate::figures::a_second;
+use crate::figures::{lap, show};
 use crate::messages::make;
 use crate::mounted::{CHANNELS, InMemory, WAITING, begin, channel_of};
 use r10_body::{Refusal, Timed};
-use std::alloc::{AllocError, Global};
-use std::fmt;
-use std::time::{CpuClock, Duration};
+use std::alloc::Global;
+use std::ops::Range;
+use std::time::CpuClock;
 
 /// How many messages are offered before each channel is pumped.
-const ROUND: u32 = 1024;
+pub(crate) const ROUND: u32 = 1024;
 
-/// How many rounds there are to a commit.
-const ROUNDS: u32 = 64;
+/// How many messages there are to a commit.
+const SHOWN: u32 = 64 * ROUND;
 
 /// The most entries of a packet that a channel may ask for.
 pub(crate) const NUMBER: usize = 65_535;
@@ -25,69 +25,42 @@ pub(crate) const TEXT: [u8; 32] = [0x55; 32];
 /// How many these are.
 pub(crate) const LENGTH: u16 = 32;
 
-/// What was measured.
-#[derive(Clone, Copy, Default)]
-pub struct WholeFigures {
-    pub messages: u64,
-    /// The bytes of each message.
-    pub length: u16,
-    pub commits: u64,
-    /// The bytes of the file.
-    pub bytes: u64,
-    /// Processor time of all calls.
-    pub recording: Duration,
-}
-
-/// The messages of a round, by number, before this one, each with these bytes.
-pub(crate) fn make_round(
-    alloc: Global,
-    round: u32,
-    number: u32,
-    text: &[u8],
-) -> Result<Vec<Timed>, AllocError> {
-    let first = round.saturating_mul(ROUND);
-    make(alloc, first..number.min(first.saturating_add(ROUND)), text)
-}
-
-/// How many rounds so many messages are.
-pub(crate) fn rounds(number: u32) -> u32 {
-    number.div_ceil(ROUND)
-}
-
-/// Offers each message to the channel that its number says, so many counts after the one before it.
-fn offer_all(recorder: &mut InMemory, messages: Vec<Timed>, step: u64) -> Result<(), Refusal> {
+/// Records messages, each so many counts after the one before it. Each is offered to the channel that its number says, and then each
+/// channel is pumped.
+fn record(recorder: &mut InMemory, messages: Vec<Timed>, step: u64) -> Result<(), Refusal> {
     for Timed { count, message } in messages {
         let number = count.get();
         recorder.offer(channel_of(number), number.wrapping_mul(step), message)?;
     }
-    Ok(())
-}
-
-/// Pumps all that waits on each channel.
-fn pump_all(recorder: &mut InMemory) -> Result<(), Refusal> {
     for channel in CHANNELS {
         recorder.pump(channel, WAITING)?;
     }
     Ok(())
 }
 
-/// Records messages, each so many counts after the one before it: they are offered, and each channel is pumped.
-pub(crate) fn record(
+/// Records the messages of these numbers, round by round, with these bytes and so many counts apart, and commits then if that is
+/// asked for. Answers the processor time of both.
+pub(crate) fn fill<R: CpuClock>(
+    rt: &R,
+    alloc: Global,
     recorder: &mut InMemory,
-    messages: Vec<Timed>,
+    numbers: Range<u32>,
+    text: &[u8],
     step: u64,
-) -> Result<(), Refusal> {
-    offer_all(recorder, messages, step)?;
-    pump_all(recorder)
-}
-
-/// Shows what was recorded, where as many rounds are over as there are to a commit, and answers how many commits that was.
-fn show(recorder: &mut InMemory, round: u32) -> Result<u64, Refusal> {
-    if round % ROUNDS < ROUNDS - 1 {
-        return Ok(0);
+    commits: bool,
+) -> Result<u64, BenchFault> {
+    let Range { start, end } = numbers;
+    let (mut last, mut recording) = (0, 0u64);
+    for first in (start..end).step_by(ROUND as usize) {
+        let messages = make(alloc, first..end.min(first.saturating_add(ROUND)), text)?;
+        lap(rt, &mut last);
+        record(recorder, messages, step)?;
+        recording = recording.saturating_add(lap(rt, &mut last));
     }
-    recorder.commit()?;
-    Ok(1)
+    if commits {
+        recorder.commit()?;
+    }
+    Ok(recording.saturating_add(lap(rt, &mut last)))
 }
 
 /// The bytes of the file.
@@ -100,50 +73,32 @@ pub(crate) fn size_of_file(recorder: &InMemory) -> Result<u64, Refusal> {
 }
 
 /// Records so many messages of so many bytes each in a file, which is closed then. The bytes are the front of this text.
-pub(crate) fn run<R: CpuClock>(
+pub(crate) fn run<R: Print + CpuClock>(
     rt: &R,
     alloc: Global,
     number: u32,
     length: u16,
     text: &[u8],
-) -> Result<(WholeFigures, InMemory), BenchFault> {
-    let mut figures = WholeFigures {
-        length,
-        ..WholeFigures::default()
-    };
+) -> Result<InMemory, BenchFault> {
+    let (mut last, mut recording, mut commits) = (0, 0u64, 0u64);
     let mut recorder = begin(alloc, number, length, NUMBER)?;
-    for round in 0..rounds(number) {
-        let messages = make_round(alloc, round, number, text)?;
-        let many = messages.len() as u64;
-        let start = rt.thread_cpu_time()?;
-        record(&mut recorder, messages, 1)?;
-        let shown = show(&mut recorder, round)?;
-        let time = rt.thread_cpu_time()?.saturating_sub(start);
-        figures.messages = figures.messages.saturating_add(many);
-        figures.commits = figures.commits.saturating_add(shown);
-        figures.recording = figures.recording.saturating_add(time);
+    for first in (0..number).step_by(SHOWN as usize) {
+        let next = number.min(first.saturating_add(SHOWN));
+        let all = next.saturating_sub(first) > SHOWN - ROUND;
+        let time = fill(rt, alloc, &mut recorder, first..next, text, 1, all)?;
+        recording = recording.saturating_add(time);
+        commits = commits.saturating_add(u64::from(all));
     }
-    let start = rt.thread_cpu_time()?;
+    lap(rt, &mut last);
     let stopped = recorder.stop_file()?;
-    let time = rt.thread_cpu_time()?.saturating_sub(start);
-    if stopped.left > 0 {
-        return Err(BenchFault::Lost);
-    }
-    figures.recording = figures.recording.saturating_add(time);
-    figures.bytes = size_of_file(&recorder)?;
-    Ok((figures, recorder))
-}
-
-impl fmt::Display for WholeFigures {
-    fn fmt<W: fmt::Write>(&self, f: &mut fmt::Formatter<W>) -> fmt::Result {
-        let (messages, commits, bytes) = (self.messages, self.commits, self.bytes);
-        let length = self.length;
-        let micros = self.recording.as_micros();
-        let rate = a_second(messages, self.recording);
-        writeln!(
-            f,
-            "recorder: {messages} messages of {length} bytes, checksum 16, {commits} commits: a file of {bytes} bytes, {micros} \
-            us {rate:>12} messages/s"
-        )
-    }
+    recording = recording.saturating_add(lap(rt, &mut last));
+    let bytes = size_of_file(&recorder)?;
+    let figures = [
+        ("recorder-length", u64::from(length), "bytes", 0),
+        ("recorder-commits", commits, "commits", 0),
+        ("recorder-file", bytes, "bytes", 0),
+        ("recorder", u64::from(number), "messages", recording),
+    ];
+    show(rt, stopped.left == 0, &figures)?;
+    Ok(recorder)
 }
