@@ -42,22 +42,18 @@ pub struct Apparatus<M: BlockMedium> {
     pub six: Port,
 }
 
-/// The blocks of a medium with room for so many messages of each feed.
-fn blocks_for(messages: u32) -> usize {
-    let blocks = COST * 4 * u64::from(messages) / 512 + 1024;
-    blocks.min(MOST_BLOCKS) as usize
-}
-
-/// Settings with these channels.
+/// Settings with these channels, and with room for so many messages of each feed.
 fn settings_for(
     alloc: Global,
-    blocks: usize,
+    messages: u32,
     channels: [ChannelSpec; 4],
 ) -> Result<Settings, SessionBenchFault>
     ensures { IfOk result (λ s. s.channels ≡ channels) }
 {
     let channels = Vec::from_slice(alloc, &channels)?;
     let volume = Vec::from_slice(alloc, b"BENCH")?;
+    let blocks = COST * 4 * u64::from(messages) / 512 + 1024;
+    let blocks = blocks.min(MOST_BLOCKS) as usize;
     let Ok(settings) = Settings::of(blocks, 2, volume, 32_765, 1, 2, channels) else {
         return Err(SessionBenchFault::Settings);
     };
@@ -66,7 +62,10 @@ fn settings_for(
 
 /// A medium that is formatted for a recorder with room for so many messages of each feed.
 pub fn medium_for(alloc: Global, messages: u32) -> Result<Memory, SessionBenchFault> {
-    let settings = settings_of(alloc, messages)?;
+    let at_four = ChannelSpec { id: 4, ..CHANNEL };
+    let at_five = ChannelSpec { id: 5, ..CHANNEL };
+    let at_six = ChannelSpec { id: 6, ..CHANNEL };
+    let settings = settings_for(alloc, messages, [CHANNEL, at_four, at_five, at_six])?;
     let mut medium = Memory::new(alloc, settings.blocks())?;
     format(&mut medium, &settings)?;
     Ok(medium)
@@ -90,18 +89,6 @@ fn lanes_of(
     Ok(lanes)
 }
 
-/// Settings with room for so many messages of each feed.
-fn settings_of(alloc: Global, messages: u32) -> Result<Settings, SessionBenchFault> {
-    let at_four = ChannelSpec { id: 4, ..CHANNEL };
-    let at_five = ChannelSpec { id: 5, ..CHANNEL };
-    let at_six = ChannelSpec { id: 6, ..CHANNEL };
-    settings_for(
-        alloc,
-        blocks_for(messages),
-        [CHANNEL, at_four, at_five, at_six],
-    )
-}
-
 /// A new recorder over a medium that was formatted with room for so many messages of each feed.
 pub fn new_recorder<M: BlockMedium + Drop>(
     alloc: Global,
@@ -117,11 +104,7 @@ pub fn new_recorder<M: BlockMedium + Drop>(
     let at_four = ChannelSpec { id: 4, ..CHANNEL };
     let at_five = ChannelSpec { id: 5, ..CHANNEL };
     let at_six = ChannelSpec { id: 6, ..CHANNEL };
-    let settings = settings_for(
-        alloc,
-        blocks_for(messages),
-        [at_three, at_four, at_five, at_six],
-    )?;
+    let settings = settings_for(alloc, messages, [at_three, at_four, at_five, at_six])?;
     if medium.blocks() != settings.blocks() {
         return Err(SessionBenchFault::Settings);
     }

@@ -10,7 +10,7 @@ use thiserror::Error;
 pub enum SessionBenchFault {
     #[error("out of memory")]
     Memory(#[from] AllocError),
-    /// The clock, the command line or the output failed.
+    /// The command line or the output failed.
     #[error("{0}")]
     System(#[from] io::Error),
     /// The recorder refused a call.
@@ -18,6 +18,8 @@ pub enum SessionBenchFault {
     Refused(#[from] Refusal),
     #[error("the settings are out of their limits")]
     Settings,
+    #[error("the clock failed")]
+    Clock,
     #[error("the account of a feed does not add up")]
     Lost,
 }

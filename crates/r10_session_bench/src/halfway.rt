@@ -37,33 +37,28 @@ impl ChannelSource for ListSource {
     }
 }
 
-/// The message of this number with these bytes, at the count that is one more.
-fn message(alloc: Global, number: u32, bytes: &[u8]) -> Result<Timed, AllocError> {
-    let Some(count) = Count::of(u64::from(number).wrapping_add(1)) else {
-        unreachable!()
-    };
-    let message = Message::Uart {
-        parity: false,
-        sub: 0,
-        bytes: Bytes::copy_of(alloc, bytes)?,
-    };
-    Ok(Timed { count, message })
-}
-
-/// A source of so many messages with these bytes, which gives this signal.
+/// A source of so many messages with these bytes, each at the count that is one more than its number. It gives this signal.
 pub fn source_of(
     alloc: Global,
     messages: u32,
     bytes: &[u8],
     signal: &Arc<AtomicBool, Global>,
-) -> Result<ListSource, AllocError> {
+) -> Result<Box<ListSource>, AllocError> {
     let signal = Arc::try_clone(signal)?;
     let mut left = VecDeque::new(alloc);
     for number in 0..messages {
-        left.push_back(SourceItem::Message(message(alloc, number, bytes)?))?;
+        let Some(count) = Count::of(u64::from(number).wrapping_add(1)) else {
+            unreachable!()
+        };
+        let message = Message::Uart {
+            parity: false,
+            sub: 0,
+            bytes: Bytes::copy_of(alloc, bytes)?,
+        };
+        left.push_back(SourceItem::Message(Timed { count, message }))?;
     }
     let half = left.len() / 2;
-    Ok(ListSource { left, half, signal })
+    Ok(Box::new(alloc, ListSource { left, half, signal })?)
 }
 
 /// A gate at which this worker waits until half of the messages were asked for, as long as its turns last.

@@ -37,13 +37,10 @@ pub fn measure<R: Env + AllocGlobal + Print + Clock + Threads + Wait + Sync>(
             println!(rt; "usage: r10_session_bench MESSAGES | slow MILLISECONDS")?;
             return Ok(ExitCode::from(2));
         };
-        let waits = slow::run(rt, rt.alloc(), millis)?;
-        print!(rt; "{waits}")?;
+        slow::run(rt, rt.alloc(), millis)?;
         return Ok(ExitCode::SUCCESS);
     };
-    let empty = session::run(rt, rt.alloc(), number, &[])?;
-    print!(rt; "{empty}")?;
-    let full = session::run(rt, rt.alloc(), number, &[0x55; 8])?;
-    print!(rt; "{full}")?;
+    session::run(rt, rt.alloc(), number, &[])?;
+    session::run(rt, rt.alloc(), number, &[0x55; 8])?;
     Ok(ExitCode::SUCCESS)
 }

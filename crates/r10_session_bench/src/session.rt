@@ -8,22 +8,20 @@ ghost use Rattle.r10_medium.specs.MemoryDisk.{memory_disk};
 
 use crate::apparatus::{Apparatus, medium_for, new_recorder};
 use crate::fault::SessionBenchFault;
-use crate::figures::SessionFigures;
+use crate::figures::{lap, show};
 use crate::halfway::{Halfway, ListSource, source_of};
 use r10_body::Refusal;
 use r10_count::{Items, Parts};
 use r10_gauge::Pass;
 use r10_held::{Cabinet, Held, Player, Rings, new_recorders_account_for_their_lanes};
 use r10_medium::{BlockMedium, Memory};
-use r10_shared::{
-    AnySource, Feed, FeedReport, Order, Session, SessionReport, audit, end_session, run_session,
-};
+use r10_shared::{AnySource, Feed, Order, Session, SessionReport, audit, end_session, run_session};
 use std::alloc::{AllocError, Global};
 use std::marker::Brand;
 use std::sync::atomic::AtomicBool;
 use std::sync::{Arc, Wait};
 use std::thread::Threads;
-use std::time::{Clock, Duration, Instant};
+use std::time::Clock;
 
 /// The time at count 0.
 const START: Parts = Parts {
@@ -56,15 +54,10 @@ pub fn begin<M: BlockMedium, N: Rings, R: Wait>(
 fn orders_of(alloc: Global) -> Result<Vec<Order>, AllocError> {
     let name = Items::of(Vec::from_slice(alloc, b"SECOND")?);
     let setup = Items::of(Vec::from_slice(alloc, b"ABCD")?);
-    let mut orders = Vec::new(alloc);
-    orders.push(Order::Stop)?;
-    orders.push(Order::Start { name, setup })?;
+    let mut orders = Vec::with_capacity(alloc, 2)?;
+    orders.push_reserved(Order::Stop);
+    orders.push_reserved(Order::Start { name, setup });
     Ok(orders)
-}
-
-/// A signal that was not given yet.
-fn signal_of(alloc: Global) -> Result<Arc<AtomicBool, Global>, AllocError> {
-    Ok(Arc::new(alloc, AtomicBool::new(false))?)
 }
 
 /// Four sources of so many messages with these bytes, which give this signal.
@@ -73,7 +66,7 @@ fn four_of(
     messages: u32,
     bytes: &[u8],
     signal: &Arc<AtomicBool, Global>,
-) -> Result<[ListSource; 4], AllocError> {
+) -> Result<[Box<ListSource>; 4], AllocError> {
     Ok([
         source_of(alloc, messages, bytes, signal)?,
         source_of(alloc, messages, bytes, signal)?,
@@ -82,68 +75,77 @@ fn four_of(
     ])
 }
 
-/// Counts in what became of a feed's messages. Whether its account adds up: each of so many that were offered was accepted or
-/// refused, and each that was accepted is filed or left.
-fn count_in(figures: &mut SessionFigures, report: &FeedReport, offered: u64) -> bool {
-    let rest = report.rest.len() as u64;
-    figures.offered = figures.offered.saturating_add(offered);
-    figures.accepted = figures.accepted.saturating_add(report.accepted);
-    figures.refused = figures.refused.saturating_add(report.refused);
-    figures.filed = figures.filed.saturating_add(report.filed);
-    figures.rest = figures.rest.saturating_add(rest);
-    let sent = report.accepted.saturating_add(report.refused);
-    let kept = report
-        .erased
-        .saturating_add(report.filed)
-        .saturating_add(rest);
-    sent == offered && kept == report.accepted
-}
-
-/// What became of the messages of all feeds, if the accounts add up.
-fn count_all(
-    report: &SessionReport<Memory>,
+/// Prints what became of a session in so many nanoseconds, if the account of each feed adds up: each of so many messages that were
+/// offered was accepted or refused, and each that was accepted is erased, filed or left.
+fn show_report<R: Print>(
+    rt: &R,
+    alloc: Global,
+    report: &mut SessionReport<Memory>,
     offered: u64,
-) -> Result<SessionFigures, SessionBenchFault> {
-    let mut figures = SessionFigures::default();
+    bytes: u64,
+    nanos: u64,
+) -> Result<(), SessionBenchFault> {
+    let (mut accepted, mut refused, mut filed) = (0u64, 0u64, 0u64);
+    let (mut rest, mut read, mut adds_up) = (0u64, 0u64, true);
     for feed in &report.feeds {
-        if !count_in(&mut figures, feed, offered) {
-            return Err(SessionBenchFault::Lost);
+        let left = feed.rest.len() as u64;
+        accepted = accepted.saturating_add(feed.accepted);
+        refused = refused.saturating_add(feed.refused);
+        filed = filed.saturating_add(feed.filed);
+        rest = rest.saturating_add(left);
+        let sent = feed.accepted.saturating_add(feed.refused);
+        let kept = feed.erased.saturating_add(feed.filed).saturating_add(left);
+        if sent != offered || kept != feed.accepted {
+            adds_up = false;
         }
+    }
+    if !adds_up {
+        return Err(SessionBenchFault::Lost);
     }
     for transcript in &report.transcripts {
         for instalment in &transcript.instalments {
-            let entries = instalment.entries.as_slice().len() as u64;
-            figures.read = figures.read.saturating_add(entries);
+            read = read.saturating_add(instalment.entries.as_slice().len() as u64);
         }
     }
-    Ok(figures)
+    let agrees = audit(alloc, report)?;
+    let all = offered.saturating_mul(report.feeds.len() as u64);
+    let rate = u128::from(accepted) * 1_000_000_000 / u128::from(nanos).max(1);
+    let audit = if agrees { "agrees" } else { "does-not-agree" };
+    let figures = [
+        ("session-length", bytes, "bytes"),
+        ("session-offered", all, "messages"),
+        ("session-accepted", accepted, "messages"),
+        ("session-refused", refused, "messages"),
+        (
+            "session-refused-of-1000",
+            refused.saturating_mul(1000) / all.max(1),
+            "messages",
+        ),
+        ("session-filed", filed, "messages"),
+        ("session-left", rest, "messages"),
+        ("session-read", read, "entries"),
+        ("session-audit", u64::from(agrees), audit),
+        ("session-time", nanos, "ns"),
+        (
+            "session",
+            rate.min(u128::from(u64::MAX)) as u64,
+            "messages/s",
+        ),
+    ];
+    show(rt, &figures)
 }
 
-/// The figures of a session that has ended.
-fn figures_of(
-    alloc: Global,
-    report: SessionReport<Memory>,
-    offered: u64,
-    time: Duration,
-) -> Result<SessionFigures, SessionBenchFault> {
-    let mut report = report;
-    let mut figures = count_all(&report, offered)?;
-    figures.agrees = audit(alloc, &mut report)?;
-    figures.time = time;
-    Ok(figures)
-}
-
-/// A player of the first file's entries on these channels.
-fn player_of<N: Rings, R: Wait>(
+/// A player of the first file's entries on these channels; of all where none is named.
+pub fn player_of<M: BlockMedium, N: Rings, R: Wait>(
     rt: &R,
     alloc: Global,
-    cabinet: &Cabinet<Memory, N>,
+    cabinet: &Cabinet<M, N>,
     pass: Pass,
-    channels: [u16; 2],
+    channels: &[u16],
 ) -> Result<Player, SessionBenchFault>
     ensures { IfOk result (λ player. player.pass ≡ pass) }
 {
-    let channels = Items::of(Vec::from_slice(alloc, &channels)?);
+    let channels = Items::of(Vec::from_slice(alloc, channels)?);
     let cursor = cabinet.hold(rt).cursor(0, channels, 0, LAST)?;
     Ok(Player::new(cursor, pass))
 }
@@ -161,12 +163,12 @@ fn players_of<N: Rings, R: Wait>(
     let mut pass = pass;
     let other = cabinet.split(&mut pass);
     let mut players = Vec::with_capacity(alloc, 2)?;
-    players.push_reserved(player_of(rt, alloc, cabinet, pass, [3, 4])?);
-    players.push_reserved(player_of(rt, alloc, cabinet, other, [5, 6])?);
+    players.push_reserved(player_of(rt, alloc, cabinet, pass, &[3, 4])?);
+    players.push_reserved(player_of(rt, alloc, cabinet, other, &[5, 6])?);
     Ok(players)
 }
 
-/// Runs a session, and measures how long it took.
+/// Runs a session, and measures how many nanoseconds it took.
 fn run_and_time<N: Rings + Send + Sync, R: Threads + Wait + Clock + Sync>(
     rt: &R,
     alloc: Global,
@@ -174,18 +176,19 @@ fn run_and_time<N: Rings + Send + Sync, R: Threads + Wait + Clock + Sync>(
     gate: &Halfway<R>,
     feeds: Vec<Feed<N>>,
     players: Vec<Player>,
-) -> Result<(Session<N>, Duration), SessionBenchFault>
+) -> Result<(Session<N>, u64), SessionBenchFault>
     requires { All (λ player. player.pass.cell ≡ cabinet.now) players.items }
 {
     let orders = orders_of(alloc)?;
-    let start = Instant::now(rt)?;
-    let Ok(session) = run_session(rt, alloc, cabinet, gate, feeds, orders, players) else {
-        return Err(SessionBenchFault::Memory(AllocError));
-    };
-    Ok((session, start.elapsed(rt)?))
+    let mut last = 0;
+    lap(rt, &mut last);
+    match run_session(rt, alloc, cabinet, gate, feeds, orders, players) {
+        Ok(session) => Ok((session, lap(rt, &mut last))),
+        Err(_) => Err(SessionBenchFault::Memory(AllocError)),
+    }
 }
 
-/// A session over a new recorder, and how long it took.
+/// A session over a new recorder, and how many nanoseconds it took.
 fn run_over<N: Rings + Send + Sync, R: Threads + Wait + Clock + Sync>(
     rt: &R,
     alloc: Global,
@@ -195,7 +198,7 @@ fn run_over<N: Rings + Send + Sync, R: Threads + Wait + Clock + Sync>(
     second: AnySource,
     third: AnySource,
     fourth: AnySource,
-) -> Result<(SessionReport<Memory>, Duration), SessionBenchFault>
+) -> Result<(SessionReport<Memory>, u64), SessionBenchFault>
     requires new { IsNew memory_disk outlet_spec outlet_received made.gauged.recorder }
     requires named { AreNamed N.rings made.gauged.recorder.lanes }
     requires gauge { made.gauged.cell ≡ N.gauge }
@@ -212,14 +215,14 @@ fn run_over<N: Rings + Send + Sync, R: Threads + Wait + Clock + Sync>(
         five,
         six,
     } = made;
-    let (cabinet, pass) = Cabinet::<Memory, N>::new(gauged);
-    begin(rt, &mut cabinet.hold(rt))?;
-    let players = players_of(rt, alloc, &cabinet, pass)?;
     let mut feeds = Vec::with_capacity(alloc, 4)?;
     feeds.push_reserved(Feed::new(3, first, three));
     feeds.push_reserved(Feed::new(4, second, four));
     feeds.push_reserved(Feed::new(5, third, five));
     feeds.push_reserved(Feed::new(6, fourth, six));
+    let (cabinet, pass) = Cabinet::<Memory, N>::new(gauged);
+    begin(rt, &mut cabinet.hold(rt))?;
+    let players = players_of(rt, alloc, &cabinet, pass)?;
     let (session, time) = run_and_time(rt, alloc, &cabinet, gate, feeds, players)?;
     match end_session(alloc, cabinet, session) {
         Ok(report) => Ok((report, time)),
@@ -228,36 +231,25 @@ fn run_over<N: Rings + Send + Sync, R: Threads + Wait + Clock + Sync>(
 }
 
 /// A session of four feeds of so many messages each, with these bytes.
-pub fn run<R: Threads + Wait + Clock + Sync>(
+pub fn run<R: Print + Threads + Wait + Clock + Sync>(
     rt: &R,
     alloc: Global,
     messages: u32,
     bytes: &[u8],
-) -> Result<SessionFigures, SessionBenchFault> {
-    let signal = signal_of(alloc)?;
+) -> Result<(), SessionBenchFault> {
+    let Ok(signal) = Arc::new(alloc, AtomicBool::new(false)) else {
+        return Err(SessionBenchFault::Memory(AllocError));
+    };
     let [first, second, third, fourth] = four_of(alloc, messages, bytes, &signal)?;
-    let Ok(first) = Box::new(alloc, first) else {
-        return Err(SessionBenchFault::Memory(AllocError));
-    };
-    let Ok(second) = Box::new(alloc, second) else {
-        return Err(SessionBenchFault::Memory(AllocError));
-    };
-    let Ok(third) = Box::new(alloc, third) else {
-        return Err(SessionBenchFault::Memory(AllocError));
-    };
-    let Ok(fourth) = Box::new(alloc, fourth) else {
-        return Err(SessionBenchFault::Memory(AllocError));
-    };
     let gate = Halfway {
         clock: rt,
         worker: CONTROL,
         signal,
     };
     let made = new_recorder(alloc, messages, medium_for(alloc, messages)?)?;
-    let (report, time) = run_over::<Brand, _>(
+    let (mut report, nanos) = run_over::<Brand, _>(
         rt, alloc, &gate, made, first, second, third, fourth,
     )?;
-    let mut figures = figures_of(alloc, report, u64::from(messages), time)?;
-    figures.bytes = bytes.len();
-    Ok(figures)
+    let (offered, length) = (u64::from(messages), bytes.len() as u64);
+    show_report(rt, alloc, &mut report, offered, length, nanos)
 }
