@@ -2,11 +2,11 @@
 
 use r10_body::Refusal;
 use std::alloc::AllocError;
-use std::io;
+use std::{fmt, io};
 use thiserror::Error;
 
 /// Why there are no figures.
-#[derive(Debug, Drop, Error)]
+#[derive(Drop, Error)]
 pub enum BenchFault {
     #[error("out of memory")]
     Memory(#[from] AllocError),
@@ -23,4 +23,11 @@ pub enum BenchFault {
     Clock,
     #[error("messages were lost")]
     Lost,
+}
+
+/// As it is displayed.
+impl fmt::Debug for BenchFault {
+    fn fmt<W: fmt::Write>(&self, f: &mut fmt::Formatter<W>) -> fmt::Result {
+        fmt::Display::fmt(self, f)
+    }
 }

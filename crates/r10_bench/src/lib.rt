@@ -89,18 +89,6 @@ fn measure_all<R: Print + Clock + CpuClock + Threads + Wait + Sync>(
     lanes::cross(rt, alloc, number)
 }
 
-/// Recording alone, with messages of each length.
-fn measure_lengths<R: Print + CpuClock>(
-    rt: &R,
-    alloc: Global,
-    number: u32,
-) -> Result<(), BenchFault> {
-    for length in &lengths::LENGTHS {
-        lengths::run(rt, alloc, *length, number)?;
-    }
-    Ok(())
-}
-
 /// Measures what the command line asks for, and prints it. `scripts/build.py` makes a program of this crate, whose `main` is this
 /// call: so the gate proves it, and builds none.
 pub fn measure<R: Env + AllocGlobal + Print + Clock + CpuClock + Threads + Wait + Sync>(
@@ -110,7 +98,7 @@ pub fn measure<R: Env + AllocGlobal + Print + Clock + CpuClock + Threads + Wait 
     match read_words(rt)? {
         Some((Part::All, number)) => measure_all(rt, alloc, number)?,
         Some((Part::Close, number)) => closing::run(rt, alloc, number)?,
-        Some((Part::Lengths, number)) => measure_lengths(rt, alloc, number)?,
+        Some((Part::Lengths, number)) => lengths::run(rt, alloc, number)?,
         None => {
             println!(rt;
                 "usage: r10_bench MESSAGES, or r10_bench close PACKETS, or r10_bench lengths MESSAGES"

@@ -2,11 +2,11 @@
 
 use r10_body::Refusal;
 use std::alloc::AllocError;
-use std::io;
+use std::{fmt, io};
 use thiserror::Error;
 
 /// Why there are no figures.
-#[derive(Debug, Drop, Error)]
+#[derive(Drop, Error)]
 pub enum SessionBenchFault {
     #[error("out of memory")]
     Memory(#[from] AllocError),
@@ -22,4 +22,11 @@ pub enum SessionBenchFault {
     Clock,
     #[error("the account of a feed does not add up")]
     Lost,
+}
+
+/// As it is displayed.
+impl fmt::Debug for SessionBenchFault {
+    fn fmt<W: fmt::Write>(&self, f: &mut fmt::Formatter<W>) -> fmt::Result {
+        fmt::Display::fmt(self, f)
+    }
 }

@@ -109,28 +109,21 @@ fn show_report<R: Print>(
     }
     let agrees = audit(alloc, report)?;
     let all = offered.saturating_mul(report.feeds.len() as u64);
-    let rate = u128::from(accepted) * 1_000_000_000 / u128::from(nanos).max(1);
+    let share = refused.saturating_mul(1000) / all.max(1);
+    let rate = accepted.saturating_mul(1_000_000_000) / nanos.max(1);
     let audit = if agrees { "agrees" } else { "does-not-agree" };
     let figures = [
         ("session-length", bytes, "bytes"),
         ("session-offered", all, "messages"),
         ("session-accepted", accepted, "messages"),
         ("session-refused", refused, "messages"),
-        (
-            "session-refused-of-1000",
-            refused.saturating_mul(1000) / all.max(1),
-            "messages",
-        ),
+        ("session-refused-of-1000", share, "messages"),
         ("session-filed", filed, "messages"),
         ("session-left", rest, "messages"),
         ("session-read", read, "entries"),
         ("session-audit", u64::from(agrees), audit),
         ("session-time", nanos, "ns"),
-        (
-            "session",
-            rate.min(u128::from(u64::MAX)) as u64,
-            "messages/s",
-        ),
+        ("session", rate, "messages/s"),
     ];
     show(rt, &figures)
 }
@@ -215,12 +208,12 @@ fn run_over<N: Rings + Send + Sync, R: Threads + Wait + Clock + Sync>(
         five,
         six,
     } = made;
+    let (cabinet, pass) = Cabinet::<Memory, N>::new(gauged);
     let mut feeds = Vec::with_capacity(alloc, 4)?;
     feeds.push_reserved(Feed::new(3, first, three));
     feeds.push_reserved(Feed::new(4, second, four));
     feeds.push_reserved(Feed::new(5, third, five));
     feeds.push_reserved(Feed::new(6, fourth, six));
-    let (cabinet, pass) = Cabinet::<Memory, N>::new(gauged);
     begin(rt, &mut cabinet.hold(rt))?;
     let players = players_of(rt, alloc, &cabinet, pass)?;
     let (session, time) = run_and_time(rt, alloc, &cabinet, gate, feeds, players)?;
