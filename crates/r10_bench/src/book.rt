@@ -71,24 +71,27 @@ fn write_index(alloc: Global, book: &IndexBook) -> Result<u64, AllocError>
     Ok(bytes)
 }
 
-/// Searches in the book of so many packets, and writes the index of it.
+/// Searches in the book of so many packets, and writes the index of it. The book's memory is given back before the figures are
+/// printed, as the memory that the next part asks for is counted from there.
 pub(crate) fn run<R: Print + CpuClock>(
     rt: &R,
     alloc: Global,
     number: u32,
 ) -> Result<(), BenchFault> {
     let packets = number.min(MOST);
-    let book = fill(alloc, packets)?;
-    let mut last = 0;
-    lap(rt, &mut last);
-    let candidates = search(&book, packets);
-    let searching = lap(rt, &mut last);
-    let bytes = write_index(alloc, &book)?;
-    let writing = lap(rt, &mut last);
-    let figures = [
-        ("book-search", u64::from(packets), "searches", searching),
-        ("book-candidates", candidates, "candidates", 0),
-        ("book-index", bytes, "bytes", writing),
-    ];
+    let figures = {
+        let book = fill(alloc, packets)?;
+        let mut last = 0;
+        lap(rt, &mut last);
+        let candidates = search(&book, packets);
+        let searching = lap(rt, &mut last);
+        let bytes = write_index(alloc, &book)?;
+        let writing = lap(rt, &mut last);
+        [
+            ("book-search", u64::from(packets), "searches", searching),
+            ("book-candidates", candidates, "candidates", 0),
+            ("book-index", bytes, "bytes", writing),
+        ]
+    };
     show(rt, true, &figures)
 }

@@ -1,6 +1,6 @@
 //! A recorder over a medium whose syncs take their time: what offers, glances and advances wait for meanwhile.
 
-ghost use Rattle.std.specs.Prelude.{◌≡◌, [], ◌∷◌, IfOk};
+ghost use Rattle.std.specs.Prelude.{◌≡◌};
 ghost use Rattle.r10_held.specs.Account.{IsNew};
 ghost use Rattle.r10_held.specs.LockFact.{outlet_received, outlet_spec};
 ghost use Rattle.r10_held.specs.Naming.{AreNamed};
