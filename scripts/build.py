@@ -4,7 +4,7 @@
     scripts/build.py [LANES] [--crate NAME]     proves the crates that NAME stands on, and NAME (r10_cli, the program, where none is
                                                 named)
 
-Of r10_bench and r10_session_bench, which are libraries, it makes programs: crates/NAME/out/NAME.
+Of r10_bench, which is a library, it makes a program: crates/r10_bench/out/r10_bench.
 
 The tool locks each crate below the one that it proves, so one checkout proves one crate at a time. Here each lane has a copy of the
 sources, and a library that one lane has proved is handed to the others by links. The crate with the longest chain above it goes

@@ -35,7 +35,7 @@ from wrong_bodies import MUTANTS, TOP, Change, Function, Results  # noqa: E402
 
 RESULTS = TOP / 'scripts' / 'mutants.txt'
 
-WITHOUT = re.compile(r'_tests$|^r10_(rows|trials|bench|session_bench|cli)$')
+WITHOUT = re.compile(r'_tests$|^r10_(rows|trials|bench|cli)$')
 # (lines of a body that are no code which runs)
 GHOST = re.compile(
     r'^\s*(?:prove!|ghost\b|#\[|//|requires\b|ensures\b|invariant\b|measure\b|decreases\b|use )|\bghost\b|\b(?:requires|ensures) '

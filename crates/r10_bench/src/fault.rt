@@ -21,7 +21,7 @@ pub enum BenchFault {
     Settings,
     #[error("the clock failed")]
     Clock,
-    #[error("messages were lost")]
+    #[error("messages were lost, or an account does not add up")]
     Lost,
 }
 

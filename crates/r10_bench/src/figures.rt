@@ -4,7 +4,7 @@ ghost use Rattle.std.specs.Prelude.{◌≡◌, ◌+◌, ◌*◌, ◌/◌, max, m
 
 use crate::fault::BenchFault;
 use r10_builder::Closed;
-use std::time::CpuClock;
+use std::time::{Clock, CpuClock};
 
 /// A figure: its name, how many there are, of what, and how many nanoseconds they took together: 0 where that was not measured, and
 /// the greatest number where the clock failed.
@@ -37,19 +37,30 @@ pub(crate) fn a_second(amount: u64, nanos: u64) -> u128
     u128::from(amount) * 1_000_000_000 / u128::from(nanos).max(1)
 }
 
-/// The nanoseconds of processor time since the last reading, and the greatest number where one of both readings failed. The last
-/// one is then this.
-pub(crate) fn lap<R: CpuClock>(rt: &R, last: &mut u64) -> u64 {
-    let now = match rt.thread_cpu_time() {
-        Ok(time) => time.as_nanos().min(u128::from(u64::MAX)) as u64,
-        Err(_) => u64::MAX,
-    };
+/// The nanoseconds from the last reading to this one, and the greatest number where one of both failed. The last one is then this.
+fn since(last: &mut u64, now: u64) -> u64 {
     let before = *last;
     *last = now;
     if before == u64::MAX || now == u64::MAX {
         return u64::MAX;
     }
     now.saturating_sub(before)
+}
+
+/// The nanoseconds of processor time since the last reading, and the greatest number where one of both readings failed.
+pub(crate) fn lap<R: CpuClock>(rt: &R, last: &mut u64) -> u64 {
+    match rt.thread_cpu_time() {
+        Ok(time) => since(last, time.as_nanos().min(u128::from(u64::MAX)) as u64),
+        Err(_) => since(last, u64::MAX),
+    }
+}
+
+/// The nanoseconds that passed since the last reading, and the greatest number where one of both readings failed.
+pub(crate) fn passed<R: Clock>(rt: &R, last: &mut u64) -> u64 {
+    match rt.monotonic() {
+        Ok(time) => since(last, time.as_nanos().min(u128::from(u64::MAX)) as u64),
+        Err(_) => since(last, u64::MAX),
+    }
 }
 
 /// Prints a line `NAME VALUE UNIT` for each figure of a part, of which no message was lost. Where there is a time, the value is how

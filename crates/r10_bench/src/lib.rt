@@ -2,9 +2,11 @@
 //! beside a plain copy of the same bytes, how many go through lanes of one thread and between two, how long searches in the book
 //! of a file's packets take, and its index, how many messages a second a recorder records onto a medium in memory, how many entries
 //! a second it replays, how long it takes to find one in a file of many packets, how many bytes of index a second it writes where
-//! it closes one, and how many bytes of a file are judged in a second.
+//! it closes one, and how many bytes of a file are judged in a second. And how many messages a second a session between threads
+//! takes in, and what offers, glances and advances wait for while a medium syncs slowly.
 #![tactic(auto)]
 
+mod apparatus;
 mod bench;
 mod book;
 mod check;
@@ -13,12 +15,15 @@ mod copy;
 mod fault;
 mod figures;
 mod finding;
+mod halfway;
 mod lanes;
 mod lengths;
 mod messages;
 mod mounted;
 mod path;
 mod replay;
+mod session;
+mod slow;
 mod whole;
 
 pub use fault::BenchFault;
@@ -38,6 +43,21 @@ enum Part {
     Close,
     /// Only the whole recorder, with messages of several lengths: so many of 64 bytes, of others as many bytes together.
     Lengths,
+    /// A session between threads, of so many messages of each feed: without bytes, and of 8 bytes.
+    Session,
+    /// What is waited for while a medium syncs, so many milliseconds each time.
+    Slow,
+}
+
+/// The part that a word names.
+fn part_of(word: &str) -> Part {
+    match word {
+        "close" => Part::Close,
+        "lengths" => Part::Lengths,
+        "session" => Part::Session,
+        "slow" => Part::Slow,
+        _ => Part::All,
+    }
 }
 
 /// The part and the number that the command line asks for.
@@ -46,16 +66,10 @@ fn read_words<R: Env + AllocGlobal>(rt: &R) -> io::Result<Option<(Part, u32)>> {
     let Some(first) = words.nth(1) else {
         return Ok(None);
     };
-    let part = if first.as_str() == "close" {
-        Part::Close
-    } else if first.as_str() == "lengths" {
-        Part::Lengths
-    } else {
-        Part::All
-    };
+    let part = part_of(first.as_str());
     let number = match part {
         Part::All => first.parse().ok(),
-        Part::Close | Part::Lengths => match words.next() {
+        Part::Close | Part::Lengths | Part::Session | Part::Slow => match words.next() {
             Some(second) => second.parse().ok(),
             None => None,
         },
@@ -99,9 +113,14 @@ pub fn measure<R: Env + AllocGlobal + Print + Clock + CpuClock + Threads + Wait 
         Some((Part::All, number)) => measure_all(rt, alloc, number)?,
         Some((Part::Close, number)) => closing::run(rt, alloc, number)?,
         Some((Part::Lengths, number)) => lengths::run(rt, alloc, number)?,
+        Some((Part::Session, number)) => {
+            session::run(rt, alloc, number, &[])?;
+            session::run(rt, alloc, number, &[0x55; 8])?;
+        }
+        Some((Part::Slow, number)) => slow::run(rt, alloc, number)?,
         None => {
             println!(rt;
-                "usage: r10_bench MESSAGES, or r10_bench close PACKETS, or r10_bench lengths MESSAGES"
+                "usage: r10_bench MESSAGES | close PACKETS | lengths MESSAGES | session MESSAGES | slow MILLISECONDS"
             )?;
             return Ok(ExitCode::from(2));
         }

@@ -1,5 +1,5 @@
 use Rattle.std.proofs.Common.{◌≡◌}
-use Rattle.r10_session_bench.proofs.slow.look_on.Given as goal
+use Rattle.r10_bench.proofs.slow.look_on.Given as goal
 
 -- pass and player are of the cabinet's gauge
 abbrev pub invariant-loop-number : goal.invariant-loop-number

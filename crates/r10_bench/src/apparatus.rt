@@ -5,7 +5,7 @@ ghost use Rattle.r10_held.specs.Account.{IsNew};
 ghost use Rattle.r10_held.specs.LockFact.{outlet_received, outlet_spec};
 ghost use Rattle.r10_held.specs.Naming.{AreNamed};
 
-use crate::fault::SessionBenchFault;
+use crate::fault::BenchFault;
 use r10_body::{ChannelSpec, Kind};
 use r10_control::Recorder;
 use r10_held::Gauged;
@@ -47,7 +47,7 @@ fn settings_for(
     alloc: Global,
     messages: u32,
     channels: [ChannelSpec; 4],
-) -> Result<Settings, SessionBenchFault>
+) -> Result<Settings, BenchFault>
     ensures { IfOk result (λ s. s.channels ≡ channels) }
 {
     let channels = Vec::from_slice(alloc, &channels)?;
@@ -55,13 +55,13 @@ fn settings_for(
     let blocks = COST * 4 * u64::from(messages) / 512 + 1024;
     let blocks = blocks.min(MOST_BLOCKS) as usize;
     let Ok(settings) = Settings::of(blocks, 2, volume, 32_765, 1, 2, channels) else {
-        return Err(SessionBenchFault::Settings);
+        return Err(BenchFault::Settings);
     };
     Ok(settings)
 }
 
 /// A medium that is formatted for a recorder with room for so many messages of each feed.
-pub fn medium_for(alloc: Global, messages: u32) -> Result<Memory, SessionBenchFault> {
+pub fn medium_for(alloc: Global, messages: u32) -> Result<Memory, BenchFault> {
     let at_four = ChannelSpec { id: 4, ..CHANNEL };
     let at_five = ChannelSpec { id: 5, ..CHANNEL };
     let at_six = ChannelSpec { id: 6, ..CHANNEL };
@@ -94,7 +94,7 @@ pub fn new_recorder<M: BlockMedium + Drop>(
     alloc: Global,
     messages: u32,
     medium: M,
-) -> Result<Apparatus<M>, SessionBenchFault>
+) -> Result<Apparatus<M>, BenchFault>
     ensures new { IfOk result (λ a. IsNew M.disk outlet_spec outlet_received a.gauged.recorder) }
     ensures named { IfOk result
         (λ a. AreNamed (record { channel = 3; ring = a.three.ring } ∷ record { channel = 4; ring = a.four.ring }
@@ -106,7 +106,7 @@ pub fn new_recorder<M: BlockMedium + Drop>(
     let at_six = ChannelSpec { id: 6, ..CHANNEL };
     let settings = settings_for(alloc, messages, [at_three, at_four, at_five, at_six])?;
     if medium.blocks() != settings.blocks() {
-        return Err(SessionBenchFault::Settings);
+        return Err(BenchFault::Settings);
     }
     let (three, first) = lane(alloc, at_three)?;
     let (four, second) = lane(alloc, at_four)?;
@@ -114,7 +114,7 @@ pub fn new_recorder<M: BlockMedium + Drop>(
     let (six, fourth) = lane(alloc, at_six)?;
     let lanes = lanes_of(alloc, first, second, third, fourth)?;
     let Ok(recorder) = Recorder::new(alloc, settings, medium, lanes) else {
-        return Err(SessionBenchFault::Memory(AllocError));
+        return Err(BenchFault::Memory(AllocError));
     };
     match Gauged::new(alloc, recorder) {
         Ok(gauged) => Ok(Apparatus {
@@ -124,6 +124,6 @@ pub fn new_recorder<M: BlockMedium + Drop>(
             five,
             six,
         }),
-        Err(_) => Err(SessionBenchFault::Memory(AllocError)),
+        Err(_) => Err(BenchFault::Memory(AllocError)),
     }
 }

@@ -6,8 +6,8 @@ ghost use Rattle.r10_held.specs.LockFact.{outlet_received, outlet_spec};
 ghost use Rattle.r10_held.specs.Naming.{AreNamed};
 
 use crate::apparatus::{Apparatus, medium_for, new_recorder};
-use crate::fault::SessionBenchFault;
-use crate::figures::lap;
+use crate::fault::BenchFault;
+use crate::figures::passed;
 use crate::session::{begin, player_of};
 use r10_body::{Message, Refusal};
 use r10_count::{Bytes, Count};
@@ -87,7 +87,7 @@ impl Times {
 }
 
 /// Prints how long the calls of each kind took.
-fn show_times<R: Print>(rt: &R, kinds: &[(&'static str, Times)]) -> Result<(), SessionBenchFault> {
+fn show_times<R: Print>(rt: &R, kinds: &[(&'static str, Times)]) -> Result<(), BenchFault> {
     for (name, times) in kinds {
         let Times {
             calls,
@@ -95,7 +95,7 @@ fn show_times<R: Print>(rt: &R, kinds: &[(&'static str, Times)]) -> Result<(), S
             longest,
         } = *times;
         if longest == u64::MAX {
-            return Err(SessionBenchFault::Clock);
+            return Err(BenchFault::Clock);
         }
         let mean = all / calls.max(1);
         println!(rt; "{name}: {calls} calls, {mean} ns in the mean, {longest} ns at most")?;
@@ -110,13 +110,13 @@ fn commit_on<M: BlockMedium, N: Rings, R: Wait + Clock>(
 ) -> Result<Times, Refusal> {
     let (mut last, mut times) = (0, NONE);
     for _ in 0..COMMITS {
-        lap(rt, &mut last);
+        passed(rt, &mut last);
         {
             let mut held = cabinet.hold(rt);
             held.pump(3, 64)?;
             held.commit(rt)?;
         }
-        times.add(lap(rt, &mut last));
+        times.add(passed(rt, &mut last));
         thread::sleep(rt, Duration::from_millis(5));
     }
     Ok(times)
@@ -133,9 +133,9 @@ fn offer<R: Clock>(rt: &R, alloc: Global, port: &mut Port, number: u32) -> Resul
         bytes: Bytes::copy_of(alloc, &[0x55; 8])?,
     };
     let mut last = 0;
-    lap(rt, &mut last);
+    passed(rt, &mut last);
     let _offered = port.offer(count, message);
-    Ok(lap(rt, &mut last))
+    Ok(passed(rt, &mut last))
 }
 
 /// Advances a player, and says how long that took.
@@ -149,9 +149,9 @@ fn advance<M: BlockMedium, N: Rings, R: Wait + Clock>(
     ensures { player.new.pass.cell ≡ player.old.pass.cell }
 {
     let mut last = 0;
-    lap(rt, &mut last);
+    passed(rt, &mut last);
     let _advanced = player.advance(rt, cabinet);
-    let took = lap(rt, &mut last);
+    let took = passed(rt, &mut last);
     let _given = player.rest(alloc);
     took
 }
@@ -173,9 +173,9 @@ fn look_on<M: BlockMedium, N: Rings, R: Wait + Clock>(
     let mut last = 0;
     for number in 0..LOOKS {
         offers.add(offer(rt, alloc, &mut port, number)?);
-        lap(rt, &mut last);
+        passed(rt, &mut last);
         let _seen = cabinet.glance(rt, &mut pass);
-        glances.add(lap(rt, &mut last));
+        glances.add(passed(rt, &mut last));
         advances.add(advance(rt, alloc, cabinet, &mut player));
         thread::sleep(rt, Duration::from_millis(1));
     }
@@ -187,7 +187,7 @@ fn wait_on<
     M: BlockMedium + Drop + Send,
     N: Rings + Send + Sync,
     R: Print + Threads + Wait + Clock + Sync,
->(rt: &R, alloc: Global, made: Apparatus<M>) -> Result<(), SessionBenchFault>
+>(rt: &R, alloc: Global, made: Apparatus<M>) -> Result<(), BenchFault>
     requires new { IsNew M.disk outlet_spec outlet_received made.gauged.recorder }
     requires named { AreNamed N.rings made.gauged.recorder.lanes }
     requires gauge { made.gauged.cell ≡ N.gauge }
@@ -219,7 +219,7 @@ pub fn run<R: Print + Threads + Wait + Clock + Sync>(
     rt: &R,
     alloc: Global,
     millis: u32,
-) -> Result<(), SessionBenchFault> {
+) -> Result<(), BenchFault> {
     let slow = SlowMedium {
         memory: medium_for(alloc, LOOKS)?,
         clock: rt,

@@ -1,5 +1,5 @@
 use Rattle.std.proofs.Common.{List, [], ◌∷◌}
-use Rattle.r10_session_bench.proofs.session.run.Given as goal
+use Rattle.r10_bench.proofs.session.run.Given as goal
 
 -- the rings are named for the channels of their ports, and the gauge is the recorder's
 abbrev pub ghosts-run_over : goal.ghosts-run_over

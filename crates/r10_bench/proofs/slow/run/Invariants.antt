@@ -1,5 +1,5 @@
 use Rattle.std.proofs.Common.{[], ◌∷◌}
-use Rattle.r10_session_bench.proofs.slow.run.Given as goal
+use Rattle.r10_bench.proofs.slow.run.Given as goal
 
 -- the rings are named for the channels of their ports, and the gauge is the recorder's
 abbrev pub ghosts-wait_on : goal.ghosts-wait_on
