@@ -25,8 +25,8 @@ pub(crate) const TEXT: [u8; 32] = [0x55; 32];
 /// How many these are.
 pub(crate) const LENGTH: u16 = 32;
 
-/// Records messages, each so many counts after the one before it. Each is offered to the channel that its number says, and then each
-/// channel is pumped.
+/// Records messages, each so many counts after the one before it. Each is offered to the channel that its number says, and then
+/// each channel is pumped.
 fn record(recorder: &mut InMemory, messages: Vec<Timed>, step: u64) -> Result<(), Refusal> {
     for Timed { count, message } in messages {
         let number = count.get();
