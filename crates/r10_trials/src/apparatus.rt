@@ -4,16 +4,15 @@ ghost use Rattle.std.specs.Prelude.{◌≡◌, [], ◌∷◌, IfOk};
 ghost use Rattle.r10_held.specs.Account.{IsNew};
 ghost use Rattle.r10_held.specs.LockFact.{outlet_received, outlet_spec};
 ghost use Rattle.r10_held.specs.Naming.{AreNamed};
-ghost use Rattle.r10_medium.specs.MemoryDisk.{memory_disk};
+ghost use Rattle.r10_medium.specs.FaultyParts.{faulty_disk};
 
-use crate::fault::TrialFault;
-use crate::scene::{formatted_image, medium_of};
+use crate::scene::{image_recorded, medium_of};
 use r10_body::{ChannelSpec, Kind};
 use r10_control::Recorder;
 use r10_count::Parts;
 use r10_held::Gauged;
 use r10_machine::Settings;
-use r10_medium::{BlockMedium, Memory};
+use r10_medium::{BlockMedium, Faulty, Memory};
 use r10_port::{Outlet, Port, lane};
 use std::alloc::{AllocError, Global};
 
@@ -42,32 +41,35 @@ const FIVE: ChannelSpec = ChannelSpec {
     bits: 0,
 };
 
+/// A UART channel like it.
+const SIX: ChannelSpec = ChannelSpec { id: 6, ..FIVE };
+
 /// The recorder, and the sending ends of its lanes.
 #[derive(Drop)]
-pub struct Apparatus<M: BlockMedium> {
-    pub recorder: Recorder<M, Outlet>,
+pub struct Apparatus {
+    pub recorder: Recorder<Faulty<Memory>, Outlet>,
     pub five: Port,
     pub six: Port,
 }
 
 /// The recorder with its gauge, and the sending ends of its lanes.
 #[derive(Drop)]
-pub struct Ready<M: BlockMedium> {
-    pub gauged: Gauged<M>,
+pub struct Ready {
+    pub gauged: Gauged<Faulty<Memory>>,
     pub five: Port,
     pub six: Port,
 }
 
 /// 64 blocks, 2 of them for the directory, and these channels.
-fn settings_for(alloc: Global, five: ChannelSpec, six: ChannelSpec) -> Result<Settings, TrialFault>
+fn settings_for(alloc: Global, five: ChannelSpec, six: ChannelSpec) -> Result<Settings, AllocError>
     ensures { IfOk result (λ s. s.channels ≡ five ∷ six ∷ []) }
 {
     let channels = Vec::from_slice(alloc, &[five, six])?;
     let volume = Vec::from_slice(alloc, b"VOL")?;
-    let Ok(settings) = Settings::of(64, 2, volume, 100, 1, 2, channels) else {
-        return Err(TrialFault::Settings);
-    };
-    Ok(settings)
+    match Settings::of(64, 2, volume, 100, 1, 2, channels) {
+        Ok(settings) => Ok(settings),
+        Err(_) => Err(AllocError),
+    }
 }
 
 /// Two lanes.
@@ -80,19 +82,20 @@ fn both(alloc: Global, five: Outlet, six: Outlet) -> Result<Vec<Outlet>, AllocEr
     Ok(lanes)
 }
 
-/// A new recorder over a medium.
-pub fn over<M: BlockMedium + Drop>(alloc: Global, medium: M) -> Result<Apparatus<M>, TrialFault>
-    ensures new { IfOk result (λ a. IsNew M.disk outlet_spec outlet_received a.recorder) }
+/// A new recorder over a medium that reads as these bytes, whose call of this number fails, from 1; none fails where it is 0. A
+/// medium of another size, which no caller has, counts as refused memory.
+pub fn over(alloc: Global, image: &[u8], call: u64) -> Result<Apparatus, AllocError>
+    ensures new { IfOk result (λ a. IsNew faulty_disk outlet_spec outlet_received a.recorder) }
     ensures named { IfOk result (λ a. AreNamed
         (record { channel = 5; ring = a.five.ring } ∷ record { channel = 6; ring = a.six.ring } ∷ []) a.recorder.lanes) }
 {
-    let at_six = ChannelSpec { id: 6, ..FIVE };
-    let settings = settings_for(alloc, FIVE, at_six)?;
+    let medium = Faulty::new(medium_of(alloc, image)?, call);
+    let settings = settings_for(alloc, FIVE, SIX)?;
     if medium.blocks() != settings.blocks() {
-        return Err(TrialFault::Settings);
+        return Err(AllocError);
     }
     let (five, first) = lane(alloc, FIVE)?;
-    let (six, second) = lane(alloc, at_six)?;
+    let (six, second) = lane(alloc, SIX)?;
     let lanes = both(alloc, first, second)?;
     match Recorder::new(alloc, settings, medium, lanes) {
         Ok(recorder) => Ok(Apparatus {
@@ -100,31 +103,12 @@ pub fn over<M: BlockMedium + Drop>(alloc: Global, medium: M) -> Result<Apparatus
             five,
             six,
         }),
-        Err(_) => Err(TrialFault::Memory(AllocError)),
+        Err(_) => Err(AllocError),
     }
 }
 
-/// A new recorder over a medium that reads as these bytes.
-pub fn over_image(alloc: Global, image: &[u8]) -> Result<Apparatus<Memory>, TrialFault>
-    ensures new { IfOk result (λ a. IsNew memory_disk outlet_spec outlet_received a.recorder) }
-    ensures named { IfOk result (λ a. AreNamed
-        (record { channel = 5; ring = a.five.ring } ∷ record { channel = 6; ring = a.six.ring } ∷ []) a.recorder.lanes) }
-{
-    over(alloc, medium_of(alloc, image)?)
-}
-
 /// The bytes of a medium that was formatted for such a recorder.
-pub fn apparatus_image(alloc: Global) -> Result<Vec<u8>, TrialFault> {
-    let settings = settings_for(alloc, FIVE, ChannelSpec { id: 6, ..FIVE })?;
-    formatted_image(alloc, &settings)
-}
-
-/// A new recorder over a medium that was formatted for it.
-pub fn over_formatted(alloc: Global) -> Result<Apparatus<Memory>, TrialFault>
-    ensures new { IfOk result (λ a. IsNew memory_disk outlet_spec outlet_received a.recorder) }
-    ensures named { IfOk result (λ a. AreNamed
-        (record { channel = 5; ring = a.five.ring } ∷ record { channel = 6; ring = a.six.ring } ∷ []) a.recorder.lanes) }
-{
-    let image = apparatus_image(alloc)?;
-    over_image(alloc, image.as_slice())
+pub fn apparatus_image(alloc: Global) -> Result<Vec<u8>, AllocError> {
+    let settings = settings_for(alloc, FIVE, SIX)?;
+    image_recorded(alloc, &settings, &[])
 }

@@ -1,14 +1,16 @@
 //! A stop after each call of the medium, and a failure of each.
 
 use crate::course::{Course, run_to_failure, run_to_stop};
-use crate::fault::TrialFault;
-use crate::medium_content::{MediumContent, judged_on, shown_on};
-use crate::scene::{first_of, image_behind, image_left};
-use crate::tally::{FilesFound, Named, Row, place_in, raise, word_of};
+use crate::medium_content::{MediumContent, content_of, judged_on};
+use crate::scene::{image_behind, image_left};
+use crate::tally::{
+    CALLS, Counts, DATA, DIRECTORY, FAILED, FILES, IMAGES, Row, STOPPED, STRICT, WRONG, place_in,
+    raise, word_of,
+};
 use r10_body::Refusal;
 use r10_machine::{Event, Mode, Reply};
 use r10_medium::{BlockMedium, Choice, Crashing};
-use std::alloc::Global;
+use std::alloc::{AllocError, Global};
 
 /// More calls of the medium than any run here makes.
 const MOST: u64 = 10_000;
@@ -20,19 +22,14 @@ const CHOICES: [Choice; 4] = [
     Choice::LowestRead,
 ];
 
-/// What a new recorder finds before a step and after it, on a medium that never fails.
-#[derive(Drop)]
-struct Around {
-    place: usize,
-    before: MediumContent,
-    behind: MediumContent,
-}
-
 /// What is known when a call more is stopped.
 #[derive(Drop)]
 struct StopWalk {
-    /// Around the step that the call before met, and else around none.
-    around: Around,
+    /// The place of the step that the call before met.
+    place: usize,
+    /// What a new recorder finds before that step and after it, on a medium that never fails.
+    before: MediumContent,
+    behind: MediumContent,
     /// What was read after the calls before; nothing before the first.
     image: Vec<u8>,
     /// The place of the row of the last of these calls.
@@ -43,46 +40,41 @@ struct StopWalk {
 /// for each word of a step that calls the medium.
 pub fn try_each(
     alloc: Global,
-    course: &Course,
+    course: &Course<'_>,
     from: u64,
-    rows: &mut Vec<Named>,
-) -> Result<(), TrialFault> {
-    let around = Around {
+    rows: &mut Vec<Row>,
+) -> Result<(), AllocError> {
+    let mut walk = StopWalk {
         place: usize::MAX,
         before: MediumContent::nothing(alloc),
         behind: MediumContent::nothing(alloc),
-    };
-    let mut walk = StopWalk {
-        around,
         image: Vec::new(alloc),
         row: 0,
     };
-    walk_on(alloc, course, from, &mut walk, rows)
-}
-
-fn walk_on(
-    alloc: Global,
-    course: &Course,
-    from: u64,
-    walk: &mut StopWalk,
-    rows: &mut Vec<Named>,
-) -> Result<(), TrialFault> {
     for calls in from..MOST {
-        if is_over_after(alloc, course, calls, walk, rows)? {
+        if is_over_after(alloc, course, calls, &mut walk, rows)? {
             return Ok(());
         }
     }
-    Err(TrialFault::Endless { most: MOST })
+    raise_in(rows.as_mut_slice(), 0, WRONG);
+    Ok(())
+}
+
+/// One more of a kind in the row in this place.
+fn raise_in(rows: &mut [Row], place: usize, kind: usize) {
+    if let Some(row) = rows.get_mut(place) {
+        raise(&mut row.1, kind, 1);
+    }
 }
 
 /// Stops the course after so many calls, and has the one after them fail. It answers whether the course has no more.
 fn is_over_after(
     alloc: Global,
-    course: &Course,
+    course: &Course<'_>,
     calls: u64,
     walk: &mut StopWalk,
-    rows: &mut Vec<Named>,
-) -> Result<bool, TrialFault> {
+    rows: &mut Vec<Row>,
+) -> Result<bool, AllocError> {
     let mut replies = Vec::new(alloc);
     let medium = run_to_stop(alloc, course, calls, &mut replies)?;
     add_stop(
@@ -100,117 +92,62 @@ fn is_over_after(
 /// none.
 fn add_stop(
     alloc: Global,
-    course: &Course,
+    course: &Course<'_>,
     calls: u64,
     replies: &[Reply],
     medium: &Crashing,
     walk: &mut StopWalk,
-    rows: &mut Vec<Named>,
-) -> Result<bool, TrialFault> {
-    add_change(alloc, course, medium, walk, rows.as_mut_slice())?;
+    rows: &mut Vec<Row>,
+) -> Result<bool, AllocError> {
+    let image = image_left(alloc, medium, Choice::Read)?;
+    if let Some(block) = changed_block(walk.image.as_slice(), image.as_slice()) {
+        let is_directory = block <= course.settings.directory();
+        let kind = if is_directory { DIRECTORY } else { DATA };
+        raise_in(rows.as_mut_slice(), walk.row, kind);
+    }
+    walk.image = image;
     let Some(place) = failed_at(replies) else {
         return Ok(true);
     };
-    go_to(alloc, course, place, walk)?;
-    let mut row = Row::default();
-    raise(&mut row.calls);
-    note_replies(&mut row, course, replies, place);
-    note_images(alloc, &mut row, course, &walk.around, medium)?;
-    note_failure(
-        alloc,
-        &mut row,
-        course,
-        &walk.around,
-        calls.saturating_add(1),
-    )?;
-    walk.row = place_in(rows, word_at(course, place))?;
-    add_to(rows.as_mut_slice(), walk.row, &row);
-    Ok(false)
-}
-
-/// Counts what the last call changed in its row.
-fn add_change(
-    alloc: Global,
-    course: &Course,
-    medium: &Crashing,
-    walk: &mut StopWalk,
-    rows: &mut [Named],
-) -> Result<(), TrialFault> {
-    let image = image_left(alloc, medium, Choice::Read)?;
-    let row = change(course, walk.image.as_slice(), image.as_slice());
-    add_to(rows, walk.row, &row);
-    walk.image = image;
-    Ok(())
-}
-
-/// Sees what a new recorder finds around the step in this place, if it was another one.
-fn go_to(
-    alloc: Global,
-    course: &Course,
-    place: usize,
-    walk: &mut StopWalk,
-) -> Result<(), TrialFault> {
-    if walk.around.place != place {
-        walk.around = around_step(alloc, course, place)?;
+    let Some(event) = course.events.get(place) else {
+        return Ok(true);
+    };
+    if walk.place != place {
+        walk.place = place;
+        walk.before = content_behind(alloc, course, place)?;
+        walk.behind = content_behind(alloc, course, place.saturating_add(1))?;
     }
-    Ok(())
-}
-
-fn add_to(rows: &mut [Named], place: usize, row: &Row) {
-    if let Some(named) = rows.get_mut(place) {
-        named.row = named.row.join(row);
+    walk.row = place_in(rows, word_of(event))?;
+    match rows.get_mut(walk.row) {
+        Some(row) => {
+            note_stop(alloc, &mut row.1, course, replies, medium, walk)?;
+            note_failure(alloc, &mut row.1, course, walk, calls.saturating_add(1))?;
+            Ok(false)
+        }
+        None => Ok(true),
     }
-}
-
-fn word_at(course: &Course, place: usize) -> &'static str {
-    match course.events.get(place) {
-        Some(event) => word_of(event),
-        None => "none",
-    }
-}
-
-fn around_step(alloc: Global, course: &Course, place: usize) -> Result<Around, TrialFault> {
-    let before = shown_behind(alloc, course, place)?;
-    let behind = shown_behind(alloc, course, place.saturating_add(1))?;
-    Ok(Around {
-        place,
-        before,
-        behind,
-    })
 }
 
 /// What a new recorder finds after the first so many steps.
-fn shown_behind(alloc: Global, course: &Course, steps: usize) -> Result<MediumContent, TrialFault> {
-    let events = first_of(course.events.as_slice(), steps);
-    let image = image_behind(alloc, &course.settings, course.image.as_slice(), events)?;
-    shown_on(alloc, &course.settings, image.as_slice())
+fn content_behind(
+    alloc: Global,
+    course: &Course<'_>,
+    steps: usize,
+) -> Result<MediumContent, AllocError> {
+    let events = &course.events[..steps.min(course.events.len())];
+    let mut replies = Vec::new(alloc);
+    let image = image_behind(alloc, course.settings, course.image, events, &mut replies)?;
+    content_of(alloc, course.settings, image.as_slice())
 }
 
 /// The place of the first reply that says Medium.
 fn failed_at(replies: &[Reply]) -> Option<usize> {
     for (place, reply) in replies.iter().enumerate() {
-        if says_medium(reply) {
+        if matches!(reply, Reply::Refused(Refusal::Medium)) {
             return Some(place);
         }
     }
     None
-}
-
-fn says_medium(reply: &Reply) -> bool {
-    *reply == Reply::Refused(Refusal::Medium)
-}
-
-/// What the last call changed.
-fn change(course: &Course, old: &[u8], new: &[u8]) -> Row {
-    let mut row = Row::default();
-    if let Some(block) = changed_block(old, new) {
-        if block <= course.settings.directory() {
-            row.directory = 1;
-        } else {
-            row.data = 1;
-        }
-    }
-    row
 }
 
 /// The number of the first block that differs.
@@ -220,145 +157,96 @@ pub fn changed_block(old: &[u8], new: &[u8]) -> Option<usize> {
 }
 
 /// Counts a run with other replies than those of the step in this place that met a failure.
-fn note_replies(row: &mut Row, course: &Course, replies: &[Reply], place: usize) {
-    if replies.len() != course.events.len() || !are_right(course, replies, place) {
-        raise(&mut row.wrong);
-    }
-}
-
-fn are_right(course: &Course, replies: &[Reply], failed: usize) -> bool {
+fn note_replies(row: &mut Counts, course: &Course<'_>, replies: &[Reply], failed: usize) {
+    let mut right = replies.len() == course.events.len();
     for (place, reply) in replies.iter().enumerate() {
-        if !is_right(course, place, reply, failed) {
-            return false;
-        }
+        right = right && is_right(course, place, reply, failed);
     }
-    true
+    if !right {
+        raise(row, WRONG, 1);
+    }
 }
 
-/// Whether the step in this place may answer so where that in another place met a failure.
-fn is_right(course: &Course, place: usize, reply: &Reply, failed: usize) -> bool {
-    if place == failed {
-        return says_medium(reply);
-    }
+/// Whether the step in this place may answer so where that in another place met a failure. A recorder that failed answers offers,
+/// losses, and what a cursor has queued, as before.
+fn is_right(course: &Course<'_>, place: usize, reply: &Reply, failed: usize) -> bool {
     if place < failed {
-        return is_reply(course.replies.get(place), reply);
+        return match course.replies.get(place) {
+            Some(wanted) => *reply == *wanted,
+            None => false,
+        };
+    }
+    if place == failed {
+        return matches!(reply, Reply::Refused(Refusal::Medium));
     }
     match course.events.get(place) {
-        Some(event) => is_failed(event, reply),
-        None => false,
-    }
-}
-
-/// Whether a reply is the one that is wanted, if one is.
-pub fn is_reply(wanted: Option<&Reply>, reply: &Reply) -> bool {
-    match wanted {
-        Some(wanted) => *reply == *wanted,
-        None => false,
-    }
-}
-
-/// Whether a recorder that failed may answer so: offers, losses, and what a cursor has queued, are as before.
-fn is_failed(event: &Event, reply: &Reply) -> bool {
-    match event {
-        Event::Offer { .. } | Event::Lose { .. } | Event::Next { .. } | Event::Close { .. } => true,
-        Event::Status => match reply {
+        Some(Event::Offer { .. } | Event::Lose { .. } | Event::Next { .. } | Event::Close { .. }) =>
+            { true }
+        Some(Event::Status) => match reply {
             Reply::Status(status) => status.mode == Mode::Failed,
             _ => false,
         },
-        _ => *reply == Reply::Refused(Refusal::Failed),
+        _ => matches!(reply, Reply::Refused(Refusal::Failed)),
     }
 }
 
-/// Counts what is found on each image that a stop may leave, and their files.
-fn note_images(
+/// Counts a stop: its replies, and what is found on each image that it may leave.
+fn note_stop(
     alloc: Global,
-    row: &mut Row,
-    course: &Course,
-    around: &Around,
+    row: &mut Counts,
+    course: &Course<'_>,
+    replies: &[Reply],
     medium: &Crashing,
-) -> Result<(), TrialFault> {
+    walk: &StopWalk,
+) -> Result<(), AllocError> {
+    raise(row, CALLS, 1);
+    note_replies(row, course, replies, walk.place);
     for choice in &CHOICES {
         let image = image_left(alloc, medium, *choice)?;
-        note_image(alloc, row, course, around, image.as_slice())?;
+        let (files, strict) = note_image(alloc, row, STOPPED, course, walk, image.as_slice())?;
+        raise(row, IMAGES, 1);
+        raise(row, FILES, files);
+        raise(row, STRICT, strict);
     }
     Ok(())
 }
 
-/// Counts what is found on an image that a stop left, and its files.
-fn note_image(
-    alloc: Global,
-    row: &mut Row,
-    course: &Course,
-    around: &Around,
-    image: &[u8],
-) -> Result<(), TrialFault> {
-    raise(&mut row.images);
-    row.stopped.add(found_on(alloc, course, around, image)?);
-    note_files(alloc, row, image)
-}
-
-/// Counts the files on an image.
-fn note_files(alloc: Global, row: &mut Row, image: &[u8]) -> Result<(), TrialFault> {
-    match judged_on(alloc, image)? {
-        Some(judged) => {
-            row.files = row.files.saturating_add(judged.files);
-            row.strict = row.strict.saturating_add(judged.strict);
-        }
-        None => raise(&mut row.wrong),
-    }
-    Ok(())
-}
-
-/// Which files a new recorder finds on a medium of these bytes.
-fn found_on(
-    alloc: Global,
-    course: &Course,
-    around: &Around,
-    image: &[u8],
-) -> Result<FilesFound, TrialFault> {
-    let shown = shown_on(alloc, &course.settings, image)?;
-    Ok(found_as(shown == around.before, shown == around.behind))
-}
-
-fn found_as(old: bool, new: bool) -> FilesFound {
-    match (old, new) {
-        (true, true) => FilesFound::Same,
-        (true, false) => FilesFound::Old,
-        (false, true) => FilesFound::New,
-        (false, false) => FilesFound::Neither,
-    }
-}
-
-/// Has the call of this number fail, from 1, and counts what is found on the medium then.
+/// Has the call of this number fail, from 1, and counts what is found on the medium then, whose files are to be strict.
 fn note_failure(
     alloc: Global,
-    row: &mut Row,
-    course: &Course,
-    around: &Around,
+    row: &mut Counts,
+    course: &Course<'_>,
+    walk: &StopWalk,
     call: u64,
-) -> Result<(), TrialFault> {
+) -> Result<(), AllocError> {
     let mut replies = Vec::new(alloc);
     let medium = run_to_failure(alloc, course, call, &mut replies)?;
-    note_replies(row, course, replies.as_slice(), around.place);
-    if medium.failures() != 1 {
-        raise(&mut row.wrong);
-    }
+    note_replies(row, course, replies.as_slice(), walk.place);
+    let failures = medium.failures();
     let image = medium.into_medium().image(alloc)?;
-    note_failed(alloc, row, course, around, image.as_slice())
-}
-
-/// Counts what is found on an image that a failure left, whose files are strict.
-fn note_failed(
-    alloc: Global,
-    row: &mut Row,
-    course: &Course,
-    around: &Around,
-    image: &[u8],
-) -> Result<(), TrialFault> {
-    row.failed.add(found_on(alloc, course, around, image)?);
-    match judged_on(alloc, image)? {
-        Some(judged) if judged.files == judged.strict => (),
-        _ => raise(&mut row.wrong),
+    let (files, strict) = note_image(alloc, row, FAILED, course, walk, image.as_slice())?;
+    if failures != 1 || files != strict {
+        raise(row, WRONG, 1);
     }
     Ok(())
+}
+
+/// Counts what a new recorder finds on an image, from this kind on. It answers how many files are on it, and how many are strict.
+fn note_image(
+    alloc: Global,
+    row: &mut Counts,
+    first: usize,
+    course: &Course<'_>,
+    walk: &StopWalk,
+    image: &[u8],
+) -> Result<(u64, u64), AllocError> {
+    let found = content_of(alloc, course.settings, image)?;
+    let kind = match (found.is(&walk.before), found.is(&walk.behind)) {
+        (true, false) => 0,
+        (false, true) => 1,
+        (true, true) => 2,
+        (false, false) => 3,
+    };
+    raise(row, first.saturating_add(kind), 1);
+    judged_on(alloc, image)
 }

@@ -30,14 +30,9 @@ impl ChannelSource for ListSource {
     }
 }
 
-/// The count of the message of this number.
-fn count_of(number: u64) -> u64 {
-    FIRST.saturating_add(number)
-}
-
 /// The message of this number.
 fn message(alloc: Global, number: u8) -> Result<Timed, AllocError> {
-    let Some(count) = Count::of(count_of(u64::from(number))) else {
+    let Some(count) = Count::of(FIRST + u64::from(number)) else {
         return Err(AllocError);
     };
     let message = Message::Uart {
@@ -49,12 +44,15 @@ fn message(alloc: Global, number: u8) -> Result<Timed, AllocError> {
 }
 
 /// A source of all messages.
-pub fn source(alloc: Global) -> Result<ListSource, AllocError> {
+pub fn source(alloc: Global) -> Result<Box<ListSource>, AllocError> {
     let mut left = VecDeque::new(alloc);
     for number in 0..MESSAGES {
         left.push_back(SourceItem::Message(message(alloc, number)?))?;
     }
-    Ok(ListSource { left })
+    match Box::new(alloc, ListSource { left }) {
+        Ok(source) => Ok(source),
+        Err(_) => Err(AllocError),
+    }
 }
 
 /// Whether this is the message of this number, after no overflow.
@@ -63,7 +61,7 @@ pub fn is_message(number: u64, count: Count, message: &Message, gap: Gap) -> boo
         Message::Uart { parity, sub, bytes } => {
             let bytes = bytes.as_slice();
             gap == Gap::Whole
-                && count.get() == count_of(number)
+                && count.get() == FIRST.saturating_add(number)
                 && !*parity
                 && *sub == 0
                 && bytes.len() == 1

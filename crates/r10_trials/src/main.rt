@@ -6,10 +6,8 @@
 
 mod again;
 mod apparatus;
-mod asks;
 mod course;
 mod each;
-mod failing;
 mod fault;
 mod list_source;
 mod medium_content;
@@ -27,9 +25,8 @@ mod title;
 mod trial;
 
 use crate::fault::TrialFault;
+use r10_images::StreamFault;
 use std::alloc::Global;
-use std::io;
-use std::io::{BufWriter, Write};
 use std::process::ExitCode;
 use std::sync::Wait;
 use std::thread::Threads;
@@ -37,36 +34,44 @@ use std::thread::Threads;
 /// The line that stands before the sessions.
 const SESSIONS: &str = "== sessions\n";
 
+/// Room for all that is printed. So what is printed asks for memory once, before the first trial.
+const ROOM: usize = 32_768;
+
+/// Makes the trials and the sessions of the input, and prints what they came to, also where one of them ended early.
 fn run<R: Input + Print + AllocGlobal + Threads + Wait + Sync>(rt: &R) -> Result<(), TrialFault> {
     let alloc: Global = rt.alloc();
-    let bytes = r10_images::read_whole(alloc, &mut rt.reader())?;
-    match str::from_utf8(bytes.as_slice()) {
-        Ok(text) => try_text(rt, alloc, text),
-        Err(_) => Err(TrialFault::NoTrial { place: 1 }),
+    let input = match r10_images::read_whole(alloc, &mut rt.reader()) {
+        Ok(input) => input,
+        Err(fault) => return Err(TrialFault::Stream(fault)),
+    };
+    let Ok(mut text) = String::with_capacity(alloc, ROOM) else {
+        return Err(TrialFault::Memory);
+    };
+    let tried = try_input(rt, alloc, input.as_slice(), &mut text);
+    match rt.write_all(text.as_bytes()) {
+        Ok(()) => tried,
+        Err(error) => Err(TrialFault::Stream(StreamFault::Write(error))),
     }
 }
 
-/// The trials of a text, and the lines of its sessions.
-fn parts_of(text: &str) -> (&str, &str) {
-    match text.split_once(SESSIONS) {
-        Some(parts) => parts,
-        None => (text, ""),
-    }
-}
-
-fn try_text<R: Print + Threads + Wait + Sync>(
+/// Makes the trials and the sessions of the input, and adds what they came to.
+fn try_input<R: Threads + Wait + Sync>(
     rt: &R,
     alloc: Global,
-    text: &str,
+    input: &[u8],
+    text: &mut String,
 ) -> Result<(), TrialFault> {
-    let mut writer = BufWriter::new(alloc, io::writer(rt))?;
-    let (trials, sessions) = parts_of(text);
+    let Ok(input) = str::from_utf8(input) else {
+        return Err(TrialFault::NoTrial { place: 1 });
+    };
+    let (trials, sessions) = match input.split_once(SESSIONS) {
+        Some(parts) => parts,
+        None => (input, ""),
+    };
     if !trials.is_empty() {
-        trial::try_all(alloc, trials, &mut writer)?;
+        trial::try_all(alloc, trials, text)?;
     }
-    sessions::try_all(rt, alloc, sessions, &mut writer)?;
-    writer.flush()?;
-    Ok(())
+    sessions::try_all(rt, alloc, sessions, text)
 }
 
 fn main(rt: HostRuntime) -> ExitCode {

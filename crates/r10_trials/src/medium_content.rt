@@ -1,29 +1,19 @@
 //! What a medium shows.
 
-use crate::fault::TrialFault;
-use crate::scene::{medium_of, run_events};
+use crate::scene::{image_behind, medium_of};
 use r10_body::Refusal;
-use r10_checker::{FileVerdict, Verdict, check_medium};
-use r10_dirchain::{ChainError, Directory, ListedFile, read_chain};
+use r10_checker::{Verdict, check_medium};
+use r10_dirchain::{ChainError, ListedFile, read_chain};
 use r10_machine::{Event, Reply, Settings};
-use r10_medium::Memory;
 use std::alloc::{AllocError, Global};
 
 /// What a new recorder finds on a medium.
-#[derive(Drop, PartialEq, Eq)]
+#[derive(Drop)]
 pub struct MediumContent {
     /// The replies to a mount and a listing.
     pub replies: Vec<Reply>,
     /// The bytes of the listed files, end to end.
     pub bytes: Vec<u8>,
-}
-
-/// How many files of a medium were judged.
-#[derive(Clone, Copy)]
-pub struct Judged {
-    pub files: u64,
-    /// Those of which the verdict is that they are strict.
-    pub strict: u64,
 }
 
 impl MediumContent {
@@ -34,47 +24,40 @@ impl MediumContent {
             bytes: Vec::new(alloc),
         }
     }
+
+    /// Whether the same is found on another medium.
+    pub fn is(&self, other: &MediumContent) -> bool {
+        *self.replies.as_slice() == *other.replies.as_slice()
+            && *self.bytes.as_slice() == *other.bytes.as_slice()
+    }
 }
 
 /// What a new recorder finds on a medium of these bytes.
-pub fn shown_on(
+pub fn content_of(
     alloc: Global,
     settings: &Settings,
     image: &[u8],
-) -> Result<MediumContent, TrialFault> {
-    let mut shown = MediumContent::nothing(alloc);
-    show(alloc, settings, image, &mut shown)?;
-    Ok(shown)
-}
-
-fn show(
-    alloc: Global,
-    settings: &Settings,
-    image: &[u8],
-    shown: &mut MediumContent,
-) -> Result<(), TrialFault> {
-    let mut medium = medium_of(alloc, image)?;
-    shown.bytes = bytes_of(alloc, &mut medium, image)?;
+) -> Result<MediumContent, AllocError> {
+    let mut content = MediumContent::nothing(alloc);
+    push_files(alloc, image, &mut content.bytes)?;
     let events = [Event::Mount, Event::Files];
-    let _medium = run_events(alloc, settings, medium, &events, &mut shown.replies)?;
-    Ok(())
+    let _image = image_behind(alloc, settings, image, &events, &mut content.replies)?;
+    Ok(content)
 }
 
-/// The bytes of the listed files, none where there is no directory.
-fn bytes_of(alloc: Global, medium: &mut Memory, image: &[u8]) -> Result<Vec<u8>, AllocError> {
-    match read_chain(alloc, medium) {
-        Ok(directory) => listed_bytes(alloc, &directory, image),
+/// Adds the bytes of the listed files, none where there is no directory.
+fn push_files(alloc: Global, image: &[u8], bytes: &mut Vec<u8>) -> Result<(), AllocError> {
+    let mut medium = medium_of(alloc, image)?;
+    match read_chain(alloc, &mut medium) {
+        Ok(directory) => {
+            for file in &directory.listing(alloc)? {
+                bytes.extend_from_slice(file_bytes(file, image))?;
+            }
+            Ok(())
+        }
         Err(ChainError::OutOfMemory) => Err(AllocError),
-        Err(_) => Ok(Vec::new(alloc)),
+        Err(_) => Ok(()),
     }
-}
-
-fn listed_bytes(alloc: Global, directory: &Directory, image: &[u8]) -> Result<Vec<u8>, AllocError> {
-    let mut bytes = Vec::new(alloc);
-    for file in &directory.listing(alloc)? {
-        bytes.extend_from_slice(file_bytes(file, image))?;
-    }
-    Ok(bytes)
 }
 
 /// The bytes of one file, none where they don't lie inside the medium.
@@ -88,25 +71,20 @@ fn file_bytes<'a>(file: &ListedFile, image: &'a [u8]) -> &'a [u8] {
     }
 }
 
-/// How many files there are on a medium of these bytes, and how many are strict. `None` where its directory is at fault.
-pub fn judged_on(alloc: Global, image: &[u8]) -> Result<Option<Judged>, TrialFault> {
+/// How many files there are on a medium of these bytes, and how many are strict. A directory at fault counts as one file that is
+/// not.
+pub fn judged_on(alloc: Global, image: &[u8]) -> Result<(u64, u64), AllocError> {
     let mut medium = medium_of(alloc, image)?;
-    match check_medium(alloc, &mut medium) {
-        Ok(files) => Ok(Some(judged_in(files.as_slice()))),
-        Err(Refusal::OutOfMemory) => Err(TrialFault::Memory(AllocError)),
-        Err(_) => Ok(None),
-    }
-}
-
-fn judged_in(files: &[FileVerdict]) -> Judged {
+    let files = match check_medium(alloc, &mut medium) {
+        Ok(files) => files,
+        Err(Refusal::OutOfMemory) => return Err(AllocError),
+        Err(_) => return Ok((1, 0)),
+    };
     let mut strict = 0u64;
-    for file in files {
+    for file in &files {
         if file.verdict == Verdict::Strict {
             strict = strict.saturating_add(1);
         }
     }
-    Judged {
-        files: files.len() as u64,
-        strict,
-    }
+    Ok((files.len() as u64, strict))
 }

@@ -2,11 +2,10 @@
 
 use crate::course::{Course, run_to_failure, run_to_stop};
 use crate::each::changed_block;
-use crate::fault::TrialFault;
-use crate::scene::{image_behind, image_left, medium_of, run_events};
+use crate::scene::{image_behind, image_left};
 use crate::tally::push_number;
 use r10_machine::Reply;
-use r10_medium::{Choice, Crashing};
+use r10_medium::Choice;
 use r10_text::reply_lines;
 use std::alloc::{AllocError, Global};
 
@@ -34,162 +33,101 @@ fn push_replies(
     let mut number = done;
     for reply in replies {
         number = number.saturating_add(1);
-        push_reply(alloc, number, reply, text)?;
+        let lines = reply_lines(alloc, number, reply)?;
+        text.push_str(lines.as_str())?;
     }
     Ok(())
-}
-
-fn push_reply(
-    alloc: Global,
-    number: usize,
-    reply: &Reply,
-    text: &mut String,
-) -> Result<(), AllocError> {
-    let lines = reply_lines(alloc, number, reply)?;
-    text.push_str(lines.as_str())
 }
 
 /// Adds the line that says what the call of this number changes, counted from 1.
 fn push_call(
     alloc: Global,
-    course: &Course,
+    course: &Course<'_>,
     call: u64,
-    text: &mut String,
-) -> Result<(), TrialFault> {
-    let before = image_after(alloc, course, call.saturating_sub(1))?;
-    let behind = image_after(alloc, course, call)?;
-    let changed = changed_block(before.as_slice(), behind.as_slice());
-    push_changed(alloc, call, changed, text)?;
-    Ok(())
-}
-
-fn push_changed(
-    alloc: Global,
-    call: u64,
-    changed: Option<usize>,
     text: &mut String,
 ) -> Result<(), AllocError> {
+    let before = image_after(alloc, course, call.saturating_sub(1))?;
+    let behind = image_after(alloc, course, call)?;
     text.push_str("call ")?;
-    push_number(alloc, call, " changes ", text)?;
-    match changed {
-        Some(block) => push_block(alloc, block, text),
-        None => text.push_str("no block\n"),
+    match changed_block(before.as_slice(), behind.as_slice()) {
+        Some(block) => {
+            push_number(alloc, call, " changes block ", text)?;
+            push_number(alloc, block as u64, "\n", text)
+        }
+        None => push_number(alloc, call, " changes no block\n", text),
     }
 }
 
-fn push_block(alloc: Global, block: usize, text: &mut String) -> Result<(), AllocError> {
-    text.push_str("block ")?;
-    push_number(alloc, block as u64, "\n", text)
-}
-
 /// What is read after so many calls.
-fn image_after(alloc: Global, course: &Course, calls: u64) -> Result<Vec<u8>, TrialFault> {
+fn image_after(alloc: Global, course: &Course<'_>, calls: u64) -> Result<Vec<u8>, AllocError> {
     let mut replies = Vec::new(alloc);
     let medium = run_to_stop(alloc, course, calls, &mut replies)?;
-    Ok(image_left(alloc, &medium, Choice::Read)?)
+    image_left(alloc, &medium, Choice::Read)
 }
 
 /// Adds the lines of a course whose call of this number fails, from 1, and of a new recorder that does the rest on the medium as it
 /// stands then.
 pub fn fail_at(
     alloc: Global,
-    course: &Course,
+    course: &Course<'_>,
     call: u64,
     text: &mut String,
-) -> Result<(), TrialFault> {
+) -> Result<(), AllocError> {
     push_call(alloc, course, call, text)?;
-    let image = push_failed(alloc, course, call, text)?;
-    text.push_str("a new recorder\n")?;
-    push_rest(alloc, course, image.as_slice(), text)
-}
-
-/// Adds the lines of a course whose call of this number fails, and answers what is read then.
-fn push_failed(
-    alloc: Global,
-    course: &Course,
-    call: u64,
-    text: &mut String,
-) -> Result<Vec<u8>, TrialFault> {
     let mut replies = Vec::new(alloc);
-    let medium = run_to_failure(alloc, course, call, &mut replies)?.into_medium();
+    let medium = run_to_failure(alloc, course, call, &mut replies)?;
+    let image = medium.into_medium().image(alloc)?;
     push_replies(alloc, 0, replies.as_slice(), text)?;
-    Ok(medium.image(alloc)?)
+    push_rest(alloc, course, "a new recorder\n", image.as_slice(), text)
 }
 
 /// Adds the lines of a course that is stopped after so many calls, and of a new recorder that does the rest on each image that the
 /// stop may leave.
 pub fn stop_after(
     alloc: Global,
-    course: &Course,
+    course: &Course<'_>,
     calls: u64,
     text: &mut String,
-) -> Result<(), TrialFault> {
+) -> Result<(), AllocError> {
     push_call(alloc, course, calls, text)?;
     let mut replies = Vec::new(alloc);
     let medium = run_to_stop(alloc, course, calls, &mut replies)?;
     push_replies(alloc, 0, replies.as_slice(), text)?;
-    push_each_left(alloc, course, &medium, text)
-}
-
-/// Adds the lines of a new recorder that does the rest on each image that a stop may leave.
-fn push_each_left(
-    alloc: Global,
-    course: &Course,
-    medium: &Crashing,
-    text: &mut String,
-) -> Result<(), TrialFault> {
     for (choice, line) in &LEFT {
-        text.push_str(line)?;
-        push_left(alloc, course, medium, *choice, text)?;
+        let image = image_left(alloc, &medium, *choice)?;
+        push_rest(alloc, course, line, image.as_slice(), text)?;
     }
     Ok(())
-}
-
-/// Adds the lines of a new recorder that does the rest on one of the images that a stop may leave.
-fn push_left(
-    alloc: Global,
-    course: &Course,
-    medium: &Crashing,
-    choice: Choice,
-    text: &mut String,
-) -> Result<(), TrialFault> {
-    let image = image_left(alloc, medium, choice)?;
-    push_rest(alloc, course, image.as_slice(), text)
 }
 
 /// Adds the lines of a new recorder that does the rest where one byte of what a course leaves is another.
 pub fn spoil_byte(
     alloc: Global,
-    course: &Course,
+    course: &Course<'_>,
     place: usize,
     byte: u8,
     text: &mut String,
-) -> Result<(), TrialFault> {
-    let (image, events) = (course.image.as_slice(), course.events.as_slice());
-    let mut image = image_behind(alloc, &course.settings, image, events)?;
-    let Some(spoilt) = image.get_mut(place) else {
-        return Err(TrialFault::Settings);
-    };
-    *spoilt = byte;
-    push_rest(alloc, course, image.as_slice(), text)
+) -> Result<(), AllocError> {
+    let (settings, events) = (course.settings, course.events);
+    let mut replies = Vec::new(alloc);
+    let mut image = image_behind(alloc, settings, course.image, events, &mut replies)?;
+    match image.get_mut(place) {
+        Some(spoilt) => *spoilt = byte,
+        None => return text.push_str("no such byte\n"),
+    }
+    push_rest(alloc, course, "", image.as_slice(), text)
 }
 
-/// Adds the lines of a new recorder that does the rest on a medium of these bytes.
+/// Adds this line, and those of a new recorder that does the rest on a medium of these bytes.
 fn push_rest(
     alloc: Global,
-    course: &Course,
+    course: &Course<'_>,
+    line: &str,
     image: &[u8],
     text: &mut String,
-) -> Result<(), TrialFault> {
+) -> Result<(), AllocError> {
+    text.push_str(line)?;
     let mut replies = Vec::new(alloc);
-    let medium = medium_of(alloc, image)?;
-    let _medium = run_events(
-        alloc,
-        &course.settings,
-        medium,
-        course.rest.as_slice(),
-        &mut replies,
-    )?;
-    push_replies(alloc, course.events.len(), replies.as_slice(), text)?;
-    Ok(())
+    let _image = image_behind(alloc, course.settings, image, course.rest, &mut replies)?;
+    push_replies(alloc, course.events.len(), replies.as_slice(), text)
 }

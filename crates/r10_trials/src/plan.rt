@@ -5,65 +5,50 @@ use r10_count::Items;
 use r10_shared::{Gate, Order};
 use std::alloc::{AllocError, Global};
 
-/// A gate that so many workers pass, the feeds first.
+/// What control asks for while the feeds run, and how many of the workers pass the gate, the feeds first.
 #[derive(Clone, Copy)]
-pub struct First {
-    workers: usize,
-}
-
-impl Gate for First {
-    fn pass(&self, worker: usize) -> bool {
-        worker < self.workers
-    }
-}
-
-/// What control asks for while the feeds run.
-#[derive(Clone, Copy, PartialEq, Eq)]
-pub enum Plan {
-    /// Nothing.
-    Plain,
+pub struct Plan {
     /// That the file is closed, and another begun.
-    SecondFile,
-    /// That the file is closed and erased, and another begun.
-    Erased,
-    /// Nothing; and of the workers the feeds alone pass the gate, so that all messages are left, and memory is asked for equally
-    /// often in each run.
-    Unwritten,
+    pub stops: bool,
+    /// That the file is erased before another is begun.
+    pub erases: bool,
+    /// Whether only the feeds pass the gate, so that all messages are left, and memory is asked for equally often in each run.
+    pub is_unwritten: bool,
+}
+
+impl Gate for Plan {
+    fn pass(&self, worker: usize) -> bool {
+        !self.is_unwritten || worker < 2
+    }
 }
 
 impl Plan {
     /// The session of this name.
     pub fn of(name: &str) -> Option<Plan> {
-        match name {
-            "two-feeds" => Some(Plan::Plain),
-            "a-second-file" => Some(Plan::SecondFile),
-            "an-erased-file" => Some(Plan::Erased),
-            "nothing-written" => Some(Plan::Unwritten),
-            _ => None,
-        }
-    }
-
-    /// The gate of the session.
-    pub fn gate(self) -> First {
-        match self {
-            Plan::Unwritten => First { workers: 2 },
-            _ => First {
-                workers: usize::MAX,
-            },
-        }
+        let (stops, erases, is_unwritten) = match name {
+            "two-feeds" => (false, false, false),
+            "a-second-file" => (true, false, false),
+            "an-erased-file" => (true, true, false),
+            "nothing-written" => (false, false, true),
+            _ => return None,
+        };
+        Some(Plan {
+            stops,
+            erases,
+            is_unwritten,
+        })
     }
 
     /// What control asks for.
     pub fn orders(self, alloc: Global) -> Result<Vec<Order>, AllocError> {
         let mut orders = Vec::new(alloc);
-        if self == Plan::Plain || self == Plan::Unwritten {
-            return Ok(orders);
+        if self.stops {
+            orders.push(Order::Stop)?;
+            if self.erases {
+                orders.push(Order::Erase)?;
+            }
+            orders.push(start_of(alloc, b"SECOND")?)?;
         }
-        orders.push(Order::Stop)?;
-        if self == Plan::Erased {
-            orders.push(Order::Erase)?;
-        }
-        orders.push(start_of(alloc, b"SECOND")?)?;
         Ok(orders)
     }
 }

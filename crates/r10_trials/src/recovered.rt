@@ -1,72 +1,83 @@
 //! What a new recorder finds on a medium.
 
-use crate::apparatus::{Apparatus, LAST, over_image};
-use crate::fault::{TrialFault, fault_of};
+use crate::apparatus::{Apparatus, LAST, over};
 use crate::medium_content::judged_on;
+use crate::notes::Notes;
 use crate::standing::CHANNELS;
-use r10_body::Entry;
+use r10_body::{Entry, Refusal};
 use r10_control::Recorder;
 use r10_count::Items;
-use r10_lane::LaneOut;
-use r10_medium::BlockMedium;
-use std::alloc::Global;
+use r10_medium::{Faulty, Memory};
+use r10_port::Outlet;
+use std::alloc::{AllocError, Global};
 
-/// What a new recorder finds on a medium: the messages of both channels, in the order of the files, and whether each file is
-/// strict.
-#[derive(Drop)]
-pub struct Recovered {
-    pub entries: Vec<Entry>,
-    pub strict: bool,
+/// Mounts the medium and closes a file that was cut off, if there is one.
+fn seal_last(recorder: &mut Recorder<Faulty<Memory>, Outlet>) -> Result<(), Refusal> {
+    recorder.mount()?;
+    match recorder.seal() {
+        Ok(()) | Err(Refusal::NoSuchFile) => recorder.dismount(),
+        Err(refusal) => Err(refusal),
+    }
 }
 
-/// The messages of a file, after those that were found before.
-fn add_file<M: BlockMedium, L: LaneOut>(
+/// Adds the messages of a file.
+fn add_file(
     alloc: Global,
-    recorder: &mut Recorder<M, L>,
+    recorder: &mut Recorder<Faulty<Memory>, Outlet>,
     file: usize,
     entries: &mut Vec<Entry>,
-) -> Result<(), TrialFault> {
-    let channels = Items::of(Vec::from_slice(alloc, &CHANNELS)?);
-    let mut cursor = match recorder.cursor(file, channels, 0, LAST) {
-        Ok(cursor) => cursor,
-        Err(refusal) => return Err(fault_of(refusal)),
+) -> Result<(), Refusal> {
+    let Ok(channels) = Vec::from_slice(alloc, &CHANNELS) else {
+        return Err(Refusal::OutOfMemory);
     };
-    if let Err(refusal) = recorder.advance(&mut cursor) {
-        return Err(fault_of(refusal));
-    }
+    let mut cursor = recorder.cursor(file, Items::of(channels), 0, LAST)?;
+    recorder.advance(&mut cursor)?;
     for entry in cursor.rest(alloc) {
-        entries.push(entry)?;
+        let Ok(()) = entries.push(entry) else {
+            return Err(Refusal::OutOfMemory);
+        };
     }
     Ok(())
 }
 
-/// The messages of all files.
-fn all_entries<M: BlockMedium, L: LaneOut>(
+/// Adds the messages of all files.
+fn add_files(
     alloc: Global,
-    recorder: &mut Recorder<M, L>,
-) -> Result<Vec<Entry>, TrialFault> {
-    if let Err(refusal) = recorder.mount() {
-        return Err(fault_of(refusal));
-    }
-    let files = match recorder.files() {
-        Ok(files) => files.len(),
-        Err(refusal) => return Err(fault_of(refusal)),
-    };
-    let mut entries = Vec::new(alloc);
+    recorder: &mut Recorder<Faulty<Memory>, Outlet>,
+    entries: &mut Vec<Entry>,
+) -> Result<(), Refusal> {
+    recorder.mount()?;
+    let files = recorder.files()?.len();
     for file in 0..files {
-        add_file(alloc, recorder, file, &mut entries)?;
+        add_file(alloc, recorder, file, entries)?;
     }
-    Ok(entries)
+    Ok(())
 }
 
-/// What a new recorder finds on a medium that reads as these bytes.
-pub fn recovered_from(alloc: Global, image: &[u8]) -> Result<Recovered, TrialFault> {
-    let Apparatus { recorder, .. } = over_image(alloc, image)?;
+/// The bytes that a new recorder leaves on a medium of these bytes, once it has closed a file that was cut off.
+fn sealed_image(alloc: Global, image: &[u8], notes: &mut Notes) -> Result<Vec<u8>, AllocError> {
+    let Apparatus { recorder, .. } = over(alloc, image, 0)?;
     let mut recorder = recorder;
-    let entries = all_entries(alloc, &mut recorder)?;
-    let strict = match judged_on(alloc, image)? {
-        Some(judged) => judged.files == judged.strict,
-        None => false,
-    };
-    Ok(Recovered { entries, strict })
+    let sealed = seal_last(&mut recorder);
+    notes.want(sealed.is_ok(), "a new recorder seals nothing");
+    recorder.into_medium().into_medium().image(alloc)
+}
+
+/// What a new recorder finds on a medium, once another has closed a file that was cut off: the messages of both channels, in the
+/// order of the files, which are to be strict.
+pub fn found_on(
+    alloc: Global,
+    medium: &Memory,
+    notes: &mut Notes,
+) -> Result<Vec<Entry>, AllocError> {
+    let image = medium.image(alloc)?;
+    let sealed = sealed_image(alloc, image.as_slice(), notes)?;
+    let (files, strict) = judged_on(alloc, sealed.as_slice())?;
+    notes.want(files == strict, "a file is not strict");
+    let Apparatus { recorder, .. } = over(alloc, sealed.as_slice(), 0)?;
+    let mut recorder = recorder;
+    let mut entries = Vec::new(alloc);
+    let read = add_files(alloc, &mut recorder, &mut entries);
+    notes.want(read.is_ok(), "a new recorder reads nothing");
+    Ok(entries)
 }

@@ -1,6 +1,5 @@
-//! Recorders over media in memory.
+//! Recorders over media in memory. A medium of another size than the settings say, which no caller has, counts as refused memory.
 
-use crate::fault::{TrialFault, fault_of};
 use r10_machine::{Event, Reply, Settings};
 use r10_medium::{BlockMedium, Choice, Crashing, Memory};
 use r10_world::{World, format_and_record, record_all};
@@ -22,36 +21,27 @@ fn copy_of(alloc: Global, settings: &Settings) -> Result<Settings, AllocError> {
     copy.ok().ok_or(AllocError)
 }
 
-/// The bytes of a medium that was formatted for these settings.
-pub fn formatted_image(alloc: Global, settings: &Settings) -> Result<Vec<u8>, TrialFault> {
-    let mut medium = Memory::new(alloc, settings.blocks())?;
-    if let Err(refusal) = r10_volume::format(&mut medium, settings) {
-        return Err(fault_of(refusal));
-    }
-    Ok(medium.image(alloc)?)
-}
-
-/// A medium that reads as these bytes.
-pub fn medium_of(alloc: Global, image: &[u8]) -> Result<Memory, TrialFault> {
+/// A medium that reads as these bytes, which are whole blocks.
+pub fn medium_of(alloc: Global, image: &[u8]) -> Result<Memory, AllocError> {
     if image.len() % 512 != 0 {
-        return Err(TrialFault::Settings);
+        return Err(AllocError);
     }
-    Ok(Memory::of_image(alloc, image)?)
+    Memory::of_image(alloc, image)
 }
 
 /// A recorder of these settings and its readers, over this medium.
-pub fn world_over<M: BlockMedium + Drop>(
+pub fn world_over(
     alloc: Global,
     settings: &Settings,
-    medium: M,
-) -> Result<World<M>, TrialFault> {
+    medium: Memory,
+) -> Result<World<Memory>, AllocError> {
     let settings = copy_of(alloc, settings)?;
     if medium.blocks() != settings.blocks() {
-        return Err(TrialFault::Settings);
+        return Err(AllocError);
     }
     match World::new(alloc, settings, medium) {
         Ok(world) => Ok(world),
-        Err(_) => Err(TrialFault::Memory(AllocError)),
+        Err(_) => Err(AllocError),
     }
 }
 
@@ -62,28 +52,28 @@ pub fn run_events<M: BlockMedium + Drop>(
     medium: M,
     events: &[Event],
     replies: &mut Vec<Reply>,
-) -> Result<M, TrialFault> {
+) -> Result<M, AllocError> {
     let settings = copy_of(alloc, settings)?;
     if medium.blocks() != settings.blocks() {
-        return Err(TrialFault::Settings);
+        return Err(AllocError);
     }
     match record_all(alloc, settings, medium, events, replies) {
         Ok((done, medium)) if done == events.len() => Ok(medium),
-        _ => Err(TrialFault::Memory(AllocError)),
+        _ => Err(AllocError),
     }
 }
 
-/// The bytes that a new recorder leaves after events, on a medium of these bytes that never fails.
+/// The bytes that a new recorder leaves after events, on a medium of these bytes that never fails. Its replies are added.
 pub fn image_behind(
     alloc: Global,
     settings: &Settings,
     image: &[u8],
     events: &[Event],
-) -> Result<Vec<u8>, TrialFault> {
+    replies: &mut Vec<Reply>,
+) -> Result<Vec<u8>, AllocError> {
     let medium = medium_of(alloc, image)?;
-    let mut replies = Vec::new(alloc);
-    let medium = run_events(alloc, settings, medium, events, &mut replies)?;
-    Ok(medium.image(alloc)?)
+    let medium = run_events(alloc, settings, medium, events, replies)?;
+    medium.image(alloc)
 }
 
 /// The bytes that a new recorder leaves after events, on a medium that was formatted for it and never fails.
@@ -91,13 +81,13 @@ pub fn image_recorded(
     alloc: Global,
     settings: &Settings,
     events: &[Event],
-) -> Result<Vec<u8>, TrialFault> {
+) -> Result<Vec<u8>, AllocError> {
     let settings = copy_of(alloc, settings)?;
     let medium = Memory::new(alloc, settings.blocks())?;
     let mut replies = Vec::new(alloc);
     match format_and_record(alloc, settings, medium, events, &mut replies) {
-        Ok((done, medium)) if done == events.len() => Ok(medium.image(alloc)?),
-        _ => Err(TrialFault::Memory(AllocError)),
+        Ok((done, medium)) if done == events.len() => medium.image(alloc),
+        _ => Err(AllocError),
     }
 }
 
@@ -105,9 +95,4 @@ pub fn image_recorded(
 pub fn image_left(alloc: Global, medium: &Crashing, choice: Choice) -> Result<Vec<u8>, AllocError> {
     let left = medium.image(alloc, choice)?;
     left.image(alloc)
-}
-
-/// The first so many, or all where there are fewer.
-pub fn first_of(events: &[Event], number: usize) -> &[Event] {
-    &events[..number.min(events.len())]
 }

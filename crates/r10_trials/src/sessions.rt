@@ -1,19 +1,22 @@
 //! Sessions in order.
 
-use crate::apparatus::{Apparatus, Ready, over_formatted};
-use crate::asks::{ask, ask_behind, push_refused};
-use crate::failing::try_calls;
+use crate::apparatus::{Apparatus, Ready, apparatus_image, over};
 use crate::fault::TrialFault;
-use crate::list_source::{ListSource, source};
+use crate::list_source::source;
 use crate::notes::Notes;
 use crate::plan::Plan;
-use crate::session::{gauged_of, run_over};
-use crate::settled::{EndedSession, finish, settle};
+use crate::session::{Ended, gauged_of, run_over};
+use crate::settled::{audit_and_close, settle};
 use std::alloc::{AllocError, Global};
-use std::io::Write;
 use std::marker::Brand;
 use std::sync::Wait;
 use std::thread::Threads;
+
+/// A session makes fewer calls of its medium.
+const MOST: u64 = 1000;
+
+/// So many sessions fail at least: one for each call that comes before the first file.
+const FEWEST: u64 = 9;
 
 /// What a line asks for: `NAME ASKS`.
 fn task_of(line: &str) -> Option<(Plan, u32)> {
@@ -21,153 +24,122 @@ fn task_of(line: &str) -> Option<(Plan, u32)> {
     Some((Plan::of(name)?, asks.parse().ok()?))
 }
 
-/// A source of all messages, in a box.
-fn boxed_source(alloc: Global) -> Result<Box<ListSource>, TrialFault> {
-    match Box::new(alloc, source(alloc)?) {
-        Ok(source) => Ok(source),
-        Err(_) => Err(TrialFault::Memory(AllocError)),
-    }
-}
-
-/// Runs a session, and ends it.
+/// Runs a session over a formatted medium of which the call of this number, from 1, fails, or none, where it is 0. It ends the
+/// session, and looks at what a recorder leaves that has not failed.
 fn try_once<R: Threads + Wait + Sync>(
     rt: &R,
     alloc: Global,
     plan: Plan,
+    call: u64,
     notes: &mut Notes,
-) -> Result<EndedSession, TrialFault> {
-    let first = boxed_source(alloc)?;
-    let second = boxed_source(alloc)?;
+) -> Result<Ended, AllocError> {
+    let image = apparatus_image(alloc)?;
+    let first = source(alloc)?;
+    let second = source(alloc)?;
     let Apparatus {
         recorder,
         five,
         six,
-    } = over_formatted(alloc)?;
+    } = over(alloc, image.as_slice(), call)?;
     let gauged = gauged_of(alloc, recorder, notes)?;
     let made = Ready { gauged, five, six };
-    let (report, standing) = run_over::<Brand, _>(rt, alloc, made, first, second, plan, notes)?;
-    finish(alloc, report, standing, plan, notes)
+    run_over::<Brand, _>(rt, alloc, made, first, second, plan, call, notes)
 }
 
-/// The same, and once more from its beginning where memory was refused to what is made before.
-fn try_again<R: Threads + Wait + Sync>(
-    rt: &R,
-    alloc: Global,
-    plan: Plan,
-    notes: &mut Notes,
-) -> Result<EndedSession, TrialFault> {
-    match try_once(rt, alloc, plan, notes) {
-        Err(TrialFault::Memory(_)) => {
-            notes.do_again("all was made again");
-            try_once(rt, alloc, plan, notes)
-        }
-        other => other,
-    }
-}
-
-/// How often memory was asked for before and after a session before an ask that was refused, if one was.
-#[derive(Clone, Copy)]
-struct AskCounts {
-    before: Option<u32>,
-    behind: Option<u32>,
-}
-
-/// Adds what came of a session.
-fn push_came(notes: Notes, text: &mut String) -> Result<(), AllocError> {
-    let (came, what) = match (notes.wrong, notes.again) {
-        (Some(what), _) => ("not as wanted: ", what),
-        (None, Some(what)) => ("as wanted, ", what),
-        (None, None) => ("as wanted", ""),
-    };
-    text.push_str(came)?;
-    text.push_str(what)
-}
-
-/// Adds a line of the input, and that of what came.
-fn push_lines(
-    alloc: Global,
-    line: &str,
-    notes: Notes,
-    asked: AskCounts,
-    text: &mut String,
-) -> Result<(), AllocError> {
-    text.push_str(line)?;
-    text.push_str("\n")?;
-    push_came(notes, text)?;
-    push_refused(alloc, asked.before, asked.behind, text)
-}
-
-/// Runs a session after so many asks for memory, and settles it.
+/// Runs a session over a medium that never fails, after so many asks for memory, and settles it. It is run once more from its
+/// beginning where memory was refused to what is made before.
 fn try_behind<R: Threads + Wait + Sync>(
     rt: &R,
     alloc: Global,
     plan: Plan,
     asks: u32,
     notes: &mut Notes,
-) -> Result<AskCounts, TrialFault> {
-    let before = ask(alloc, asks);
-    let ended = try_again(rt, alloc, plan, notes);
-    let behind = ask_behind(alloc);
-    settle(alloc, &ended?, plan, notes)?;
-    Ok(AskCounts { before, behind })
+) -> Result<(), AllocError> {
+    notes.ask_before(alloc, asks);
+    let ended = match try_once(rt, alloc, plan, 0, notes) {
+        Ok(ended) => Ok(ended),
+        Err(_) => {
+            notes.do_again("all was made again");
+            try_once(rt, alloc, plan, 0, notes)
+        }
+    };
+    let mut ended = ended?;
+    notes.want(!ended.has_failed, "the recorder failed");
+    audit_and_close(alloc, &mut ended.report, plan, notes);
+    notes.ask_behind(alloc);
+    settle(alloc, ended, plan, 0, notes)
 }
 
-/// Runs the sessions of a plan over media that fail, and writes the line and what came of them.
-fn try_failing<R: Threads + Wait + Sync, W: Write>(
+/// Runs the session of a plan over a medium whose first call fails, over one whose second call fails, and so on, until one does not
+/// fail.
+fn try_calls<R: Threads + Wait + Sync>(
     rt: &R,
     alloc: Global,
-    line: &str,
     plan: Plan,
-    writer: &mut W,
-) -> Result<(), TrialFault> {
-    let mut notes = Notes::default();
-    try_calls(rt, alloc, plan, &mut notes)?;
-    let none = AskCounts {
-        before: None,
-        behind: None,
-    };
-    let mut text = String::new(alloc);
-    push_lines(alloc, line, notes, none, &mut text)?;
-    writer.write_all(text.as_bytes())?;
+    notes: &mut Notes,
+) -> Result<(), AllocError> {
+    for call in 1..MOST {
+        let ended = try_once(rt, alloc, plan, call, notes)?;
+        if !ended.has_failed {
+            notes.want(call > FEWEST, "a session passed over a failed call");
+            return Ok(());
+        }
+        settle(alloc, ended, plan, call, notes)?;
+    }
+    notes.want(false, "a session makes more calls of its medium");
     Ok(())
 }
 
-/// The plan of a line `each-call-fails NAME`.
-fn failing_of(line: &str) -> Option<Plan> {
-    Plan::of(line.strip_prefix("each-call-fails ")?)
-}
-
-/// Runs the session of the line in this place, from 1, and writes the line and what came of it.
-fn try_line<R: Threads + Wait + Sync, W: Write>(
+/// Runs the session of the line in this place, from 1, and adds the line and what came of it.
+fn try_line<R: Threads + Wait + Sync>(
     rt: &R,
     alloc: Global,
     place: usize,
     line: &str,
-    writer: &mut W,
+    text: &mut String,
 ) -> Result<(), TrialFault> {
-    if let Some(plan) = failing_of(line) {
-        return try_failing(rt, alloc, line, plan, writer);
-    }
-    let Some((plan, asks)) = task_of(line) else {
-        return Err(TrialFault::NoTrial { place });
-    };
     let mut notes = Notes::default();
-    let asked = try_behind(rt, alloc, plan, asks, &mut notes)?;
-    let mut text = String::new(alloc);
-    push_lines(alloc, line, notes, asked, &mut text)?;
-    writer.write_all(text.as_bytes())?;
-    Ok(())
+    let tried = match line.strip_prefix("each-call-fails ") {
+        Some(name) => match Plan::of(name) {
+            Some(plan) => try_calls(rt, alloc, plan, &mut notes),
+            None => return Err(TrialFault::NoTrial { place }),
+        },
+        None => match task_of(line) {
+            Some((plan, asks)) => try_behind(rt, alloc, plan, asks, &mut notes),
+            None => return Err(TrialFault::NoTrial { place }),
+        },
+    };
+    let came = match tried {
+        Ok(()) => push_line(alloc, line, &notes, text),
+        Err(refused) => Err(refused),
+    };
+    match came {
+        Ok(()) => Ok(()),
+        Err(_) => Err(TrialFault::Memory),
+    }
 }
 
-/// Runs the session of each line in turn, and writes the line and what came of it.
-pub fn try_all<R: Threads + Wait + Sync, W: Write>(
+/// Adds a line of the input, and that of what came.
+fn push_line(
+    alloc: Global,
+    line: &str,
+    notes: &Notes,
+    text: &mut String,
+) -> Result<(), AllocError> {
+    text.push_str(line)?;
+    text.push_str("\n")?;
+    notes.push(alloc, text)
+}
+
+/// Runs the session of each line in turn, and adds the line and what came of it.
+pub fn try_all<R: Threads + Wait + Sync>(
     rt: &R,
     alloc: Global,
-    text: &str,
-    writer: &mut W,
+    lines: &str,
+    text: &mut String,
 ) -> Result<(), TrialFault> {
-    for (place, line) in text.lines().enumerate() {
-        try_line(rt, alloc, place.saturating_add(1), line, writer)?;
+    for (place, line) in lines.lines().enumerate() {
+        try_line(rt, alloc, place.saturating_add(1), line, text)?;
     }
     Ok(())
 }

@@ -1,7 +1,5 @@
 //! How a recorder is between threads.
 
-use r10_body::Refusal;
-use r10_control::RecorderStatus;
 use r10_count::Count;
 use r10_held::{Held, Rings};
 use r10_machine::Mode;
@@ -25,17 +23,13 @@ pub struct RecorderState {
     pub shown: Option<(usize, u64)>,
 }
 
-/// How the recorder is, asked again where memory is refused.
-fn status_of<M: BlockMedium, N: Rings>(held: &mut Held<M, N>) -> Result<RecorderStatus, Refusal> {
-    match held.status() {
+/// How the recorder is under its lock. Its status is asked again where memory is refused.
+pub fn standing_of<M: BlockMedium, N: Rings>(held: &mut Held<M, N>) -> RecorderState {
+    let status = match held.status() {
         Ok(status) => Ok(status),
         Err(_) => held.status(),
-    }
-}
-
-/// How the recorder is under its lock.
-pub fn standing_of<M: BlockMedium, N: Rings>(held: &mut Held<M, N>) -> RecorderState {
-    let (mode, tick, files, free) = match status_of(held) {
+    };
+    let (mode, tick, files, free) = match status {
         Ok(status) => (Some(status.mode), status.tick, status.files, status.free),
         Err(_) => (None, None, 0, 0),
     };

@@ -3,128 +3,75 @@
 use r10_machine::Event;
 use std::alloc::{AllocError, Global};
 
-/// Which files were found.
-#[derive(Clone, Copy)]
-pub enum FilesFound {
-    /// Those from before the step.
-    Old,
-    /// Those after it.
-    New,
-    /// Those from before it, which are those after it too.
-    Same,
-    /// Others.
-    Neither,
-}
+/// How often each of the following was seen in the steps of one word, or in all steps.
+pub type Counts = [u64; 15];
 
-/// How often each was found.
-#[derive(Clone, Copy, Default)]
-pub struct Finds {
-    pub old: u64,
-    pub new: u64,
-    pub same: u64,
-    pub neither: u64,
-}
+/// The word of a step, and what was seen in the steps of this word.
+pub type Row = (&'static str, Counts);
 
-/// What the stops and failures in steps of one word came to.
-#[derive(Clone, Copy, Default)]
-pub struct Row {
-    /// The calls of the medium, each of which was stopped and failed.
-    pub calls: u64,
-    /// Those that change a block of the directory.
-    pub directory: u64,
-    /// Those that change another block.
-    pub data: u64,
-    /// The images that the stops left.
-    pub images: u64,
-    /// What was found on these images.
-    pub stopped: Finds,
-    /// The files on these images, and those of them that are strict.
-    pub files: u64,
-    pub strict: u64,
-    /// What was found on the media of which a call failed.
-    pub failed: Finds,
-    /// Runs with another answer than is wanted, and images with a directory at fault.
-    pub wrong: u64,
-}
+/// The calls of the medium, each of which was stopped and failed.
+pub const CALLS: usize = 0;
+/// Those that change a block of the directory.
+pub const DIRECTORY: usize = 1;
+/// Those that change another block.
+pub const DATA: usize = 2;
+/// Runs with another answer than is wanted, images with files at fault that a failure left, and runs without an end.
+pub const WRONG: usize = 3;
+/// The images that the stops left.
+pub const IMAGES: usize = 4;
+/// What was found on these images, from here on in this order: the files from before the step; those after it; those from before
+/// it, which are those after it too; and others.
+pub const STOPPED: usize = 5;
+/// The files on these images that are strict.
+pub const STRICT: usize = 9;
+/// The files on these images.
+pub const FILES: usize = 10;
+/// What was found on the media of which a call failed, in the order of `STOPPED`.
+pub const FAILED: usize = 11;
 
-/// The row of a word.
-#[derive(Clone, Copy)]
-pub struct Named {
-    pub word: &'static str,
-    pub row: Row,
-}
+/// What stands after each of the counts.
+const LABELS: [&str; 15] = [
+    " calls, ",
+    " change the directory, ",
+    " a file; ",
+    " wrong\n  stops: ",
+    " images, ",
+    " old, ",
+    " new, ",
+    " same, ",
+    " neither; ",
+    " of ",
+    " files strict\n  failures: ",
+    " old, ",
+    " new, ",
+    " same, ",
+    " neither\n",
+];
 
-/// One more, up to the greatest number.
-pub fn raise(number: &mut u64) {
-    *number = number.saturating_add(1);
-}
-
-impl Finds {
-    /// One more of these.
-    pub fn add(&mut self, found: FilesFound) {
-        match found {
-            FilesFound::Old => raise(&mut self.old),
-            FilesFound::New => raise(&mut self.new),
-            FilesFound::Same => raise(&mut self.same),
-            FilesFound::Neither => raise(&mut self.neither),
-        }
-    }
-
-    fn join(&self, other: &Finds) -> Finds {
-        Finds {
-            old: self.old.saturating_add(other.old),
-            new: self.new.saturating_add(other.new),
-            same: self.same.saturating_add(other.same),
-            neither: self.neither.saturating_add(other.neither),
-        }
+/// So many more of a kind, up to the greatest number.
+pub fn raise(counts: &mut Counts, kind: usize, more: u64) {
+    if let Some(count) = counts.get_mut(kind) {
+        *count = count.saturating_add(more);
     }
 }
 
-impl Row {
-    /// Both rows in one.
-    pub fn join(&self, other: &Row) -> Row {
-        Row {
-            calls: self.calls.saturating_add(other.calls),
-            directory: self.directory.saturating_add(other.directory),
-            data: self.data.saturating_add(other.data),
-            images: self.images.saturating_add(other.images),
-            stopped: self.stopped.join(&other.stopped),
-            files: self.files.saturating_add(other.files),
-            strict: self.strict.saturating_add(other.strict),
-            failed: self.failed.join(&other.failed),
-            wrong: self.wrong.saturating_add(other.wrong),
-        }
-    }
-
-    /// Adds the lines of a row under this word.
-    pub fn push(&self, alloc: Global, word: &str, text: &mut String) -> Result<(), AllocError> {
-        let (stopped, failed) = (&self.stopped, &self.failed);
-        let parts = [
-            (self.calls, " calls, "),
-            (self.directory, " change the directory, "),
-            (self.data, " a file; "),
-            (self.wrong, " wrong\n  stops: "),
-            (self.images, " images, "),
-            (stopped.old, " old, "),
-            (stopped.new, " new, "),
-            (stopped.same, " same, "),
-            (stopped.neither, " neither; "),
-            (self.strict, " of "),
-            (self.files, " files strict\n  failures: "),
-            (failed.old, " old, "),
-            (failed.new, " new, "),
-            (failed.same, " same, "),
-            (failed.neither, " neither\n"),
-        ];
-        text.push_str(word)?;
-        text.push_str(": ")?;
-        push_parts(alloc, &parts, text)
+/// Adds what one row has to the whole.
+pub fn join(whole: &mut Counts, row: &Counts) {
+    for (kind, number) in row.iter().enumerate() {
+        raise(whole, kind, *number);
     }
 }
 
-/// Adds numbers, each with what stands after it.
-fn push_parts(alloc: Global, parts: &[(u64, &str)], text: &mut String) -> Result<(), AllocError> {
-    for (number, behind) in parts {
+/// Adds the lines of a row under this word.
+pub fn push_row(
+    alloc: Global,
+    word: &str,
+    row: &Counts,
+    text: &mut String,
+) -> Result<(), AllocError> {
+    text.push_str(word)?;
+    text.push_str(": ")?;
+    for (number, behind) in row.iter().zip(&LABELS) {
         push_number(alloc, *number, behind, text)?;
     }
     Ok(())
@@ -142,14 +89,14 @@ pub fn push_number(
 }
 
 /// The place of a word's row, which is added where there is none.
-pub fn place_in(rows: &mut Vec<Named>, word: &'static str) -> Result<usize, AllocError> {
-    for (place, named) in rows.iter().enumerate() {
-        if named.word == word {
+pub fn place_in(rows: &mut Vec<Row>, word: &'static str) -> Result<usize, AllocError> {
+    for (place, row) in rows.iter().enumerate() {
+        if row.0 == word {
             return Ok(place);
         }
     }
-    let (place, row) = (rows.len(), Row::default());
-    rows.push(Named { word, row })?;
+    let place = rows.len();
+    rows.push((word, [0; 15]))?;
     Ok(place)
 }
 

@@ -1,165 +1,164 @@
 //! Trials in order.
 
 use crate::again::{judge_again, run_on, tell_again};
-use crate::course::{Course, course_of};
+use crate::course::Course;
 use crate::each::try_each;
 use crate::fault::TrialFault;
 use crate::one_stop::{fail_at, spoil_byte, stop_after};
-use crate::tally::{Named, Row, push_number, raise};
-use crate::title::{Act, Task, task_of, trial_of};
-use r10_machine::Reply;
+use crate::scene::{image_behind, image_recorded};
+use crate::tally::{Counts, Row, join, push_number, push_row};
+use crate::title::{Task, task_of};
+use r10_machine::{Event, Reply};
 use r10_script::{Script, read_script};
-use std::alloc::Global;
-use std::io::Write;
+use std::alloc::{AllocError, Global};
 
-/// Makes each trial of the text in turn, and writes its title and what it came to, and at the end what all together came to.
-pub fn try_all<W: Write>(alloc: Global, text: &str, writer: &mut W) -> Result<(), TrialFault> {
-    match text.strip_prefix("== ") {
-        Some(trials) => try_in(alloc, trials, writer),
-        None => Err(TrialFault::NoTrial { place: 1 }),
-    }
-}
-
-/// The same for trials without the mark before the first.
-fn try_in<W: Write>(alloc: Global, trials: &str, writer: &mut W) -> Result<(), TrialFault> {
-    let mut whole = Row::default();
+/// Makes each trial of the input in turn, and adds its title and what it came to, and at the end what all together came to.
+pub fn try_all(alloc: Global, input: &str, text: &mut String) -> Result<(), TrialFault> {
+    let Some(trials) = input.strip_prefix("== ") else {
+        return Err(TrialFault::NoTrial { place: 1 });
+    };
+    let mut whole = [0; 15];
     let mut place: usize = 0;
     for lines in trials.split("\n== ") {
         place = place.saturating_add(1);
-        let row = try_one(alloc, place, lines, writer)?;
-        whole = whole.join(&row);
+        try_one(alloc, place, lines, &mut whole, text)?;
     }
-    write_row(alloc, &whole, writer)
+    match push_row(alloc, "all trials", &whole, text) {
+        Ok(()) => Ok(()),
+        Err(_) => Err(TrialFault::Memory),
+    }
 }
 
-/// Writes what all trials came to.
-fn write_row<W: Write>(alloc: Global, row: &Row, writer: &mut W) -> Result<(), TrialFault> {
-    let mut text = String::new(alloc);
-    row.push(alloc, "all trials", &mut text)?;
-    writer.write_all(text.as_bytes())?;
-    Ok(())
-}
-
-/// Makes the trial in this place, from 1, and writes its title and what it came to. It answers the row.
-fn try_one<W: Write>(
+/// Makes the trial in this place, from 1, and adds its title and what it came to.
+fn try_one(
     alloc: Global,
     place: usize,
     lines: &str,
-    writer: &mut W,
-) -> Result<Row, TrialFault> {
-    let mut text = String::new(alloc);
-    let row = push_one(alloc, place, lines, &mut text)?;
-    writer.write_all(text.as_bytes())?;
-    Ok(row)
-}
-
-/// Adds the title of the trial in this place and what it came to.
-fn push_one(
-    alloc: Global,
-    place: usize,
-    lines: &str,
-    text: &mut String,
-) -> Result<Row, TrialFault> {
-    let trial = trial_of(place, lines)?;
-    let task = task_of(place, trial.title)?;
-    for part in &["== ", trial.title, "\n"] {
-        text.push_str(part)?;
-    }
-    try_task(alloc, place, trial.script, &task, text)
-}
-
-/// Adds what a task came to with this script.
-fn try_task(
-    alloc: Global,
-    place: usize,
-    script: &str,
-    task: &Task,
-    text: &mut String,
-) -> Result<Row, TrialFault> {
-    let script = script_of(alloc, place, script)?;
-    let course = course_of(alloc, script, task)?;
-    row_of(alloc, task, &course, text)
-}
-
-fn script_of(alloc: Global, place: usize, text: &str) -> Result<Script, TrialFault> {
-    match read_script(alloc, text.as_bytes()) {
-        Ok(script) => Ok(script),
-        Err(fault) => Err(TrialFault::Script { place, fault }),
-    }
-}
-
-/// Adds the lines of what a task came to, and answers the row.
-fn row_of(
-    alloc: Global,
-    task: &Task,
-    course: &Course,
-    text: &mut String,
-) -> Result<Row, TrialFault> {
-    if let Act::Each = task.act {
-        return push_each(alloc, course, u64::from(task.number), text);
-    }
-    push_tried(alloc, task, course, text)?;
-    Ok(Row::default())
-}
-
-/// Adds the lines of a task of one run.
-fn push_tried(
-    alloc: Global,
-    task: &Task,
-    course: &Course,
+    whole: &mut Counts,
     text: &mut String,
 ) -> Result<(), TrialFault> {
-    let number = u64::from(task.number);
-    match task.act {
-        Act::Each => Ok(()),
-        Act::Fails => fail_at(alloc, course, number, text),
-        Act::Stops => stop_after(alloc, course, number, text),
-        Act::Spoils => spoil_byte(alloc, course, task.place, (number % 256) as u8, text),
-        Act::Again => tell_again(alloc, course, task.number, text),
-        Act::Runs => run_on(alloc, course, task.number, text),
-        Act::Judges => judge_again(alloc, course, task.number, text),
+    let Some((title, script)) = lines.split_once('\n') else {
+        return Err(TrialFault::NoTrial { place });
+    };
+    let Some(task) = task_of(title) else {
+        return Err(TrialFault::NoTrial { place });
+    };
+    match read_script(alloc, script.as_bytes()) {
+        Ok(script) => match try_script(alloc, script, title, &task, whole, text) {
+            Ok(()) => Ok(()),
+            Err(_) => Err(TrialFault::Memory),
+        },
+        Err(fault) => match format!(in alloc; "{title}: {fault}\n") {
+            Ok(line) => {
+                let _ = text.push_str(line.as_str());
+                Err(TrialFault::NoTrial { place })
+            }
+            Err(_) => Err(TrialFault::Memory),
+        },
     }
 }
 
-/// Tries each call of a course after the first so many, adds the lines of each word of a step, and of all, and answers the row of
-/// all.
-fn push_each(
+/// Adds the title of a trial and what it came to with this script. A recorder that another one follows has the first so many steps,
+/// on a formatted medium. Any other has those after them, on the medium that these leave, with a status at its end.
+fn try_script(
     alloc: Global,
-    course: &Course,
-    calls: u64,
+    script: Script,
+    title: &str,
+    task: &Task<'_>,
+    whole: &mut Counts,
     text: &mut String,
-) -> Result<Row, TrialFault> {
-    let mut rows = Vec::new(alloc);
-    try_each(alloc, course, calls, &mut rows)?;
-    push_rows(alloc, course.replies.as_slice(), rows.as_slice(), text)
+) -> Result<(), AllocError> {
+    let mut script = script;
+    for part in &["== ", title, "\n"] {
+        text.push_str(part)?;
+    }
+    let is_followed = matches!(task.act, "fails" | "stops" | "spoils");
+    if !is_followed {
+        script.events.push(Event::Status)?;
+    }
+    let events = script.events.as_slice();
+    let (first, rest) = events.split_at(task.first.min(events.len()));
+    let (done, steps) = if is_followed {
+        (&events[..0], first)
+    } else {
+        (first, rest)
+    };
+    let image = image_recorded(alloc, &script.settings, done)?;
+    let mut replies = Vec::new(alloc);
+    let _image = image_behind(
+        alloc,
+        &script.settings,
+        image.as_slice(),
+        steps,
+        &mut replies,
+    )?;
+    let course = Course {
+        settings: &script.settings,
+        image: image.as_slice(),
+        events: steps,
+        replies: replies.as_slice(),
+        rest,
+    };
+    try_task(alloc, task, &course, whole, text)
 }
 
-/// Adds the line of a course with these replies, and the lines of these rows, and of all in one, which it answers.
+/// Adds the lines of what a task came to.
+fn try_task(
+    alloc: Global,
+    task: &Task<'_>,
+    course: &Course<'_>,
+    whole: &mut Counts,
+    text: &mut String,
+) -> Result<(), AllocError> {
+    let number = u64::from(task.number);
+    match task.act {
+        "each" => push_each(alloc, course, number, whole, text),
+        "fails" => fail_at(alloc, course, number, text),
+        "stops" => stop_after(alloc, course, number, text),
+        "spoils" => spoil_byte(alloc, course, task.place, (number % 256) as u8, text),
+        "again" => tell_again(alloc, course, task.number, text),
+        "runs" => run_on(alloc, course, task.number, text),
+        "judges" => judge_again(alloc, course, task.number, text),
+        _ => text.push_str("no such trial\n"),
+    }
+}
+
+/// Tries each call of a course after the first so many, adds the lines of each word of a step, and of all, and what all came to to
+/// the whole.
+fn push_each(
+    alloc: Global,
+    course: &Course<'_>,
+    calls: u64,
+    whole: &mut Counts,
+    text: &mut String,
+) -> Result<(), AllocError> {
+    let mut rows = Vec::new(alloc);
+    try_each(alloc, course, calls, &mut rows)?;
+    push_rows(alloc, course.replies, rows.as_slice(), whole, text)
+}
+
+/// Adds the line of a course with these replies, and the lines of these rows, and of all in one.
 fn push_rows(
     alloc: Global,
     replies: &[Reply],
-    rows: &[Named],
+    rows: &[Row],
+    whole: &mut Counts,
     text: &mut String,
-) -> Result<Row, TrialFault> {
-    push_number(alloc, replies.len() as u64, " steps, ", text)?;
-    let behind = " of them refused over a medium that never fails\n";
-    push_number(alloc, refused_of(replies), behind, text)?;
-    let mut whole = Row::default();
-    for named in rows {
-        named.row.push(alloc, named.word, text)?;
-        whole = whole.join(&named.row);
-    }
-    whole.push(alloc, "all", text)?;
-    Ok(whole)
-}
-
-/// How many of these refuse.
-fn refused_of(replies: &[Reply]) -> u64 {
-    let mut refused = 0;
+) -> Result<(), AllocError> {
+    let mut refused = 0u64;
     for reply in replies {
         if let Reply::Refused(_) = reply {
-            raise(&mut refused);
+            refused = refused.saturating_add(1);
         }
     }
-    refused
+    push_number(alloc, replies.len() as u64, " steps, ", text)?;
+    let behind = " of them refused over a medium that never fails\n";
+    push_number(alloc, refused, behind, text)?;
+    let mut all = [0; 15];
+    for (word, row) in rows {
+        push_row(alloc, word, row, text)?;
+        join(&mut all, row);
+    }
+    join(whole, &all);
+    push_row(alloc, "all", &all, text)
 }
