@@ -6,65 +6,25 @@ ghost use Rattle.r10_held.specs.LockFact.{outlet_received, outlet_spec};
 ghost use Rattle.r10_held.specs.Naming.{AreNamed, ring_for};
 ghost use Rattle.r10_medium.specs.MemoryDisk.{memory_disk};
 
-use crate::inputs::{NewRecorder, cabinet_of, make};
+use crate::inputs::{NewRecorder, cabinet_of, formatted_medium, make};
+use crate::losing::Seen;
+use crate::meeting::{Meeting, WaitingSource};
 use crate::run::{begin_session, one_feed};
-use crate::sources::ListSource;
-use crossbeam_utils::Backoff;
 use r10_shared::{
-    AnySource, Handing, Instalment, Never, Open, Player, Rings, Session, Sink, end_session,
-    run_session_handing,
+    AnySource, Handing, Instalment, Never, Open, Player, Rings, Sink, run_session_handing,
 };
-use r10_source::{ChannelSource, Given};
 use std::alloc::{AllocError, Global};
 use std::marker::Brand;
-use std::sync::atomic::{AtomicBool, AtomicU64, Ordering};
 use std::sync::{Arc, Wait};
 use std::test::Fail;
 use std::thread::Threads;
 
-/// How many turns are waited at most.
-const TURNS: u32 = 10_000_000;
-
-/// How many instalments a sink has, and whether a source waited for one in vain.
-#[derive(Drop)]
-struct Counter {
-    instalments: AtomicU64,
-    vain: AtomicBool,
-}
-
-impl Counter {
-    fn new(alloc: Global) -> Result<Arc<Counter, Global>, AllocError> {
-        let counter = Counter {
-            instalments: AtomicU64::new(0),
-            vain: AtomicBool::new(false),
-        };
-        Ok(Arc::new(alloc, counter)?)
-    }
-
-    /// Waits for the first instalment.
-    fn wait(&self) {
-        let backoff = Backoff::new();
-        for _ in 0..TURNS {
-            if self.instalments.load(Ordering::SeqCst) > 0 {
-                return;
-            }
-            backoff.snooze();
-        }
-        self.vain.store(true, Ordering::SeqCst);
-    }
-
-    /// Whether a source waited in vain.
-    fn in_vain(&self) -> bool {
-        self.vain.load(Ordering::SeqCst)
-    }
-}
-
-/// A sink in memory that has room for so many instalments.
+/// A sink in memory that has room for so many instalments, and comes to a meeting with each that it accepts.
 #[derive(Drop)]
 struct Basket {
     room: usize,
     instalments: Vec<Instalment>,
-    counter: Arc<Counter, Global>,
+    meeting: Arc<Meeting, Global>,
     refused: bool,
 }
 
@@ -79,28 +39,8 @@ impl Sink for Basket {
             return Err(instalment);
         }
         self.instalments.push_reserved(instalment);
-        self.counter.instalments.fetch_add(1, Ordering::SeqCst);
+        self.meeting.come();
         Ok(())
-    }
-}
-
-/// A source of ten messages that waits, after the fifth, until the sink has an instalment.
-#[derive(Drop)]
-struct Waiting {
-    source: ListSource,
-    counter: Arc<Counter, Global>,
-    given: u64,
-}
-
-impl ChannelSource for Waiting {
-    ghost rest = { λ waiting. waiting.source.left.items };
-
-    fn next(&mut self) -> Given {
-        if self.given == 5 {
-            self.counter.wait();
-        }
-        self.given = self.given.wrapping_add(1);
-        self.source.next()
     }
 }
 
@@ -111,15 +51,6 @@ fn alone(alloc: Global, player: Player, sink: Basket) -> Result<Vec<Handing<Bask
     let mut players = Vec::with_capacity(alloc, 1)?;
     players.push_reserved(Handing::new(alloc, player, Some(sink)));
     Ok(players)
-}
-
-/// How many entries there are.
-fn entries_in(instalments: &[Instalment]) -> usize {
-    let mut entries = 0usize;
-    for instalment in instalments {
-        entries = entries.wrapping_add(instalment.entries.as_slice().len());
-    }
-    entries
 }
 
 /// A feed of the channel 5 and a player with a sink, while a file is recorded: what the sink accepted, and what was kept.
@@ -137,8 +68,8 @@ fn run_handing<N: Rings + Send + Sync, R: Threads + Wait + Sync>(
 {
     let NewRecorder { gauged, five, .. } = made;
     let (cabinet, pass) = cabinet_of::<N>(gauged);
-    let cursor = begin_session(rt, alloc, &cabinet)?;
     let mut feeds = one_feed(alloc, five, source)?;
+    let cursor = begin_session(rt, alloc, &cabinet, &[5])?;
     let mut players = alone(alloc, Player::new(cursor, pass), sink)?;
     run_session_handing(
         rt,
@@ -154,74 +85,49 @@ fn run_handing<N: Rings + Send + Sync, R: Threads + Wait + Sync>(
         return Err(Fail::new("no player"));
     };
     let (reading, sink) = player.into_parts();
-    let Some(Basket { instalments, .. }) = sink else {
-        return Err(Fail::new("no sink"));
-    };
     let (_player, kept) = reading.into_parts();
-    match end_session(alloc, cabinet, Session::of(feeds, Vec::new(alloc))) {
-        Ok(_) => Ok((instalments, kept)),
-        Err(_) => Err(Fail::new("no memory, or the recorder failed")),
+    match sink {
+        Some(Basket { instalments, .. }) => Ok((instalments, kept)),
+        None => Err(Fail::new("no sink")),
     }
 }
 
 /// What came of a sink: whether the source waited for it in vain, and how many instalments and entries it accepted. How many
 /// instalments were kept, and whether the first of these begins where the last accepted one ended.
-#[derive(Clone, Copy, Debug, PartialEq, Eq)]
-struct Handed {
-    vain: bool,
-    accepted: usize,
-    entries: usize,
-    kept: usize,
-    goes_on: bool,
+type Handed = (bool, usize, u64, usize, bool);
+
+fn handed(vain: bool, accepted: &[Instalment], kept: &[Instalment]) -> Handed {
+    let mut seen = Seen::new();
+    seen.see_all(accepted);
+    let goes_on = match (accepted.last(), kept.first()) {
+        (Some(last), Some(first)) => last.to == first.from,
+        _ => false,
+    };
+    (vain, accepted.len(), seen.entries, kept.len(), goes_on)
 }
 
-/// The end of the last.
-fn end_of(instalments: &[Instalment]) -> Option<usize> {
-    instalments.last().map(|instalment| instalment.to)
-}
-
-/// The beginning of the first.
-fn begin_of(instalments: &[Instalment]) -> Option<usize> {
-    instalments.first().map(|instalment| instalment.from)
-}
-
-/// A session with a sink that has room for so many instalments, and a source that waits for the first of them.
+/// A session with a sink that has room for so many instalments, and a source that waits, after its fifth message, for the first of
+/// them.
 fn hand_to<R: Threads + Wait + Sync>(rt: &R, alloc: Global, room: usize) -> Result<Handed, Fail> {
-    let counter = Counter::new(alloc)?;
-    let source: AnySource = Box::new(
-        alloc,
-        Waiting {
-            source: ListSource::of(alloc, 10)?,
-            counter: Arc::try_clone(&counter)?,
-            given: 0,
-        },
-    )?;
+    let meeting = Meeting::new(alloc)?;
     let sink = Basket {
         room,
         instalments: Vec::new(alloc),
-        counter: Arc::try_clone(&counter)?,
+        meeting: Arc::try_clone(&meeting)?,
         refused: false,
     };
-    let made = make(alloc, 1000)?;
+    let source: AnySource = Box::new(alloc, WaitingSource::of(alloc, &meeting, 5, 2)?)?;
+    let made = make(alloc, 1000, formatted_medium(alloc)?)?;
     let (accepted, kept) = run_handing::<Brand, R>(rt, alloc, made, source, sink)?;
-    Ok(Handed {
-        vain: counter.in_vain(),
-        accepted: accepted.len(),
-        entries: entries_in(&accepted),
-        kept: kept.len(),
-        goes_on: end_of(&accepted) == begin_of(&kept),
-    })
+    Ok(handed(meeting.in_vain(), accepted.as_slice(), kept.as_slice()))
 }
 
 #[test]
 fn a_sink_has_instalments_while_its_session_runs(rt: HostRuntime) -> Result<(), Fail> {
     let alloc = rt.alloc();
-    let all = hand_to(&rt, alloc, 100)?;
-    assert_eq!(rt; (all.vain, all.entries, all.kept), (false, 10, 0));
-    let first = hand_to(&rt, alloc, 1)?;
-    assert_eq!(rt;
-        (first.vain, first.accepted, first.kept, first.goes_on),
-        (false, 1, 1, true)
-    );
+    let (vain, _accepted, entries, kept, _goes_on) = hand_to(&rt, alloc, 100)?;
+    assert_eq!(rt; (vain, entries, kept), (false, 10, 0));
+    let (vain, accepted, _entries, kept, goes_on) = hand_to(&rt, alloc, 1)?;
+    assert_eq!(rt; (vain, accepted, kept, goes_on), (false, 1, 1, true));
     Ok(())
 }

@@ -6,8 +6,9 @@ ghost use Rattle.r10_held.specs.LockFact.{outlet_received, outlet_spec};
 ghost use Rattle.r10_held.specs.Naming.{AreNamed};
 ghost use Rattle.r10_medium.specs.MemoryDisk.{memory_disk};
 
-use r10_body::{ChannelSpec, Kind};
+use r10_body::{ChannelSpec, Kind, Message};
 use r10_control::Recorder;
+use r10_count::{Bytes, Count, Parts};
 use r10_held::{Gauged, new_recorders_account_for_their_lanes};
 use r10_machine::Settings;
 use r10_medium::{BlockMedium, Memory};
@@ -17,20 +18,45 @@ use r10_volume::format;
 use std::alloc::{AllocError, Global};
 use std::test::Fail;
 
+/// A UART channel that has room for two messages.
+const CHANNEL: ChannelSpec = ChannelSpec {
+    id: 5,
+    kind: Kind::Uart,
+    capacity: 2,
+    check: 0,
+    bytes: 524_288,
+    number: 65_535,
+    bits: 0,
+};
+
+/// A time of a day that not each year has.
+pub const LEAP_DAY: Parts = Parts {
+    year: 2024,
+    month: 2,
+    day: 29,
+    hour: 12,
+    minute: 34,
+    second: 56,
+    centi: 78,
+};
+
 /// 64 blocks, 2 of them for the directory, and these channels.
 fn settings(alloc: Global, one: ChannelSpec, other: ChannelSpec) -> Result<Settings, Fail>
     ensures { IfOk result (λ s. s.channels ≡ one ∷ other ∷ []) }
 {
     let channels = Vec::from_slice(alloc, &[one, other])?;
     let volume = Vec::from_slice(alloc, b"VOL")?;
-    let settings = Settings::of(64, 2, volume, 100, 1, 2, channels).ok();
-    Ok(settings.ok_or("settings that are not good")?)
+    match Settings::of(64, 2, volume, 100, 1, 2, channels) {
+        Ok(settings) => Ok(settings),
+        Err(_) => Err(Fail::new("settings that are not good")),
+    }
 }
 
 /// A medium of these settings without files.
-fn formatted_medium(alloc: Global, settings: &Settings) -> Result<Memory, Fail> {
+pub fn formatted_medium(alloc: Global) -> Result<Memory, Fail> {
+    let settings = settings(alloc, CHANNEL, ChannelSpec { id: 6, ..CHANNEL })?;
     let mut medium = Memory::new(alloc, settings.blocks())?;
-    format(&mut medium, settings)?;
+    format(&mut medium, &settings)?;
     Ok(medium)
 }
 
@@ -52,25 +78,19 @@ pub struct NewRecorder {
     pub six: Port,
 }
 
-/// A recorder over a medium without files, with lanes of this capacity.
-pub fn make(alloc: Global, capacity: usize) -> Result<NewRecorder, Fail>
+/// A recorder over a medium of so many blocks, with lanes of this capacity.
+pub fn make(alloc: Global, capacity: usize, medium: Memory) -> Result<NewRecorder, Fail>
     ensures new { IfOk result (λ made. IsNew memory_disk outlet_spec outlet_received made.gauged.recorder) }
     ensures named { IfOk result
         (λ made. AreNamed (record { channel = 5; ring = made.five.ring } ∷ record { channel = 6; ring = made.six.ring } ∷ [])
         made.gauged.recorder.lanes) }
 {
     let one = ChannelSpec {
-        id: 5,
-        kind: Kind::Uart,
         capacity,
-        check: 0,
-        bytes: 524_288,
-        number: 65_535,
-        bits: 0,
+        ..CHANNEL
     };
     let other = ChannelSpec { id: 6, ..one };
     let settings = settings(alloc, one, other)?;
-    let medium = formatted_medium(alloc, &settings)?;
     if medium.blocks() != settings.blocks() {
         return Err(Fail::new("a medium of other settings"));
     }
@@ -95,4 +115,18 @@ pub fn cabinet_of<N: Rings>(gauged: Gauged<Memory>) -> (Cabinet<Memory, N>, Pass
 {
     new_recorders_account_for_their_lanes::<Memory, N>();
     Cabinet::<Memory, N>::new(gauged)
+}
+
+/// Offers a message of a byte at the count 1001, which the lane has room for.
+pub fn offer(alloc: Global, port: &mut Port) -> Result<(), Fail> {
+    let message = Message::Uart {
+        parity: false,
+        sub: 0,
+        bytes: Bytes::copy_of(alloc, b"A")?,
+    };
+    let count = Count::of(1001).ok_or("no count")?;
+    match port.offer(count, message) {
+        Ok(_) => Ok(()),
+        Err(_) => Err(Fail::new("a lane without room")),
+    }
 }

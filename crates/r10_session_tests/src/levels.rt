@@ -1,4 +1,4 @@
-// What is seen of a feed's lane while the feed runs.
+// What is seen of a feed's lane while the feed runs, and what is left where no file is recorded.
 
 ghost use Rattle.std.specs.Prelude.{◌≡◌, Some};
 ghost use Rattle.r10_held.specs.Account.{IsNew};
@@ -6,8 +6,9 @@ ghost use Rattle.r10_held.specs.LockFact.{outlet_received, outlet_spec};
 ghost use Rattle.r10_held.specs.Naming.{AreNamed, ring_for};
 ghost use Rattle.r10_medium.specs.MemoryDisk.{memory_disk};
 
-use crate::inputs::{NewRecorder, cabinet_of, make};
-use crate::run::{mount_and_tick, run_and_end};
+use crate::asks::{Ask, orders_of};
+use crate::inputs::{NewRecorder, cabinet_of, formatted_medium, make};
+use crate::run::{end_of, run_and_end};
 use crate::sources::ListSource;
 use crate::window::Window;
 use r10_medium::Memory;
@@ -43,24 +44,18 @@ struct Looking<R: Wait + Copy> {
     right: Arc<AtomicU64, Global>,
 }
 
-/// Counts a level, if it is what the turns before came to.
-fn note(right: &AtomicU64, turn: usize, level: Level) {
-    let Level {
-        sent,
-        lost,
-        waiting,
-    } = level;
-    if SEEN.get(turn) == Some(&(sent, lost, waiting)) {
-        right.fetch_add(1, Ordering::SeqCst);
-    }
-}
-
 impl<R: Wait + Copy> ChannelSource for Looking<R> {
     ghost rest = { λ looking. looking.source.left.items };
 
     fn next(&mut self) -> Given {
-        let level = self.window.look(&self.rt);
-        note(&self.right, self.turn, level);
+        let Level {
+            sent,
+            lost,
+            waiting,
+        } = self.window.look(&self.rt);
+        if SEEN.get(self.turn) == Some(&(sent, lost, waiting)) {
+            self.right.fetch_add(1, Ordering::SeqCst);
+        }
         self.turn = self.turn.wrapping_add(1);
         self.source.next()
     }
@@ -83,30 +78,34 @@ fn run_watched<N: Rings + Send + Sync, R: Threads + Wait + Sync>(
     let (cabinet, _pass) = cabinet_of::<N>(gauged);
     let mut feeds = Vec::with_capacity(alloc, 1)?;
     feeds.push_reserved(Feed::new(5, source, five).with_gauge(rt, gauge));
-    let orders = mount_and_tick(alloc)?;
+    let orders = orders_of(alloc, &[Ask::Mount, Ask::Tick])?;
     run_and_end(rt, alloc, &Open, cabinet, feeds, orders, Vec::new(alloc))
 }
 
+/// Four of six messages are left. The feed shows its level before its next turn.
 #[test]
-fn a_feed_shows_its_level_before_its_next_turn(rt: HostRuntime) -> Result<(), Fail> {
+fn what_no_file_took_is_the_rest(rt: HostRuntime) -> Result<(), Fail> {
     let alloc = rt.alloc();
     let right = Arc::new(alloc, AtomicU64::new(0))?;
     let (gauge, watch, pass) = Gauge::<Levels>::new(alloc)?;
-    let mut listed = ListSource::of(alloc, 6)?;
-    listed.left.push_back(SourceItem::Lost(70))?;
+    let mut source = ListSource::of(alloc, 2000, 6)?;
+    source.left.push_back(SourceItem::Lost(70))?;
     let source: AnySource = Box::new(
         alloc,
         Looking {
-            source: listed,
+            source,
             rt,
             window: Window::new(watch, pass),
             turn: 0,
             right: Arc::try_clone(&right)?,
         },
     )?;
-    let made = make(alloc, 4)?;
+    let made = make(alloc, 4, formatted_medium(alloc)?)?;
     let report = run_watched::<Brand, _>(&rt, alloc, made, gauge, source)?;
-    assert_eq!(rt; right.load(Ordering::SeqCst), 8);
-    assert_eq!(rt; report.feeds.len(), 1);
+    let (numbers, _seen) = end_of(alloc, report);
+    assert_eq!(rt;
+        (right.load(Ordering::SeqCst), numbers),
+        (8, ([Some((5, 4, 2, 0, 0, 4)), None], 0, Ok(true)))
+    );
     Ok(())
 }

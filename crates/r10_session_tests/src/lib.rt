@@ -5,8 +5,6 @@
 #[cfg(test)]
 mod asks;
 #[cfg(test)]
-mod beside;
-#[cfg(test)]
 mod crossing;
 #[cfg(test)]
 mod handing;

@@ -7,12 +7,11 @@ ghost use Rattle.r10_held.specs.Naming.{AreNamed};
 ghost use Rattle.r10_medium.specs.MemoryDisk.{memory_disk};
 
 use crate::asks::{Ask, otherwise};
-use crate::beside::{LEAP_DAY, cabinet_of, formatted_medium, offer, recorder_over};
+use crate::inputs::{LEAP_DAY, NewRecorder, cabinet_of, formatted_medium, make, offer};
 use r10_body::Refusal;
 use r10_count::Items;
-use r10_held::{Gauged, Held, Rings};
-use r10_medium::{BlockMedium, Memory};
-use r10_port::Port;
+use r10_held::{Held, Rings};
+use r10_medium::Memory;
 use std::alloc::Global;
 use std::marker::Brand;
 use std::sync::Wait;
@@ -23,7 +22,7 @@ const RECORDED: &[(Ask, Result<usize, Refusal>)] = &[
     (Ask::Commit, Err(Refusal::NotMounted)),
     (Ask::Mount, Ok(0)),
     (Ask::Tick, Ok(0)),
-    (Ask::Start, Ok(0)),
+    (Ask::Start(b"FLT1"), Ok(0)),
     (Ask::Pump(1), Ok(1)),
     (Ask::Event, Ok(0)),
     (Ask::Commit, Ok(0)),
@@ -37,61 +36,57 @@ const CLOSED: &[(Ask, Result<usize, Refusal>)] = &[
     (Ask::Dismount, Ok(0)),
     (Ask::Mount, Ok(0)),
     (Ask::Tick, Ok(0)),
-    (Ask::Start, Err(Refusal::NameTaken)),
+    (Ask::Start(b"FLT1"), Err(Refusal::NameTaken)),
     (Ask::Erase, Ok(0)),
-    (Ask::Start, Ok(0)),
+    (Ask::Start(b"FLT1"), Ok(0)),
     (Ask::Stop, Ok(1)),
     (Ask::Erase, Ok(0)),
 ];
 
 /// What is reported without a change: how often something was published, how many files there are, the last file and its shown
 /// bytes, how many messages of the channel were taken in, how many of them erases took, and the bytes that are free.
-#[derive(Debug, Drop, PartialEq, Eq)]
-struct LockNumbers {
-    published: u64,
-    files: usize,
-    shown: Option<(usize, u64)>,
-    taken: Option<u64>,
-    erased: Option<u64>,
-    free: u64,
+type LockNumbers = (
+    u64,
+    usize,
+    Option<(usize, u64)>,
+    Option<u64>,
+    Option<u64>,
+    u64,
+);
+
+fn tell<N: Rings>(held: &mut Held<Memory, N>) -> Result<LockNumbers, Refusal> {
+    let files = held.files()?.len();
+    let free = held.status()?.free;
+    Ok((
+        held.commits(),
+        files,
+        held.last_shown(),
+        held.taken(5),
+        held.erased(5),
+        free,
+    ))
 }
 
-fn tell<M: BlockMedium, N: Rings>(held: &mut Held<M, N>) -> Result<LockNumbers, Refusal> {
-    Ok(LockNumbers {
-        published: held.commits(),
-        files: held.files()?.len(),
-        shown: held.last_shown(),
-        taken: held.taken(5),
-        erased: held.erased(5),
-        free: held.status()?.free,
-    })
-}
-
-/// What is read of the first file: the number of the first message with at least a count, the count at a time, and how many
+/// What is read of the first file: the number of the first message with at least the count 1001, the count at a time, and how many
 /// messages there are before a place.
-#[derive(Debug, Drop, PartialEq, Eq)]
-struct FileNumbers {
-    number: Option<usize>,
-    count: Option<u64>,
-    taken: Result<usize, Refusal>,
-}
+type FileNumbers = (Option<usize>, Option<u64>, Result<usize, Refusal>);
 
-fn number_from<M: BlockMedium, N: Rings>(held: &mut Held<M, N>, count: u64) -> Option<usize> {
-    match held.find(0, 5, count) {
+fn number_from<N: Rings>(held: &mut Held<Memory, N>) -> Option<usize> {
+    match held.find(0, 5, 1001) {
         Ok(Some(found)) => Some(found.number),
         _ => None,
     }
 }
 
-fn count_at<M: BlockMedium, N: Rings>(held: &mut Held<M, N>) -> Option<u64> {
+fn count_at<N: Rings>(held: &mut Held<Memory, N>) -> Option<u64> {
     match held.count_at(0, LEAP_DAY) {
         Ok(Some(count)) => Some(count.get()),
         _ => None,
     }
 }
 
-fn take_to<M: BlockMedium, N: Rings>(
-    held: &mut Held<M, N>,
+fn take_to<N: Rings>(
+    held: &mut Held<Memory, N>,
     alloc: Global,
     until: usize,
 ) -> Result<usize, Refusal> {
@@ -99,87 +94,68 @@ fn take_to<M: BlockMedium, N: Rings>(
     held.advance_to(&mut cursor, until)
 }
 
-/// Records a message, and leaves the file open.
-fn record<N: Rings, R: Wait>(
+/// How many calls answered otherwise, and what is reported and read then.
+type LockAnswers = (usize, LockNumbers, FileNumbers);
+
+/// Offers a message and makes these calls. What came of them, and the medium.
+fn call<N: Rings, R: Wait>(
     rt: &R,
     alloc: Global,
-    gauged: Gauged<Memory>,
-    port: Port,
-) -> Result<(usize, LockNumbers, FileNumbers, Memory), Fail>
-    requires new { IsNew memory_disk outlet_spec outlet_received gauged.recorder }
-    requires named { AreNamed N.rings gauged.recorder.lanes }
-    requires gauge { gauged.cell ≡ N.gauge }
+    made: NewRecorder,
+    asks: &[(Ask, Result<usize, Refusal>)],
+) -> Result<(LockAnswers, Memory), Fail>
+    requires new { IsNew memory_disk outlet_spec outlet_received made.gauged.recorder }
+    requires named { AreNamed N.rings made.gauged.recorder.lanes }
+    requires gauge { made.gauged.cell ≡ N.gauge }
 {
+    let NewRecorder { gauged, five, .. } = made;
+    let mut five = five;
+    offer(alloc, &mut five)?;
     let (cabinet, _pass) = cabinet_of::<N>(gauged);
-    let mut port = port;
-    let _accepted = offer(alloc, &mut port, 1001)?;
-    let wrong = otherwise(rt, &cabinet, RECORDED);
+    let wrong = otherwise(rt, &cabinet, asks);
     let (mut held, _watch) = cabinet.into_parts();
     let told = tell(&mut held)?;
-    let found = FileNumbers {
-        number: number_from(&mut held, 1001),
-        count: count_at(&mut held),
-        taken: take_to(&mut held, alloc, 2),
-    };
-    Ok((wrong, told, found, held.into_recorder().into_medium()))
+    let read = (
+        number_from(&mut held),
+        count_at(&mut held),
+        take_to(&mut held, alloc, 2),
+    );
+    Ok(((wrong, told, read), held.into_recorder().into_medium()))
 }
 
-/// Closes the file, and takes it away.
-fn close<N: Rings, R: Wait>(
+/// The same over a medium.
+fn call_over<R: Wait>(
     rt: &R,
     alloc: Global,
-    gauged: Gauged<Memory>,
-    port: Port,
-) -> Result<(usize, LockNumbers), Fail>
-    requires new { IsNew memory_disk outlet_spec outlet_received gauged.recorder }
-    requires named { AreNamed N.rings gauged.recorder.lanes }
-    requires gauge { gauged.cell ≡ N.gauge }
-{
-    let (cabinet, _pass) = cabinet_of::<N>(gauged);
-    let mut port = port;
-    let _accepted = offer(alloc, &mut port, 1001)?;
-    let wrong = otherwise(rt, &cabinet, CLOSED);
-    let (mut held, _watch) = cabinet.into_parts();
-    Ok((wrong, tell(&mut held)?))
+    medium: Memory,
+    asks: &[(Ask, Result<usize, Refusal>)],
+) -> Result<(LockAnswers, Memory), Fail> {
+    let made = make(alloc, 2, medium)?;
+    call::<Brand, R>(rt, alloc, made, asks)
 }
 
+/// A message is recorded in a file that is left open; then the file is closed, and taken away.
 #[test]
 fn each_call_under_the_lock_answers(rt: HostRuntime) -> Result<(), Fail> {
     let alloc = rt.alloc();
-    let (gauged, port) = recorder_over(alloc, formatted_medium(alloc)?)?;
-    let (wrong, told, found, medium) = record::<Brand, _>(&rt, alloc, gauged, port)?;
-    let (gauged, port) = recorder_over(alloc, medium)?;
-    let (wrong_then, told_then) = close::<Brand, _>(&rt, alloc, gauged, port)?;
-    assert_eq!(rt; (wrong, wrong_then), (0, 0));
+    let medium = formatted_medium(alloc)?;
+    let (recorded, medium) = call_over(&rt, alloc, medium, RECORDED)?;
+    let (closed, _medium) = call_over(&rt, alloc, medium, CLOSED)?;
     assert_eq!(rt;
-        told,
-        LockNumbers {
-            published: 2,
-            files: 1,
-            shown: Some((0, 152)),
-            taken: Some(1),
-            erased: Some(0),
-            free: 30_731,
-        }
+        recorded,
+        (
+            0,
+            (2, 1, Some((0, 152)), Some(1), Some(0), 30_731),
+            (Some(0), Some(1000), Ok(1))
+        )
     );
     assert_eq!(rt;
-        found,
-        FileNumbers {
-            number: Some(0),
-            count: Some(1000),
-            taken: Ok(1)
-        }
-    );
-    assert_eq!(rt;
-        told_then,
-        LockNumbers {
-            published: 4,
-            files: 0,
-            shown: None,
-            taken: Some(1),
-            erased: Some(1),
-            free: 31_232,
-        }
+        closed,
+        (
+            0,
+            (4, 0, None, Some(1), Some(1), 31_232),
+            (None, None, Err(Refusal::NoSuchFile))
+        )
     );
     Ok(())
 }

@@ -1,13 +1,13 @@
 // A loss that is longer than 16 bits count: messages at a full lane while the writer is held back, and what is seen of them.
 
+use crate::meeting::Meeting;
 use crate::sources::ListSource;
 use crossbeam_utils::Backoff;
 use r10_body::{Entry, Gap};
-use r10_shared::Gate;
+use r10_shared::{Gate, Instalment};
 use r10_source::{ChannelSource, Given};
-use std::alloc::{AllocError, Global};
+use std::alloc::Global;
 use std::sync::Arc;
-use std::sync::atomic::{AtomicBool, Ordering};
 use std::test::Fail;
 
 /// The count of the first message.
@@ -31,45 +31,14 @@ const LATER: u32 = 100_000;
 /// How many turns are waited at most: on a busy machine a million were over before the messages were lost.
 const TURNS: u32 = 100_000_000;
 
-/// A gate that lets everybody pass, the writer of one feed only when it is opened, and what it saw: whether the writer waited in
-/// vain.
+/// A gate that lets everybody pass, the writer of two feeds only when somebody came.
 #[derive(Drop)]
-pub struct Barrier {
-    open: AtomicBool,
-    vain: AtomicBool,
-}
-
-impl Barrier {
-    pub fn new(alloc: Global) -> Result<Arc<Barrier, Global>, AllocError> {
-        let barrier = Barrier {
-            open: AtomicBool::new(false),
-            vain: AtomicBool::new(false),
-        };
-        Ok(Arc::new(alloc, barrier)?)
-    }
-
-    /// Whether the writer waited in vain.
-    pub fn in_vain(&self) -> bool {
-        self.vain.load(Ordering::SeqCst)
-    }
-
-    /// Waits until it is opened.
-    fn wait(&self) {
-        let backoff = Backoff::new();
-        for _ in 0..TURNS {
-            if self.open.load(Ordering::SeqCst) {
-                return;
-            }
-            backoff.snooze();
-        }
-        self.vain.store(true, Ordering::SeqCst);
-    }
-}
+pub struct Barrier(pub Arc<Meeting, Global>);
 
 impl Gate for Barrier {
     fn pass(&self, worker: usize) -> bool {
-        if worker == 1 {
-            self.wait();
+        if worker == 2 {
+            self.0.wait(1, TURNS);
         }
         true
     }
@@ -80,19 +49,18 @@ impl Gate for Barrier {
 #[derive(Drop)]
 pub struct Losing {
     source: ListSource,
-    barrier: Arc<Barrier, Global>,
+    meeting: Arc<Meeting, Global>,
     given: u64,
     later: u32,
     backoff: Backoff,
 }
 
 impl Losing {
-    pub fn of(alloc: Global, barrier: &Arc<Barrier, Global>) -> Result<Losing, Fail> {
-        let source = ListSource::of(alloc, ALL)?;
-        let barrier = Arc::try_clone(barrier)?;
+    pub fn of(alloc: Global, meeting: &Arc<Meeting, Global>) -> Result<Losing, Fail> {
+        let source = ListSource::of(alloc, FIRST, ALL)?;
         Ok(Losing {
             source,
-            barrier,
+            meeting: Arc::try_clone(meeting)?,
             given: 0,
             later: 0,
             backoff: Backoff::new(),
@@ -105,7 +73,7 @@ impl ChannelSource for Losing {
 
     fn next(&mut self) -> Given {
         if self.given >= ROOM + LOST {
-            self.barrier.open.store(true, Ordering::SeqCst);
+            self.meeting.come();
             self.backoff.snooze();
             if self.later < LATER {
                 self.later += 1;
@@ -119,7 +87,7 @@ impl ChannelSource for Losing {
 
 /// What is seen of entries: how many there are, the count that comes next where none is lost, how many their gaps tell of, the
 /// greatest number that one tells, and how many tell another number than the counts.
-#[derive(Clone, Copy, Debug, PartialEq, Eq)]
+#[derive(Clone, Copy)]
 pub struct Seen {
     pub entries: u64,
     next: u64,
@@ -141,7 +109,7 @@ impl Seen {
     }
 
     /// Sees an entry.
-    pub fn see(&mut self, entry: &Entry) {
+    fn see(&mut self, entry: &Entry) {
         let count = entry.count.get();
         if entry.gap != Gap::after(count.saturating_sub(self.next)) {
             self.wrong = self.wrong.wrapping_add(1);
@@ -152,6 +120,15 @@ impl Seen {
         }
         self.entries = self.entries.wrapping_add(1);
         self.next = count.wrapping_add(1);
+    }
+
+    /// Sees the entries of these.
+    pub fn see_all(&mut self, instalments: &[Instalment]) {
+        for instalment in instalments {
+            for entry in instalment.entries.as_slice() {
+                self.see(entry);
+            }
+        }
     }
 
     /// How many messages were lost: those that the gaps tell of, and those after the last entry.

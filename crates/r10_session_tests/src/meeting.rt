@@ -1,4 +1,4 @@
-// Gates, one of them one at which all workers meet, and sources that meet.
+// What workers wait for, and gates and sources at which they do.
 
 use crate::sources::ListSource;
 use crossbeam_utils::Backoff;
@@ -9,24 +9,44 @@ use std::sync::Arc;
 use std::sync::atomic::{AtomicBool, AtomicU64, Ordering};
 use std::test::Fail;
 
-/// How many turns are waited at most.
-const TURNS: u32 = 1_000_000;
+/// How many turns a worker waits at the gate at most.
+const GATE_TURNS: u32 = 1_000_000;
 
-/// A gate that waits for so many workers, and lets nobody pass who waited in vain.
+/// How many turns a source waits at most.
+const SOURCE_TURNS: u32 = 10_000_000;
+
+/// How many came, and whether somebody waited for them in vain. As a gate it waits for five workers.
 #[derive(Drop)]
-pub struct Meet {
-    all: u64,
+pub struct Meeting {
     came: AtomicU64,
     vain: AtomicBool,
 }
 
-impl Meet {
-    pub fn of(all: u64) -> Meet {
-        Meet {
-            all,
+impl Meeting {
+    pub fn new(alloc: Global) -> Result<Arc<Meeting, Global>, AllocError> {
+        let meeting = Meeting {
             came: AtomicU64::new(0),
             vain: AtomicBool::new(false),
+        };
+        Ok(Arc::new(alloc, meeting)?)
+    }
+
+    /// One more came.
+    pub fn come(&self) {
+        self.came.fetch_add(1, Ordering::SeqCst);
+    }
+
+    /// Waits until so many came, and at most so many turns. Whether they came.
+    pub fn wait(&self, all: u64, turns: u32) -> bool {
+        let backoff = Backoff::new();
+        for _ in 0..turns {
+            if self.came.load(Ordering::SeqCst) >= all {
+                return true;
+            }
+            backoff.snooze();
         }
+        self.vain.store(true, Ordering::SeqCst);
+        false
     }
 
     /// Whether somebody waited in vain.
@@ -35,115 +55,64 @@ impl Meet {
     }
 }
 
-impl Gate for Meet {
+/// Nobody passes who waited in vain.
+impl Gate for Meeting {
     fn pass(&self, _worker: usize) -> bool {
-        self.came.fetch_add(1, Ordering::SeqCst);
-        let backoff = Backoff::new();
-        for _ in 0..TURNS {
-            if self.came.load(Ordering::SeqCst) >= self.all {
-                return true;
-            }
-            backoff.snooze();
-        }
-        self.vain.store(true, Ordering::SeqCst);
-        false
+        self.come();
+        self.wait(5, GATE_TURNS)
     }
 }
 
-/// A gate that lets nobody pass.
+/// A gate that lets only the worker with this number pass.
 #[derive(Clone, Copy)]
-pub struct Shut;
+pub struct Only(pub usize);
 
-impl Gate for Shut {
-    fn pass(&self, _worker: usize) -> bool {
-        false
+impl Gate for Only {
+    fn pass(&self, worker: usize) -> bool {
+        worker == self.0
     }
 }
 
-/// What two sources that meet tell each other: of which the first message was asked for, and whether one waited in vain.
+/// A source that comes when it is first asked, and waits, when it is asked for the message in this place, from 0, until so many came.
 #[derive(Drop)]
-pub struct MeetingPlace {
-    first: AtomicBool,
-    second: AtomicBool,
-    vain: AtomicBool,
-}
-
-impl MeetingPlace {
-    pub fn new(alloc: Global) -> Result<Arc<MeetingPlace, Global>, AllocError> {
-        let place = MeetingPlace {
-            first: AtomicBool::new(false),
-            second: AtomicBool::new(false),
-            vain: AtomicBool::new(false),
-        };
-        Ok(Arc::new(alloc, place)?)
-    }
-
-    /// Whether a source waited in vain.
-    pub fn in_vain(&self) -> bool {
-        self.vain.load(Ordering::SeqCst)
-    }
-
-    /// The flag of a side.
-    fn of(&self, side: bool) -> &AtomicBool {
-        if side { &self.second } else { &self.first }
-    }
-
-    /// Waits until the first of the other side was asked for.
-    fn wait(&self, side: bool) {
-        let backoff = Backoff::new();
-        for _ in 0..TURNS {
-            if self.of(!side).load(Ordering::SeqCst) {
-                return;
-            }
-            backoff.snooze();
-        }
-        self.vain.store(true, Ordering::SeqCst);
-    }
-}
-
-/// A source that waits, before it gives its second message, until the first of the other was asked for.
-#[derive(Drop)]
-pub struct MeetingSource {
+pub struct WaitingSource {
     source: ListSource,
-    place: Arc<MeetingPlace, Global>,
-    side: bool,
-    asked: u32,
+    meeting: Arc<Meeting, Global>,
+    asked: u64,
+    at: u64,
+    all: u64,
 }
 
-impl MeetingSource {
-    /// A source of so many messages on one side.
+impl WaitingSource {
+    /// A source of ten messages.
     pub fn of(
         alloc: Global,
-        place: &Arc<MeetingPlace, Global>,
-        side: bool,
-        messages: u64,
-    ) -> Result<MeetingSource, Fail> {
-        let source = ListSource::of(alloc, messages)?;
-        let place = Arc::try_clone(place)?;
-        Ok(MeetingSource {
+        meeting: &Arc<Meeting, Global>,
+        at: u64,
+        all: u64,
+    ) -> Result<WaitingSource, Fail> {
+        let source = ListSource::of(alloc, 2000, 10)?;
+        Ok(WaitingSource {
             source,
-            place,
-            side,
+            meeting: Arc::try_clone(meeting)?,
             asked: 0,
+            at,
+            all,
         })
-    }
-
-    /// Meets the other one.
-    fn meet(&self) {
-        match self.asked {
-            0 => self.place.of(self.side).store(true, Ordering::SeqCst),
-            1 => self.place.wait(self.side),
-            _ => (),
-        }
     }
 }
 
-impl ChannelSource for MeetingSource {
-    ghost rest = { λ meeting. meeting.source.left.items };
+impl ChannelSource for WaitingSource {
+    ghost rest = { λ waiting. waiting.source.left.items };
 
     fn next(&mut self) -> Given {
-        self.meet();
-        self.asked = self.asked.saturating_add(1);
+        if self.asked == 0 {
+            self.meeting.come();
+        }
+        if self.asked == self.at {
+            self.meeting.wait(self.all, SOURCE_TURNS);
+        }
+        self.asked = self.asked.wrapping_add(1);
         self.source.next()
     }
 }

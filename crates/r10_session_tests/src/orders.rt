@@ -6,58 +6,54 @@ ghost use Rattle.r10_held.specs.LockFact.{outlet_received, outlet_spec};
 ghost use Rattle.r10_held.specs.Naming.{AreNamed};
 ghost use Rattle.r10_medium.specs.MemoryDisk.{memory_disk};
 
-use crate::beside::{LEAP_DAY, cabinet_of, formatted_medium, recorder_over};
+use crate::asks::{Ask, orders_of};
+use crate::inputs::{NewRecorder, cabinet_of, formatted_medium, make};
+use crate::meeting::Only;
 use crate::run::run_and_end;
-use r10_count::Items;
-use r10_held::Gauged;
 use r10_medium::Memory;
-use r10_port::Port;
-use r10_shared::{Gate, Order, Rings, SessionReport};
-use std::alloc::{AllocError, Global};
+use r10_shared::{Order, Rings, SessionReport};
+use std::alloc::Global;
 use std::marker::Brand;
 use std::sync::Wait;
 use std::test::Fail;
 use std::thread::Threads;
 
-/// A gate that lets the worker pass that gives the orders, where there are no feeds: so nobody else commits.
-struct OrdersAlone;
+/// A file that is left open.
+const OPENED: &[Ask] = &[
+    Ask::Mount,
+    Ask::Tick,
+    Ask::Start(b"FLT1"),
+    Ask::Event,
+    Ask::Commit,
+];
 
-impl Gate for OrdersAlone {
-    fn pass(&self, worker: usize) -> bool {
-        worker == 1
-    }
-}
+/// It is sealed, and another one recorded.
+const SEALED: &[Ask] = &[
+    Ask::Mount,
+    Ask::Seal,
+    Ask::Tick,
+    Ask::Start(b"FLT2"),
+    Ask::Stop,
+];
 
-/// The clock at 1000.
-const TICK: Order = Order::Tick {
-    count: 1000,
-    parts: LEAP_DAY,
-};
+/// Both are erased.
+const ERASED: &[Ask] = &[Ask::Mount, Ask::Erase, Ask::Dismount, Ask::Mount];
 
-/// A file is begun, with setup text `ABCD`.
-fn start(alloc: Global, name: &[u8]) -> Result<Order, AllocError> {
-    Ok(Order::Start {
-        name: Items::of(Vec::from_slice(alloc, name)?),
-        setup: Items::of(Vec::from_slice(alloc, b"ABCD")?),
-    })
-}
-
-/// A session of orders alone.
+/// A session of orders alone. The gate lets the worker pass that gives them, where there are no feeds: so nobody else commits.
 fn run_orders<N: Rings + Send + Sync, R: Threads + Wait + Sync>(
     rt: &R,
     alloc: Global,
-    gauged: Gauged<Memory>,
-    port: Port,
+    made: NewRecorder,
     orders: Vec<Order>,
 ) -> Result<SessionReport<Memory>, Fail>
-    requires new { IsNew memory_disk outlet_spec outlet_received gauged.recorder }
-    requires named { AreNamed N.rings gauged.recorder.lanes }
-    requires gauge { gauged.cell ≡ N.gauge }
+    requires new { IsNew memory_disk outlet_spec outlet_received made.gauged.recorder }
+    requires named { AreNamed N.rings made.gauged.recorder.lanes }
+    requires gauge { made.gauged.cell ≡ N.gauge }
 {
-    let _unused = port;
+    let NewRecorder { gauged, .. } = made;
     let (cabinet, _pass) = cabinet_of::<N>(gauged);
     let (feeds, players) = (Vec::new(alloc), Vec::new(alloc));
-    run_and_end(rt, alloc, &OrdersAlone, cabinet, feeds, orders, players)
+    run_and_end(rt, alloc, &Only(1), cabinet, feeds, orders, players)
 }
 
 /// The last file and its shown bytes, and the medium, after a session of these orders over a medium.
@@ -65,10 +61,11 @@ fn left_by<R: Threads + Wait + Sync>(
     rt: &R,
     alloc: Global,
     medium: Memory,
-    orders: Vec<Order>,
+    asks: &[Ask],
 ) -> Result<(Option<(usize, u64)>, Memory), Fail> {
-    let (gauged, port) = recorder_over(alloc, medium)?;
-    let report = run_orders::<Brand, R>(rt, alloc, gauged, port, orders)?;
+    let orders = orders_of(alloc, asks)?;
+    let made = make(alloc, 2, medium)?;
+    let report = run_orders::<Brand, R>(rt, alloc, made, orders)?;
     let recorder = report.recorder;
     Ok((recorder.last_shown(), recorder.into_medium()))
 }
@@ -79,33 +76,13 @@ fn left_by<R: Threads + Wait + Sync>(
 #[test]
 fn orders_are_given(rt: HostRuntime) -> Result<(), Fail> {
     let alloc = rt.alloc();
-    let event = Order::Event {
-        number: 3,
-        count: 1010,
-    };
-    let first = [
-        Order::Mount,
-        TICK,
-        start(alloc, b"FLT1")?,
-        event,
-        Order::Commit,
-    ];
-    let first = Vec::from_array(alloc, first)?;
-    let (shown, medium) = left_by(&rt, alloc, formatted_medium(alloc)?, first)?;
-    assert_eq!(rt; shown, Some((0, 108)));
-    let second = [
-        Order::Mount,
-        Order::Seal,
-        TICK,
-        start(alloc, b"FLT2")?,
-        Order::Stop,
-    ];
-    let second = Vec::from_array(alloc, second)?;
-    let (shown, medium) = left_by(&rt, alloc, medium, second)?;
-    assert_eq!(rt; shown, Some((1, 196)));
-    let third = [Order::Mount, Order::Erase, Order::Dismount, Order::Mount];
-    let third = Vec::from_array(alloc, third)?;
-    let (shown, _medium) = left_by(&rt, alloc, medium, third)?;
-    assert_eq!(rt; shown, None);
+    let medium = formatted_medium(alloc)?;
+    let (opened, medium) = left_by(&rt, alloc, medium, OPENED)?;
+    let (sealed, medium) = left_by(&rt, alloc, medium, SEALED)?;
+    let (erased, _medium) = left_by(&rt, alloc, medium, ERASED)?;
+    assert_eq!(rt;
+        (opened, sealed, erased),
+        (Some((0, 108)), Some((1, 196)), None)
+    );
     Ok(())
 }

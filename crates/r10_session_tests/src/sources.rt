@@ -48,13 +48,8 @@ impl ChannelSource for Stopping {
 }
 
 impl ListSource {
-    /// So many messages without bytes, which take no memory, at the counts from 2000 on.
-    pub fn of(alloc: Global, messages: u64) -> Result<ListSource, Fail> {
-        ListSource::from(alloc, 2000, messages)
-    }
-
     /// So many messages without bytes, which take no memory, at the counts from this one on.
-    pub fn from(alloc: Global, first: u64, messages: u64) -> Result<ListSource, Fail> {
+    pub fn of(alloc: Global, first: u64, messages: u64) -> Result<ListSource, Fail> {
         let mut left = VecDeque::new(alloc);
         for place in 0..messages {
             let count = Count::of(place.wrapping_add(first)).ok_or("no count")?;

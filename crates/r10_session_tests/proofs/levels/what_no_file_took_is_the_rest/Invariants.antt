@@ -1,5 +1,5 @@
 use Rattle.std.proofs.Common.{[], ◌∷◌}
-use Rattle.r10_session_tests.proofs.levels.a_feed_shows_its_level_before_its_next_turn.Given as goal
+use Rattle.r10_session_tests.proofs.levels.what_no_file_took_is_the_rest.Given as goal
 
 -- the rings are named for the channels of their ports, and the gauge is the recorder's
 abbrev pub ghosts-run_watched : goal.ghosts-run_watched

@@ -1,5 +1,5 @@
 use Rattle.std.proofs.Common.{[], ◌∷◌}
-use Rattle.r10_session_tests.proofs.sessions.all_workers_run_at_the_same_time.Given as goal
+use Rattle.r10_session_tests.proofs.sessions.record.Given as goal
 
 -- the rings are named for the channels of their ports, and the gauge is the recorder's
 abbrev pub ghosts-run_two : goal.ghosts-run_two
