@@ -1,4 +1,4 @@
-//! Texts that are printed, calls that no program makes, commands whose reader or writers fail, scripts that are too long to be
+//! Texts that are printed, calls that no program makes, commands whose reader or writers fail, a script that is too long to be
 //! written by hand, and what else no contract says of media and verdicts.
 #![tactic(auto)]
 
@@ -15,12 +15,8 @@ mod faults;
 #[cfg(test)]
 mod file_faults;
 #[cfg(test)]
-mod losses;
-#[cfg(test)]
 mod machines;
 #[cfg(test)]
 mod media;
-#[cfg(test)]
-mod sessions;
 #[cfg(test)]
 mod verdicts;
