@@ -8,7 +8,7 @@ ghost use Rattle.r10_medium.specs.MemoryDisk.{memory_disk};
 
 use crate::inputs::{NewRecorder, cabinet_of, formatted_medium, make};
 use crate::losing::Seen;
-use crate::meeting::{Meeting, WaitingSource};
+use crate::meeting::{MeetingPoint, WaitingSource};
 use crate::run::{begin_session, one_feed};
 use r10_shared::{
     AnySource, Handing, Instalment, Never, Open, Player, Rings, Sink, run_session_handing,
@@ -24,7 +24,7 @@ use std::thread::Threads;
 struct Basket {
     room: usize,
     instalments: Vec<Instalment>,
-    meeting: Arc<Meeting, Global>,
+    meeting: Arc<MeetingPoint, Global>,
     refused: bool,
 }
 
@@ -109,7 +109,7 @@ fn handed(vain: bool, accepted: &[Instalment], kept: &[Instalment]) -> Handed {
 /// A session with a sink that has room for so many instalments, and a source that waits, after its fifth message, for the first of
 /// them.
 fn hand_to<R: Threads + Wait + Sync>(rt: &R, alloc: Global, room: usize) -> Result<Handed, Fail> {
-    let meeting = Meeting::new(alloc)?;
+    let meeting = MeetingPoint::new(alloc)?;
     let sink = Basket {
         room,
         instalments: Vec::new(alloc),

@@ -1,6 +1,6 @@
 // A loss that is longer than 16 bits count: messages at a full lane while the writer is held back, and what is seen of them.
 
-use crate::meeting::Meeting;
+use crate::meeting::MeetingPoint;
 use crate::sources::ListSource;
 use crossbeam_utils::Backoff;
 use r10_body::{Entry, Gap};
@@ -33,7 +33,7 @@ const TURNS: u32 = 100_000_000;
 
 /// A gate that lets everybody pass, the writer of two feeds only when somebody came.
 #[derive(Drop)]
-pub struct Barrier(pub Arc<Meeting, Global>);
+pub struct Barrier(pub Arc<MeetingPoint, Global>);
 
 impl Gate for Barrier {
     fn pass(&self, worker: usize) -> bool {
@@ -49,14 +49,14 @@ impl Gate for Barrier {
 #[derive(Drop)]
 pub struct Losing {
     source: ListSource,
-    meeting: Arc<Meeting, Global>,
+    meeting: Arc<MeetingPoint, Global>,
     given: u64,
     later: u32,
     backoff: Backoff,
 }
 
 impl Losing {
-    pub fn of(alloc: Global, meeting: &Arc<Meeting, Global>) -> Result<Losing, Fail> {
+    pub fn of(alloc: Global, meeting: &Arc<MeetingPoint, Global>) -> Result<Losing, Fail> {
         let source = ListSource::of(alloc, FIRST, ALL)?;
         Ok(Losing {
             source,

@@ -17,14 +17,14 @@ const SOURCE_TURNS: u32 = 10_000_000;
 
 /// How many came, and whether somebody waited for them in vain. As a gate it waits for five workers.
 #[derive(Drop)]
-pub struct Meeting {
+pub struct MeetingPoint {
     came: AtomicU64,
     vain: AtomicBool,
 }
 
-impl Meeting {
-    pub fn new(alloc: Global) -> Result<Arc<Meeting, Global>, AllocError> {
-        let meeting = Meeting {
+impl MeetingPoint {
+    pub fn new(alloc: Global) -> Result<Arc<MeetingPoint, Global>, AllocError> {
+        let meeting = MeetingPoint {
             came: AtomicU64::new(0),
             vain: AtomicBool::new(false),
         };
@@ -56,7 +56,7 @@ impl Meeting {
 }
 
 /// Nobody passes who waited in vain.
-impl Gate for Meeting {
+impl Gate for MeetingPoint {
     fn pass(&self, _worker: usize) -> bool {
         self.come();
         self.wait(5, GATE_TURNS)
@@ -73,11 +73,11 @@ impl Gate for Only {
     }
 }
 
-/// A source that comes when it is first asked, and waits, when it is asked for the message in this place, from 0, until so many came.
+/// A source that comes when it is first asked. When it is asked for the message in this place, from 0, it waits until so many came.
 #[derive(Drop)]
 pub struct WaitingSource {
     source: ListSource,
-    meeting: Arc<Meeting, Global>,
+    meeting: Arc<MeetingPoint, Global>,
     asked: u64,
     at: u64,
     all: u64,
@@ -87,7 +87,7 @@ impl WaitingSource {
     /// A source of ten messages.
     pub fn of(
         alloc: Global,
-        meeting: &Arc<Meeting, Global>,
+        meeting: &Arc<MeetingPoint, Global>,
         at: u64,
         all: u64,
     ) -> Result<WaitingSource, Fail> {

@@ -2,7 +2,7 @@
 
 use crate::inputs::{formatted_medium, make};
 use crate::losing::{ALL, Barrier, LOST, Losing, Seen};
-use crate::meeting::{Meeting, Only, WaitingSource};
+use crate::meeting::{MeetingPoint, Only, WaitingSource};
 use crate::run::{SessionNumbers, end_of, run_twice, run_two};
 use crate::sources::{ListSource, Stopping};
 use r10_shared::{AnySource, Gate, Open, StopFlag};
@@ -70,7 +70,7 @@ fn nobody_works_behind_a_shut_gate(rt: HostRuntime) -> Result<(), Fail> {
 #[test]
 fn all_workers_run_at_the_same_time(rt: HostRuntime) -> Result<(), Fail> {
     let alloc = rt.alloc();
-    let meeting = Meeting::new(alloc)?;
+    let meeting = MeetingPoint::new(alloc)?;
     let first: AnySource = Box::new(alloc, WaitingSource::of(alloc, &meeting, 1, 7)?)?;
     let second: AnySource = Box::new(alloc, WaitingSource::of(alloc, &meeting, 1, 7)?)?;
     let (numbers, _seen) = record(&rt, alloc, 1000, &*meeting, first, second)?;
@@ -104,7 +104,7 @@ fn a_feed_ends_at_a_stop_and_goes_on_in_another_session(rt: HostRuntime) -> Resu
 #[test]
 fn a_loss_of_70_000_messages_says_its_number(rt: HostRuntime) -> Result<(), Fail> {
     let alloc = rt.alloc();
-    let meeting = Meeting::new(alloc)?;
+    let meeting = MeetingPoint::new(alloc)?;
     let gate = Barrier(Arc::try_clone(&meeting)?);
     let first: AnySource = Box::new(alloc, Losing::of(alloc, &meeting)?)?;
     let second: AnySource = Box::new(alloc, ListSource::of(alloc, 0, 0)?)?;

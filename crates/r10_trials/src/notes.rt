@@ -31,7 +31,7 @@ impl Notes {
         }
     }
 
-    /// Asks for memory so often before what is done, so that a refused allocation of a fixed number falls on another one after them.
+    /// Asks for memory so often before what is done: so a refused allocation of a fixed number falls on another one after them.
     pub fn ask_before(&mut self, alloc: Global, times: u32) {
         self.before = ask(alloc, times);
     }

@@ -28,7 +28,7 @@ use std::thread::Threads;
 
 /// What came of a session that has ended.
 #[derive(Drop)]
-pub struct Ended {
+pub struct EndedSession {
     pub report: SessionReport<Faulty<Memory>>,
     /// How the recorder was before the end.
     pub standing: RecorderState,
@@ -189,17 +189,17 @@ fn end<N: Rings, R: Wait>(
     cabinet: Cabinet<Faulty<Memory>, N>,
     session: Session<N>,
     notes: &mut Notes,
-) -> Result<Ended, AllocError> {
+) -> Result<EndedSession, AllocError> {
     let standing = standing_of(&mut cabinet.hold(rt));
     match end_failed_session(alloc, cabinet, session) {
-        Ok(report) => Ok(Ended {
+        Ok(report) => Ok(EndedSession {
             report,
             standing,
             has_failed: true,
         }),
         Err((cabinet, session, NotEnded::Works)) => {
             let report = end_whole(rt, alloc, cabinet, session, &standing, notes)?;
-            Ok(Ended {
+            Ok(EndedSession {
                 report,
                 standing,
                 has_failed: false,
@@ -244,7 +244,7 @@ pub fn run_over<N: Rings + Send + Sync, R: Threads + Wait + Sync>(
     plan: Plan,
     call: u64,
     notes: &mut Notes,
-) -> Result<Ended, AllocError>
+) -> Result<EndedSession, AllocError>
     requires new { IsNew faulty_disk outlet_spec outlet_received made.gauged.recorder }
     requires named { AreNamed N.rings made.gauged.recorder.lanes }
     requires gauge { made.gauged.cell ≡ N.gauge }

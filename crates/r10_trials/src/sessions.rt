@@ -5,7 +5,7 @@ use crate::fault::TrialFault;
 use crate::list_source::source;
 use crate::notes::Notes;
 use crate::plan::Plan;
-use crate::session::{Ended, gauged_of, run_over};
+use crate::session::{EndedSession, gauged_of, run_over};
 use crate::settled::{audit_and_close, settle};
 use std::alloc::{AllocError, Global};
 use std::marker::Brand;
@@ -32,7 +32,7 @@ fn try_once<R: Threads + Wait + Sync>(
     plan: Plan,
     call: u64,
     notes: &mut Notes,
-) -> Result<Ended, AllocError> {
+) -> Result<EndedSession, AllocError> {
     let image = apparatus_image(alloc)?;
     let first = source(alloc)?;
     let second = source(alloc)?;

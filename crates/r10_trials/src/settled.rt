@@ -4,7 +4,7 @@ use crate::list_source::{MESSAGES, is_message};
 use crate::notes::Notes;
 use crate::plan::Plan;
 use crate::recovered::found_on;
-use crate::session::Ended;
+use crate::session::EndedSession;
 use crate::standing::{CHANNELS, RecorderState};
 use r10_body::{Entry, Refusal};
 use r10_medium::{Faulty, Memory};
@@ -144,12 +144,12 @@ pub fn audit_and_close(
 /// which this call failed, from 1; or none, where it is 0.
 pub fn settle(
     alloc: Global,
-    ended: Ended,
+    ended: EndedSession,
     plan: Plan,
     call: u64,
     notes: &mut Notes,
 ) -> Result<(), AllocError> {
-    let Ended {
+    let EndedSession {
         report,
         standing,
         ..
