@@ -50,7 +50,8 @@ pub fn tell_again(
     let reads = reads_as(alloc, &world.into_medium(), end.as_slice());
     notes.want(reads, "the medium reads otherwise");
     notes.ask_behind(alloc);
-    notes.push(alloc, text)
+    notes.push(alloc, text);
+    Ok(())
 }
 
 /// Whether a medium reads as these bytes; they are read once more where memory is refused.
@@ -138,7 +139,8 @@ pub fn run_on(
     }
     compare(replies.as_slice(), course.replies, &mut notes);
     notes.ask_behind(alloc);
-    notes.push(alloc, text)
+    notes.push(alloc, text);
+    Ok(())
 }
 
 /// Compares replies with those that are wanted, up to a step that was refused for want of memory.
@@ -176,5 +178,6 @@ pub fn judge_again(
     };
     notes.want(verdict == Verdict::Strict, "the file is not strict");
     notes.ask_behind(alloc);
-    notes.push(alloc, text)
+    notes.push(alloc, text);
+    Ok(())
 }

@@ -34,7 +34,8 @@ use std::thread::Threads;
 /// The line that stands before the sessions.
 const SESSIONS: &str = "== sessions\n";
 
-/// Room for all that is printed. So what is printed asks for memory once, before the first trial.
+/// Room for all that is printed. So what is printed asks for memory once, before the first trial, and no trial ends for want of
+/// room: what finds none is missing.
 const ROOM: usize = 32_768;
 
 /// Makes the trials and the sessions of the input, and prints what they came to, also where one of them ended early.

@@ -1,7 +1,7 @@
 //! What came of a run whose memory may be refused.
 
 use crate::tally::push_number;
-use std::alloc::{AllocError, Global};
+use std::alloc::Global;
 
 /// How often memory is asked for after what is done: more often than a number that is refused.
 const BEHIND: u32 = 5_000;
@@ -42,21 +42,24 @@ impl Notes {
     }
 
     /// Adds what came, which ask was refused, before what was done or after it, if one was, and the end of the line.
-    pub fn push(&self, alloc: Global, text: &mut String) -> Result<(), AllocError> {
+    pub fn push(&self, alloc: Global, text: &mut String) {
         let (came, what) = match (self.wrong, self.again) {
             (Some(what), _) => ("not as wanted: ", what),
             (None, Some(what)) => ("as wanted, ", what),
             (None, None) => ("as wanted", ""),
         };
-        text.push_str(came)?;
-        text.push_str(what)?;
+        let _ = text.push_str(came);
+        let _ = text.push_str(what);
         let (asks, place) = match (self.before, self.behind) {
             (Some(asks), _) => (asks, " asks before\n"),
             (None, Some(asks)) => (asks, " asks at the end\n"),
-            (None, None) => return text.push_str("\n"),
+            (None, None) => {
+                let _ = text.push_str("\n");
+                return;
+            }
         };
-        text.push_str(", refused behind ")?;
-        push_number(alloc, u64::from(asks), place, text)
+        let _ = text.push_str(", refused behind ");
+        push_number(alloc, u64::from(asks), place, text);
     }
 }
 

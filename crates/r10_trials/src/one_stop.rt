@@ -23,20 +23,16 @@ const LEFT: [(Choice, &str); 4] = [
     ),
 ];
 
-/// Adds the lines of replies, of which the first is to the step after the first `done` ones.
-fn push_replies(
-    alloc: Global,
-    done: usize,
-    replies: &[Reply],
-    text: &mut String,
-) -> Result<(), AllocError> {
+/// Adds the lines of replies, of which the first is to the step after the first `done` ones; none of one to whose lines memory is
+/// refused.
+fn push_replies(alloc: Global, done: usize, replies: &[Reply], text: &mut String) {
     let mut number = done;
     for reply in replies {
         number = number.saturating_add(1);
-        let lines = reply_lines(alloc, number, reply)?;
-        text.push_str(lines.as_str())?;
+        if let Ok(lines) = reply_lines(alloc, number, reply) {
+            let _ = text.push_str(lines.as_str());
+        }
     }
-    Ok(())
 }
 
 /// Adds the line that says what the call of this number changes, counted from 1.
@@ -48,14 +44,15 @@ fn push_call(
 ) -> Result<(), AllocError> {
     let before = image_after(alloc, course, call.saturating_sub(1))?;
     let behind = image_after(alloc, course, call)?;
-    text.push_str("call ")?;
+    let _ = text.push_str("call ");
     match changed_block(before.as_slice(), behind.as_slice()) {
         Some(block) => {
-            push_number(alloc, call, " changes block ", text)?;
-            push_number(alloc, block as u64, "\n", text)
+            push_number(alloc, call, " changes block ", text);
+            push_number(alloc, block as u64, "\n", text);
         }
         None => push_number(alloc, call, " changes no block\n", text),
     }
+    Ok(())
 }
 
 /// What is read after so many calls.
@@ -77,7 +74,7 @@ pub fn fail_at(
     let mut replies = Vec::new(alloc);
     let medium = run_to_failure(alloc, course, call, &mut replies)?;
     let image = medium.into_medium().image(alloc)?;
-    push_replies(alloc, 0, replies.as_slice(), text)?;
+    push_replies(alloc, 0, replies.as_slice(), text);
     push_rest(alloc, course, "a new recorder\n", image.as_slice(), text)
 }
 
@@ -92,7 +89,7 @@ pub fn stop_after(
     push_call(alloc, course, calls, text)?;
     let mut replies = Vec::new(alloc);
     let medium = run_to_stop(alloc, course, calls, &mut replies)?;
-    push_replies(alloc, 0, replies.as_slice(), text)?;
+    push_replies(alloc, 0, replies.as_slice(), text);
     for (choice, line) in &LEFT {
         let image = image_left(alloc, &medium, *choice)?;
         push_rest(alloc, course, line, image.as_slice(), text)?;
@@ -113,7 +110,9 @@ pub fn spoil_byte(
     let mut image = image_behind(alloc, settings, course.image, events, &mut replies)?;
     match image.get_mut(place) {
         Some(spoilt) => *spoilt = byte,
-        None => return text.push_str("no such byte\n"),
+        None => {
+            let _ = text.push_str("no such byte\n");
+        }
     }
     push_rest(alloc, course, "", image.as_slice(), text)
 }
@@ -126,8 +125,9 @@ fn push_rest(
     image: &[u8],
     text: &mut String,
 ) -> Result<(), AllocError> {
-    text.push_str(line)?;
+    let _ = text.push_str(line);
     let mut replies = Vec::new(alloc);
     let _image = image_behind(alloc, course.settings, image, course.rest, &mut replies)?;
-    push_replies(alloc, course.events.len(), replies.as_slice(), text)
+    push_replies(alloc, course.events.len(), replies.as_slice(), text);
+    Ok(())
 }

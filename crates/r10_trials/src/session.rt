@@ -67,18 +67,19 @@ fn give_all<N: Rings, R: Wait>(
 ) -> Result<(), AllocError> {
     for order in &before(alloc)? {
         let standing = standing_of(held);
-        let given = match order.perform(rt, held) {
+        let refused = match order.perform(rt, held) {
+            Ok(_) => false,
             Err(Refusal::OutOfMemory) => {
                 notes.do_again("an order was given again");
                 notes.want(
                     standing_of(held) == standing,
                     "an order that was refused changed the recorder",
                 );
-                order.perform(rt, held)
+                order.perform(rt, held).is_err()
             }
-            other => other,
+            Err(_) => true,
         };
-        notes.want(call > 0 || given.is_ok(), "an order was refused");
+        notes.want(call > 0 || !refused, "an order was refused");
     }
     Ok(())
 }

@@ -7,6 +7,7 @@ use crate::notes::Notes;
 use crate::plan::Plan;
 use crate::session::{EndedSession, gauged_of, run_over};
 use crate::settled::{audit_and_close, settle};
+use crate::title::last_number;
 use std::alloc::{AllocError, Global};
 use std::marker::Brand;
 use std::sync::Wait;
@@ -20,8 +21,8 @@ const FEWEST: u64 = 9;
 
 /// What a line asks for: `NAME ASKS`.
 fn task_of(line: &str) -> Option<(Plan, u32)> {
-    let (name, asks) = line.split_once(' ')?;
-    Some((Plan::of(name)?, asks.parse().ok()?))
+    let (name, asks) = last_number(line)?;
+    Some((Plan::of(name)?, asks))
 }
 
 /// Runs a session over a formatted medium of which the call of this number, from 1, fails, or none, where it is 0. It ends the
@@ -109,26 +110,13 @@ fn try_line<R: Threads + Wait + Sync>(
             None => return Err(TrialFault::NoTrial { place }),
         },
     };
-    let came = match tried {
-        Ok(()) => push_line(alloc, line, &notes, text),
-        Err(refused) => Err(refused),
+    let Ok(()) = tried else {
+        return Err(TrialFault::Memory);
     };
-    match came {
-        Ok(()) => Ok(()),
-        Err(_) => Err(TrialFault::Memory),
-    }
-}
-
-/// Adds a line of the input, and that of what came.
-fn push_line(
-    alloc: Global,
-    line: &str,
-    notes: &Notes,
-    text: &mut String,
-) -> Result<(), AllocError> {
-    text.push_str(line)?;
-    text.push_str("\n")?;
-    notes.push(alloc, text)
+    let _ = text.push_str(line);
+    let _ = text.push_str("\n");
+    notes.push(alloc, text);
+    Ok(())
 }
 
 /// Runs the session of each line in turn, and adds the line and what came of it.

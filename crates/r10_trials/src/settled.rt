@@ -122,22 +122,22 @@ pub fn audit_and_close(
         }
         other => other,
     };
-    notes.want(
-        plan.erases || matches!(agreed, Ok(true)),
-        "the reader wrote down what no file has",
-    );
-    notes.want(agreed.is_ok(), "the audit was refused");
+    match agreed {
+        Ok(agreed) => notes.want(
+            agreed || plan.erases,
+            "the reader wrote down what no file has",
+        ),
+        Err(_) => notes.want(false, "the audit was refused"),
+    }
     let closed = match report.recorder.stop_file() {
+        Ok(_) | Err(Refusal::NotRecording) => true,
         Err(Refusal::OutOfMemory) => {
             notes.do_again("the file was closed again");
-            report.recorder.stop_file()
+            report.recorder.stop_file().is_ok()
         }
-        other => other,
+        Err(_) => false,
     };
-    notes.want(
-        matches!(closed, Ok(_) | Err(Refusal::NotRecording)),
-        "the file was not closed",
-    );
+    notes.want(closed, "the file was not closed");
 }
 
 /// Compares the account of a session with the files that a new recorder finds on the medium. The session was run over a medium of

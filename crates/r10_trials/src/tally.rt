@@ -63,29 +63,19 @@ pub fn join(whole: &mut Counts, row: &Counts) {
 }
 
 /// Adds the lines of a row under this word.
-pub fn push_row(
-    alloc: Global,
-    word: &str,
-    row: &Counts,
-    text: &mut String,
-) -> Result<(), AllocError> {
-    text.push_str(word)?;
-    text.push_str(": ")?;
+pub fn push_row(alloc: Global, word: &str, row: &Counts, text: &mut String) {
+    let _ = text.push_str(word);
+    let _ = text.push_str(": ");
     for (number, behind) in row.iter().zip(&LABELS) {
-        push_number(alloc, *number, behind, text)?;
+        push_number(alloc, *number, behind, text);
     }
-    Ok(())
 }
 
-/// Adds a number, and what stands after it.
-pub fn push_number(
-    alloc: Global,
-    number: u64,
-    behind: &str,
-    text: &mut String,
-) -> Result<(), AllocError> {
-    let part = format!(in alloc; "{number}{behind}")?;
-    text.push_str(part.as_str())
+/// Adds a number, and what stands after it; neither where memory is refused.
+pub fn push_number(alloc: Global, number: u64, behind: &str, text: &mut String) {
+    if let Ok(part) = format!(in alloc; "{number}{behind}") {
+        let _ = text.push_str(part.as_str());
+    }
 }
 
 /// The place of a word's row, which is added where there is none.

@@ -31,7 +31,7 @@ pub fn task_of(title: &str) -> Option<Task<'_>> {
 }
 
 /// The number that stands last, and the words before it.
-fn last_number(words: &str) -> Option<(&str, u32)> {
+pub fn last_number(words: &str) -> Option<(&str, u32)> {
     let (front, last) = words.rsplit_once(' ')?;
     Some((front, last.parse().ok()?))
 }
