@@ -42,8 +42,8 @@ fn seal_and_read(
     Ok(())
 }
 
-/// What a new recorder finds on a medium, once it has closed a file that was cut off: the messages of both channels, in the order of
-/// the files, which are to be strict.
+/// What a new recorder finds on a medium, once it has closed a file that was cut off: the messages of both channels, in the order
+/// of the files, which are to be strict.
 pub fn found_on(
     alloc: Global,
     medium: &Memory,
