@@ -10,7 +10,7 @@ use Rattle.atomic_table.proofs.Lists.{at_set, at_snoc, set_again}
 use Rattle.r10_body.specs.declared.refusal.Glance.{Glance}
 use Rattle.r10_gauge.specs.declared.cell.SeatKnows.{SeatKnows}
 use Rattle.r10_gauge.specs.Published.{triple, nothing_published, last_triple, commits_of, AreNumbered}
-use Rattle.r10_gauge.specs.Seats.{triple_of_words, seat_knowing, writing_seat, reading_seat, making_seat, spent_seat, having_met, SeesFront, KeepsOneList, GrewByWords, SawAll, HadSeenAll}
+use Rattle.r10_gauge.specs.Seats.{triple_of_words, seat_knowing, writing_seat, reading_seat, making_seat, spent_seat, having_met, SeesFront, KeepsOneList, GrewByWords, SawAll}
 
 pub last_triple_push : (xs : List Glance) (x : Glance) → last_triple (xs ++ x ∷ []) ≡ x
 last_triple_push [] x = refl
@@ -82,7 +82,7 @@ looks keeps by v words views (seat, log, near, last, num, fits) here =
     let w = seat_knowing v.writes log in (
       w,
       (seat, log, near, last, num, fits_set seat log log views by w (λ j u apart e. fits j u e) (prefix_self log, prefix_none log, (λ k. ((mine.2 k).0, refl)))),
-      (refl, mine.0, last, num, near),
+      (refl, mine.0, last, num, near, λ k. let own = mine.2 k in (λ i. seat_knowing (k i) (sym own.1 i), subst (λ l. IsPrefix v.met l) (sym own.1) mine.1)),
     )
 
 pub halves : (keeps : List Glance → Type 0) (by : ℕ) (v : SeatKnows) → Forks (KeepsOneList keeps) by v v (reading_seat v.seen)
@@ -117,16 +117,6 @@ meets keeps by v other w words views (seat, log, near, last, num, fits) here apa
       fits_set seat log log (set views by (having_met v w.seen)) other spent_seat
           (λ j u not_other e. fits_set seat log log views by (having_met v w.seen) (λ i s not_by is. fits i s is) (mine.0, theirs.0, mine.2) j u e)
           (prefix_none log, prefix_none log, (λ k. absurd (false≢true k))),
-    )
-
--- the one that publishes has seen all, and so no less than one that it met
-pub compares : (keeps : List Glance → Type 0) (by : ℕ) (v : SeatKnows) → v.writes ≡ true → Turns (KeepsOneList keeps) by v (λ x. x) HadSeenAll
-compares keeps by v writes words views (seat, log, near, last, num, fits) here =
-    let mine = fits by v here in
-    let own = mine.2 writes in (
-      writing_seat v.seen,
-      (seat, log, near, last, num, fits_set seat log log views by (writing_seat v.seen) (λ j u apart e. fits j u e) (mine.0, prefix_none log, (λ _. own))),
-      (refl, subst (λ l. IsPrefix v.met l) (sym own.1) mine.1),
     )
 
 -- the last of a numbered list tells how many were published

@@ -49,11 +49,9 @@ KeepsOneList keeps words views =
 abbrev pub GrewByWords : SeatKnows → List ℕ → List ℕ → SeatKnows → Type 0
 GrewByWords v before after w = w ≡ writing_seat (v.seen ++ triple_of_words after ∷ [])
 
--- all that was published at that moment was seen, of which what had been seen is a beginning; the words are its last triple
+-- all that was published at that moment was seen, of which what had been seen is a beginning; the words are its last triple.
+-- A seat that publishes is again one that met no other. What the one that it met had seen is a beginning of all that is published.
 abbrev pub SawAll : (List Glance → Type 0) → SeatKnows → List ℕ → List ℕ → SeatKnows → Type 0
 SawAll keeps v before after w =
     (w.writes ≡ v.writes) × IsPrefix v.seen w.seen × (last_triple w.seen ≡ triple_of_words after) × keeps w.seen × (0 < length w.seen)
-
--- the seat that publishes is again one that met no other; what the one that it met had seen is a beginning of all that was published
-abbrev pub HadSeenAll : SeatKnows → List ℕ → List ℕ → SeatKnows → Type 0
-HadSeenAll v before after w = (w ≡ writing_seat v.seen) × IsPrefix v.met v.seen
+    × (v.writes ≡ true → (w ≡ writing_seat v.seen) × IsPrefix v.met v.seen)

@@ -1,4 +1,10 @@
-// The cell, its rule, and the kinds of step.
+// The cell, its rule, and the kinds of step; and each step, as one call.
+
+ghost use Rattle.std.specs.Prelude.{◌≡◌, true, []};
+ghost use mathlib.Core.List.{IsPrefix};
+ghost use Rattle.crossbeam_utils.specs.Seq.{IsSamePass, cell_view};
+ghost use Rattle.r10_gauge.specs.Seats.{SawAll, having_met, reading_seat, writing_seat};
+
 use crate::kind::GaugeKind;
 use atomic_table::{Join, Split};
 use crossbeam_utils::atomic::seq_cell::{Pass, RuledSeqCell};
@@ -6,6 +12,7 @@ use crossbeam_utils::rule::{Outcome, Protocol};
 use r10_body::Glance;
 use std::collections::LinkedList;
 use std::marker::PhantomData;
+use std::sync::Wait;
 
 /// What a seat knows: what was published up to its last step, whether it is the one that publishes, and what a seat that it met had
 /// seen. No value of it is made.
@@ -49,15 +56,6 @@ impl<K: GaugeKind> Outcome<[u64; 3], SeatKnows> for Glancing<K> {
     ghost then = { SawAll K.keeps };
 }
 
-/// A step of the seat that publishes, by which it knows what one that it met had seen.
-pub(crate) struct Comparing;
-
-impl Outcome<[u64; 3], SeatKnows> for Comparing {
-    ghost use Rattle.r10_gauge.specs.Seats.{HadSeenAll};
-
-    ghost then = { HadSeenAll };
-}
-
 /// A step at which a seat meets another, which is spent.
 pub(crate) struct Meeting;
 
@@ -84,3 +82,46 @@ pub(crate) type Cell<K> = RuledSeqCell<[u64; 3], SeatKnows, OneList<K>, 3>;
 
 /// A seat at the cell.
 pub(crate) type Seat = Pass<[u64; 3], SeatKnows>;
+
+/// Cuts off a seat that has seen the same.
+pub(crate) fn halve<K: GaugeKind>(cell: &Cell<K>, seat: &mut Seat) -> Seat
+    requires { seat.old.table_id ≡ cell.now.table.shared.table_id }
+    ensures stays { IsSamePass seat.old seat.new × (cell_view seat.new ≡ cell_view seat.old) }
+    ensures other { (result.table_id ≡ seat.old.table_id)
+        × (cell_view result ≡ reading_seat (cell_view seat.old).seen)
+        × (result.me.1 ≡ []) }
+{
+    cell.split_pass::<Splitting>(seat)
+}
+
+/// A seat meets another, which is spent.
+pub(crate) fn absorb<K: GaugeKind>(cell: &Cell<K>, seat: &mut Seat, other: Seat)
+    requires { (seat.old.table_id ≡ cell.now.table.shared.table_id)
+        × (other.table_id ≡ seat.old.table_id)
+        × (other.me.1 ≡ []) }
+    ensures { IsSamePass seat.old seat.new
+        × (cell_view seat.new ≡ having_met (cell_view seat.old) (cell_view other).seen) }
+{
+    cell.join_pass::<Meeting>(seat, other);
+}
+
+/// Looks at what is published now.
+pub(crate) fn look<K: GaugeKind, R: Wait>(cell: &Cell<K>, rt: &R, seat: &mut Seat) -> [u64; 3]
+    requires { seat.old.table_id ≡ cell.now.table.shared.table_id }
+    ensures same { IsSamePass seat.old seat.new }
+    ensures saw { SawAll K.keeps (cell_view seat.old) result result (cell_view seat.new) }
+{
+    cell.load_as::<Glancing<K>, R>(rt, seat)
+}
+
+/// What a seat that the publishing one met had seen is a beginning of all that is published. After this it is again one that met
+/// no other.
+pub(crate) fn compare<K: GaugeKind, R: Wait>(cell: &Cell<K>, rt: &R, seat: &mut Seat)
+    requires own { seat.old.table_id ≡ cell.now.table.shared.table_id }
+    requires writes { (cell_view seat.old).writes ≡ true }
+    ensures same { IsSamePass seat.old seat.new }
+    ensures seen { (cell_view seat.new ≡ writing_seat (cell_view seat.old).seen)
+        × IsPrefix (cell_view seat.old).met (cell_view seat.old).seen }
+{
+    let _words = look(cell, rt, seat);
+}

@@ -4,7 +4,7 @@ ghost use Rattle.std.specs.Prelude.{◌≡◌, ◌^◌, ◌-◌, min, [], ◌∷
 ghost use mathlib.Core.List.{IsPrefix};
 ghost use Rattle.r10_gauge.specs.Published.{triple, nothing_published, commits_of};
 
-use crate::cell::{Cell, Comparing, Meeting, Publishing, Seat, Splitting};
+use crate::cell::{Cell, Publishing, Seat, absorb, compare, halve};
 use crate::kind::{Commits, GaugeKind, Level, Levels};
 use crate::pass::Pass;
 use crate::watch::Watch;
@@ -55,7 +55,7 @@ impl<K: GaugeKind> Gauge<K> {
             bytes: 0,
         };
         let pass = Pass {
-            seat: cell.split_pass::<Splitting>(&mut seat),
+            seat: halve(&cell, &mut seat),
             last: zeros,
             of: PhantomData,
         };
@@ -88,9 +88,9 @@ impl<K: GaugeKind> Gauge<K> {
         ensures seen { IsPrefix pass.old.seen self.old.published }
         ensures stays { (self.new ≡ self.old) × (pass.new ≡ pass.old) }
     {
-        let other = self.cell.split_pass::<Splitting>(&mut pass.seat);
-        self.cell.join_pass::<Meeting>(&mut self.seat, other);
-        let _words = self.cell.load_as::<Comparing, R>(rt, &mut self.seat);
+        let other = halve(&self.cell, &mut pass.seat);
+        absorb(&self.cell, &mut self.seat, other);
+        compare(&self.cell, rt, &mut self.seat);
     }
 }
 

@@ -18,7 +18,7 @@ pub trait GaugeKind {
 }
 
 /// The publications of a recorder: each triple is their number, a file's number, and how many of its bytes are shown.
-#[derive(Clone, Copy, Debug)]
+#[derive(Clone, Copy)]
 pub struct Commits;
 
 impl GaugeKind for Commits {
@@ -31,7 +31,7 @@ impl GaugeKind for Commits {
 }
 
 /// The levels of a lane, as its sender sees them. Of what is published nothing is known but that it is.
-#[derive(Clone, Copy, Debug)]
+#[derive(Clone, Copy)]
 pub struct Levels;
 
 impl GaugeKind for Levels {

@@ -4,7 +4,7 @@ ghost use Rattle.std.specs.Prelude.{◌≡◌};
 ghost use mathlib.Core.List.{IsPrefix};
 ghost use Rattle.r10_gauge.specs.Published.{last_triple};
 
-use crate::cell::{Cell, Glancing, Splitting};
+use crate::cell::{Cell, halve, look};
 use crate::kind::{Commits, GaugeKind};
 use crate::pass::Pass;
 use r10_body::Glance;
@@ -39,7 +39,7 @@ impl<K: GaugeKind> Watch<K> {
         ensures last { result ≡ last_triple pass.new.seen }
         ensures numbered { K.keeps pass.new.seen }
     {
-        let words = self.cell.load_as::<Glancing<K>, R>(rt, &mut pass.seat);
+        let words = look(&self.cell, rt, &mut pass.seat);
         pass.last = Glance {
             commits: words[0],
             file: words[1],
@@ -54,7 +54,7 @@ impl<K: GaugeKind> Watch<K> {
         ensures stays { pass.new ≡ pass.old }
         ensures other { result ≡ pass.old }
     {
-        let seat = self.cell.split_pass::<Splitting>(&mut pass.seat);
+        let seat = halve(&self.cell, &mut pass.seat);
         Pass {
             seat,
             last: pass.last,
