@@ -9,7 +9,7 @@ use std::alloc::{AllocError, Global};
 
 /// What an advance gave: of the packets of a file from one place up to another, those of its index not counted, the entries that
 /// were wanted, in the order of a replay.
-#[derive(Debug, Drop)]
+#[derive(Drop)]
 pub struct Instalment {
     pub from: usize,
     pub to: usize,
@@ -17,7 +17,7 @@ pub struct Instalment {
 }
 
 /// What was read of a file, of some channels, or all where there are none, and a range of counts.
-#[derive(Debug, Drop)]
+#[derive(Drop)]
 pub struct Transcript {
     /// The file's number.
     pub file: usize,

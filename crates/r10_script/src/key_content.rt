@@ -37,7 +37,12 @@ fn type_of(value: &Value) -> &'static str {
 /// The first characters of a word.
 pub fn cut(alloc: Global, word: &str) -> Result<String, AllocError> {
     let mut said = String::new(alloc);
-    for character in word.chars().take(MOST) {
+    let mut room = MOST;
+    for character in word.chars() {
+        if room == 0 {
+            break;
+        }
+        room -= 1;
         said.push(character)?;
     }
     Ok(said)

@@ -16,7 +16,7 @@ use r10_text::{Place, ScriptFault, Spot, Wrong};
 use std::alloc::{AllocError, Global};
 
 /// What a script asks for: a recorder of these settings, and these events in turn.
-#[derive(Debug, Drop)]
+#[derive(Drop)]
 pub struct Script {
     pub settings: Settings,
     pub events: Vec<Event>,
@@ -82,9 +82,13 @@ pub fn toml_fault(alloc: Global, text: &[u8], error: &toml::de::Error) -> Script
     let Some(span) = error.span() else {
         return ScriptFault::OutOfMemory(AllocError);
     };
-    let before = text.iter().take(span.start);
-    let line = before.filter(|byte| **byte == b'\n').count();
-    let line = Some(line.saturating_add(1));
+    let mut line: usize = 1;
+    for byte in &text[..span.start.min(text.len())] {
+        if *byte == b'\n' {
+            line = line.saturating_add(1);
+        }
+    }
+    let line = Some(line);
     let place = Place::Text;
     match String::from_str(alloc, error.message()) {
         Ok(message) => ScriptFault::Wrong {

@@ -30,7 +30,7 @@ const OTHER_CHANNEL: &str = "the ID of a channel that no other feed has";
 const COUNT: &str = "a whole number from 0 to 281474976710655";
 
 /// An item of a feed.
-#[derive(Debug, Drop)]
+#[derive(Drop)]
 pub enum FeedItem {
     /// A message to be offered, with its count.
     Message(Timed),
@@ -39,7 +39,7 @@ pub enum FeedItem {
 }
 
 /// What is offered to a channel, or lost on it, in turn.
-#[derive(Debug, Drop)]
+#[derive(Drop)]
 pub struct FeedTable {
     pub channel: u16,
     pub items: Items<FeedItem>,
@@ -47,7 +47,7 @@ pub struct FeedTable {
 
 /// What a reader replays: of a file the entries on these channels, all where none is named, whose counts are in this range, both
 /// ends with it.
-#[derive(Debug, Drop)]
+#[derive(Drop)]
 pub struct ReaderTable {
     pub file: usize,
     pub channels: Items<u16>,
@@ -57,7 +57,7 @@ pub struct ReaderTable {
 
 /// What a session script asks for: a recorder of these settings; these steps in turn; and then these feeds, orders and readers at
 /// the same time. Steps and orders are mount, dismount, tick, start, stop, event, commit, seal or erase.
-#[derive(Debug, Drop)]
+#[derive(Drop)]
 pub struct SessionScript {
     pub settings: Settings,
     pub steps: Vec<Event>,

@@ -6,7 +6,7 @@ use r10_medium::Memory;
 
 /// What became of the messages of a feed: how many were accepted and refused, and of the accepted ones how many erases took, the
 /// recorder's own files have, and the recorder did not take in.
-#[derive(Debug, Drop)]
+#[derive(Drop)]
 pub struct FeedEnd {
     pub channel: u16,
     pub accepted: u64,
@@ -17,14 +17,14 @@ pub struct FeedEnd {
 }
 
 /// What came of a reader: its cursor was refused, or it read so many entries.
-#[derive(Debug, Drop)]
+#[derive(Drop)]
 pub enum ReaderEnd {
     Refused(Refusal),
     Read(usize),
 }
 
 /// What came of a session: the reply to each step, the end of each feed and of each reader, and what an audit answers.
-#[derive(Debug, Drop)]
+#[derive(Drop)]
 pub struct Ended {
     pub replies: Vec<Reply>,
     pub feeds: Vec<FeedEnd>,

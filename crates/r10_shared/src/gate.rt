@@ -13,7 +13,7 @@ pub trait Gate {
 }
 
 /// A gate that lets everybody pass at once.
-#[derive(Clone, Copy, Debug)]
+#[derive(Clone, Copy)]
 pub struct Open;
 
 impl Gate for Open {

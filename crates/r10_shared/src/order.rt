@@ -13,7 +13,7 @@ use r10_medium::BlockMedium;
 use std::sync::Wait;
 
 /// An order to the recorder, as one of its calls with what the call is given.
-#[derive(Debug, Drop)]
+#[derive(Drop)]
 pub enum Order {
     Mount,
     Dismount,

@@ -13,7 +13,7 @@ use std::alloc::Global;
 
 /// What became of the messages of a feed, each number up to `u64::MAX`. Of a session whose recorder failed, `erased` and `filed`
 /// are what the recorder had counted: what the failed call took is in neither, and what was not committed may be in no file.
-#[derive(Debug, Drop)]
+#[derive(Drop)]
 pub struct FeedReport {
     pub channel: u16,
     /// The messages that were sent: the erased ones, then the filed ones, then the rest.

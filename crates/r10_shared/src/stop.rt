@@ -16,7 +16,7 @@ pub trait Stop {
 }
 
 /// A stop that is never asked.
-#[derive(Clone, Copy, Debug)]
+#[derive(Clone, Copy)]
 pub struct Never;
 
 impl Stop for Never {

@@ -8,7 +8,7 @@ use r10_body::{Message, Timed};
 use r10_count::Count;
 
 /// What a source has to give, one after the other.
-#[derive(Debug, Drop)]
+#[derive(Drop)]
 pub enum SourceItem {
     /// A message, with its count.
     Message(Timed),
