@@ -1,6 +1,6 @@
 //! What is measured, and how it is printed.
 
-ghost use Rattle.std.specs.Prelude.{◌≡◌, ◌+◌, ◌*◌, ◌/◌, max, min};
+ghost use Rattle.std.specs.Prelude.{◌≡◌, ◌+◌, min};
 
 use crate::fault::BenchFault;
 use r10_builder::Closed;
@@ -30,11 +30,9 @@ impl Packets {
     }
 }
 
-/// How many of these there are in a second, where there are so many in so many nanoseconds.
-pub(crate) fn a_second(amount: u64, nanos: u64) -> u128
-    ensures { result ≡ amount * 1_000_000_000 / max 1 nanos }
-{
-    u128::from(amount) * 1_000_000_000 / u128::from(nanos).max(1)
+/// How many of these there are in a second, where there are so many, fewer than 2^34, in so many nanoseconds.
+pub(crate) fn a_second(amount: u64, nanos: u64) -> u64 {
+    amount.saturating_mul(1_000_000_000) / nanos.max(1)
 }
 
 /// The nanoseconds from the last reading to this one, and the greatest number where one of both failed. The last one is then this.

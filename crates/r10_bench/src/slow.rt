@@ -7,7 +7,7 @@ ghost use Rattle.r10_held.specs.Naming.{AreNamed};
 
 use crate::apparatus::{Apparatus, medium_for, new_recorder};
 use crate::fault::BenchFault;
-use crate::figures::passed;
+use crate::figures::{passed, show};
 use crate::session::{begin, player_of};
 use r10_body::{Message, Refusal};
 use r10_count::{Bytes, Count};
@@ -86,19 +86,20 @@ impl Times {
     }
 }
 
-/// Prints how long the calls of each kind took.
-fn show_times<R: Print>(rt: &R, kinds: &[(&'static str, Times)]) -> Result<(), BenchFault> {
-    for (name, times) in kinds {
-        let Times {
-            calls,
-            all,
-            longest,
-        } = *times;
-        if longest == u64::MAX {
+/// Prints how long the calls of each kind took, in the mean and at most, under two names.
+fn show_times<R: Print>(
+    rt: &R,
+    kinds: &[(&'static str, &'static str, Times)],
+) -> Result<(), BenchFault> {
+    for (mean, longest, times) in kinds {
+        if times.longest == u64::MAX {
             return Err(BenchFault::Clock);
         }
-        let mean = all / calls.max(1);
-        println!(rt; "{name}: {calls} calls, {mean} ns in the mean, {longest} ns at most")?;
+        let figures = [
+            (*mean, times.all / times.calls.max(1), "ns", 0),
+            (*longest, times.longest, "ns", 0),
+        ];
+        show(rt, true, &figures)?;
     }
     Ok(())
 }
@@ -206,10 +207,10 @@ fn wait_on<
     );
     let [offers, glances, advances] = waits?;
     let kinds = [
-        ("pump and commit", commits?),
-        ("offer", offers),
-        ("glance", glances),
-        ("advance", advances),
+        ("commit-mean", "commit-longest", commits?),
+        ("offer-mean", "offer-longest", offers),
+        ("glance-mean", "glance-longest", glances),
+        ("advance-mean", "advance-longest", advances),
     ];
     show_times(rt, &kinds)
 }
