@@ -1,5 +1,6 @@
-/* Refuses each allocation of each call in turn. With room for the operations of a call, one that lacks memory answers R10_NO_MEMORY
- * with nothing changed, also where operations of earlier calls wait: R10_MEDIUM is left to a disk that failed. */
+/* Refuses each allocation of each call in turn, of readers too, and does the call again. With room for the operations of a call, one
+ * that lacks memory answers R10_NO_MEMORY with nothing changed, also where operations of earlier calls wait: R10_MEDIUM is left to a
+ * disk that failed. What a reader is given in the end is what was recorded. */
 #include <inttypes.h>
 #include <stdio.h>
 #include <stdlib.h>
@@ -7,7 +8,7 @@
 
 #include "r10.h"
 
-enum { BLOCKS = 512, ROOM = 40, ROUNDS = 60 };
+enum { BLOCKS = 512, ROOM = 40, ROUNDS = 60, FILES = 5 };
 
 static const char script[] = "blocks = 512\n"
                              "directory = 2\n"
@@ -40,17 +41,21 @@ static uint64_t count = 1000;
 static unsigned long mediums, changes, wrongs;
 static size_t moved, taken, left;
 static size_t room = ROOM;
+static size_t reader, queued, found;
+static uint64_t first;
+static bool there;
 
 typedef uint32_t call(void);
 
 static uint32_t mount(void) { return r10_mount(&recorder); }
 
-static uint32_t tick(void) {
-    const r10_civil civil = {2024, 2, 29, 12, 34, 56, 78};
-    return r10_tick(&recorder, count, &civil);
-}
+static const r10_civil civil = {2024, 2, 29, 12, 34, 56, 78};
 
-static uint32_t start(void) { return r10_start(&recorder, "FLT1", 4, "ABCD", 4); }
+static uint32_t tick(void) { return r10_tick(&recorder, count, &civil); }
+
+static char name[] = "FLT1";
+
+static uint32_t start(void) { return r10_start(&recorder, name, 4, "ABCD", 4); }
 
 static uint32_t offer(void) {
     static const uint8_t bytes[1000];
@@ -70,6 +75,25 @@ static uint32_t seal(void) { return r10_seal(&recorder); }
 static uint32_t erase(void) { return r10_erase(&recorder); }
 
 static uint32_t dismount(void) { return r10_dismount(&recorder); }
+
+static uint32_t files(void) { return r10_files(&recorder, &found); }
+
+static uint32_t cursor(void) { return r10_cursor(&recorder, 0, NULL, 0, 0, 281474976710655, &reader); }
+
+static uint32_t advance(void) { return r10_advance(&recorder, reader, &queued); }
+
+static uint32_t close_cursor(void) { return r10_close_cursor(&recorder, reader); }
+
+static uint32_t find(void) {
+    static uint8_t bytes[65535];
+    static uint16_t words[36];
+    r10_entry entry;
+    uint32_t answer = r10_find(&recorder, 0, 3, 0, &there, &found, &entry, bytes, sizeof bytes, words, 36);
+    first = entry.count;
+    return answer;
+}
+
+static uint32_t count_at(void) { return r10_count_at(&recorder, 0, &civil, &there, &first); }
 
 static uint32_t status(r10_status_info *info) {
     memset(info, 0, sizeof *info);
@@ -110,6 +134,14 @@ static void each(const char *what, call *it, uint32_t wanted) {
     }
 }
 
+/* What a call found has to be this. */
+static void want(const char *what, uint64_t is, uint64_t wanted) {
+    if (is != wanted) {
+        printf("%s: %" PRIu64 ", and not %" PRIu64 "\n", what, is, wanted);
+        wrongs++;
+    }
+}
+
 static void settle(void) {
     uint8_t bytes[512 * 16];
     r10_run_info run;
@@ -117,8 +149,53 @@ static void settle(void) {
         ;
 }
 
+/* Reads the open file, of which so many messages are shown, the first of them at a count. */
+static void read_back(unsigned messages, uint64_t from) {
+    unsigned long got = 0;
+    each("cursor", cursor, R10_OK);
+    each("advance", advance, R10_OK);
+    for (r10_entry entry; r10_take(&recorder, reader, &there, &entry) == R10_OK && there;)
+        got += entry.kind == R10_MESSAGE;
+    want("messages that were read", got, messages);
+    each("close a cursor", close_cursor, R10_OK);
+    each("find", find, R10_OK);
+    want("the first message", there ? first : 0, from);
+    each("count at", count_at, R10_OK);
+    want("a time is found", there, true);
+    each("files", files, R10_OK);
+    want("files", found, 1);
+}
+
+/* A file is left open as by a loss of power, and sealed by a new recorder; then the directory grows over a block. */
+static void power_loss(void) {
+    each("start", start, R10_OK);
+    count += 1000;
+    each("offer", offer, R10_OK);
+    each("pump", pump, R10_OK);
+    each("commit", commit, R10_OK);
+    r10_close(&recorder);
+    if (r10_open((r10_region){memory, BLOCKS}, room, script, strlen(script), &recorder) != R10_OK)
+        exit(1);
+    each("mount", mount, R10_OK);
+    each("seal", seal, R10_OK);
+    each("erase", erase, R10_OK);
+    each("tick", tick, R10_OK);
+    for (int n = 0; n < FILES; n++) {
+        name[3] = (char)('1' + n);
+        each("start", start, R10_OK);
+        each("stop", stop, R10_OK);
+    }
+    name[3] = '1';
+    each("dismount", dismount, R10_OK);
+    each("mount", mount, R10_OK);
+    each("files", files, R10_OK);
+    want("files", found, FILES);
+    each("erase", erase, R10_OK);
+}
+
 /* A recording whose operations are handed out after so many rounds, or never. */
 static void flight(unsigned rounds) {
+    const uint64_t from = count + 1000;
     each("mount", mount, R10_OK);
     each("tick", tick, R10_OK);
     each("start", start, R10_OK);
@@ -130,6 +207,7 @@ static void flight(unsigned rounds) {
             each("tick", tick, R10_OK);
             each("event", event, R10_OK);
             each("commit", commit, R10_OK);
+            read_back(n + 1, from);
         }
         if (rounds > 0 && n % rounds == 0)
             settle();
@@ -137,6 +215,7 @@ static void flight(unsigned rounds) {
     each("stop", stop, R10_OK);
     each("seal", seal, R10_NO_FILE);
     each("erase", erase, R10_OK);
+    power_loss();
     each("dismount", dismount, R10_OK);
 }
 

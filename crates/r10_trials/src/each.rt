@@ -152,8 +152,14 @@ fn failed_at(replies: &[Reply]) -> Option<usize> {
 
 /// The number of the first block that differs.
 pub fn changed_block(old: &[u8], new: &[u8]) -> Option<usize> {
-    let place = old.iter().zip(new).position(|(a, b)| *a != *b)?;
-    Some(place / 512)
+    for (place, byte) in old.iter().enumerate() {
+        if let Some(other) = new.get(place) {
+            if *other != *byte {
+                return Some(place / 512);
+            }
+        }
+    }
+    None
 }
 
 /// Counts a run with other replies than those of the step in this place that met a failure.

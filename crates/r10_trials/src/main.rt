@@ -1,10 +1,9 @@
 //! Trials of what no contract can say: a recorder is stopped after each call of its medium and has each call fail, in the runs
-//! whose scripts stand in standard input one after the other; what memory was refused to is done again; and after them stand
-//! sessions between threads, which are run and ended, whichever of their allocations was refused. It prints how often a new
-//! recorder finds the files from before the step that was met, how often those after it, and whether all came as it is to.
+//! whose scripts stand in standard input one after the other. After them stand sessions between threads, which are run and ended,
+//! whichever of their allocations was refused. It prints how often a new recorder finds the files from before the step that was
+//! met, how often those after it, and whether all came as it is to.
 #![tactic(auto)]
 
-mod again;
 mod apparatus;
 mod course;
 mod each;

@@ -2,7 +2,7 @@
 
 use r10_machine::{Event, Reply, Settings};
 use r10_medium::{BlockMedium, Choice, Crashing, Memory};
-use r10_world::{World, format_and_record, record_all};
+use r10_world::{format_and_record, record_all};
 use std::alloc::{AllocError, Global};
 
 /// The same settings once more.
@@ -27,22 +27,6 @@ pub fn medium_of(alloc: Global, image: &[u8]) -> Result<Memory, AllocError> {
         return Err(AllocError);
     }
     Memory::of_image(alloc, image)
-}
-
-/// A recorder of these settings and its readers, over this medium.
-pub fn world_over(
-    alloc: Global,
-    settings: &Settings,
-    medium: Memory,
-) -> Result<World<Memory>, AllocError> {
-    let settings = copy_of(alloc, settings)?;
-    if medium.blocks() != settings.blocks() {
-        return Err(AllocError);
-    }
-    match World::new(alloc, settings, medium) {
-        Ok(world) => Ok(world),
-        Err(_) => Err(AllocError),
-    }
 }
 
 /// Tells events to a new recorder over this medium, adds what it answers, and gives the medium after them.

@@ -7,7 +7,7 @@ use crate::notes::Notes;
 use crate::plan::Plan;
 use crate::session::{EndedSession, gauged_of, run_over};
 use crate::settled::{audit_and_close, settle};
-use crate::title::last_number;
+use crate::title::number_of;
 use std::alloc::{AllocError, Global};
 use std::marker::Brand;
 use std::sync::Wait;
@@ -21,8 +21,8 @@ const FEWEST: u64 = 9;
 
 /// What a line asks for: `NAME ASKS`.
 fn task_of(line: &str) -> Option<(Plan, u32)> {
-    let (name, asks) = last_number(line)?;
-    Some((Plan::of(name)?, asks))
+    let (name, asks) = line.split_once(' ')?;
+    Some((Plan::of(name)?, number_of(asks)?))
 }
 
 /// Runs a session over a formatted medium of which the call of this number, from 1, fails, or none, where it is 0. It ends the

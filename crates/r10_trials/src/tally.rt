@@ -66,14 +66,16 @@ pub fn join(whole: &mut Counts, row: &Counts) {
 pub fn push_row(alloc: Global, word: &str, row: &Counts, text: &mut String) {
     let _ = text.push_str(word);
     let _ = text.push_str(": ");
-    for (number, behind) in row.iter().zip(&LABELS) {
-        push_number(alloc, *number, behind, text);
+    for (kind, number) in row.iter().enumerate() {
+        if let Some(after) = LABELS.get(kind) {
+            push_number(alloc, *number, after, text);
+        }
     }
 }
 
 /// Adds a number, and what stands after it; neither where memory is refused.
-pub fn push_number(alloc: Global, number: u64, behind: &str, text: &mut String) {
-    if let Ok(part) = format!(in alloc; "{number}{behind}") {
+pub fn push_number(alloc: Global, number: u64, after: &str, text: &mut String) {
+    if let Ok(part) = format!(in alloc; "{number}{after}") {
         let _ = text.push_str(part.as_str());
     }
 }

@@ -5,7 +5,7 @@
 pub struct Task<'a> {
     /// The word for what is tried.
     pub act: &'a str,
-    /// The calls, the asks for memory or the byte.
+    /// The calls, or the byte.
     pub number: u32,
     /// The place of a byte, and else 0.
     pub place: usize,
@@ -15,23 +15,27 @@ pub struct Task<'a> {
 
 /// What a title asks for: `NAME WORD NUMBER STEPS`, or `NAME spoils PLACE BYTE STEPS`.
 pub fn task_of(title: &str) -> Option<Task<'_>> {
-    let (words, first) = last_number(title)?;
-    let (words, number) = last_number(words)?;
-    let (words, place) = match last_number(words) {
-        Some((front, place)) => (front, place),
-        None => (words, 0),
-    };
-    let (_, act) = words.split_once(' ')?;
-    Some(Task {
-        act,
-        number,
-        place: place as usize,
-        first: first as usize,
-    })
+    let (_, words) = title.split_once(' ')?;
+    let (act, words) = words.split_once(' ')?;
+    let (first, words) = words.split_once(' ')?;
+    let first = number_of(first)?;
+    match words.split_once(' ') {
+        Some((byte, steps)) => Some(Task {
+            act,
+            number: number_of(byte)?,
+            place: first as usize,
+            first: number_of(steps)? as usize,
+        }),
+        None => Some(Task {
+            act,
+            number: first,
+            place: 0,
+            first: number_of(words)? as usize,
+        }),
+    }
 }
 
-/// The number that stands last, and the words before it.
-pub fn last_number(words: &str) -> Option<(&str, u32)> {
-    let (front, last) = words.rsplit_once(' ')?;
-    Some((front, last.parse().ok()?))
+/// The number that a word spells.
+pub fn number_of(word: &str) -> Option<u32> {
+    word.parse().ok()
 }

@@ -1,6 +1,5 @@
 //! Trials in order.
 
-use crate::again::{judge_again, run_on, tell_again};
 use crate::course::Course;
 use crate::each::try_each;
 use crate::fault::TrialFault;
@@ -113,9 +112,6 @@ fn try_task(
         "fails" => fail_at(alloc, course, number, text),
         "stops" => stop_after(alloc, course, number, text),
         "spoils" => spoil_byte(alloc, course, task.place, (number % 256) as u8, text),
-        "again" => tell_again(alloc, course, task.number, text),
-        "runs" => run_on(alloc, course, task.number, text),
-        "judges" => judge_again(alloc, course, task.number, text),
         _ => {
             let _ = text.push_str("no such trial\n");
             Ok(())
