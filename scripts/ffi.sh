@@ -303,12 +303,18 @@ installed() {
     fi
     "$top/scripts/flight.sh" check "$program" || return 1
     R10_BUILDS=$room/builds "$top/scripts/quick_build.py" --proved "$program" || return 1
-    R10_BUILDS=$room/builds "$top/scripts/tests/install.sh" >"$room/install.out" 2>&1 || {
-        grep -v '^ok: ' "$room/install.out" >&2
+    over_builds install "installation and package of what was proved" &&
+        over_builds program "readers and writers that fail, a long script, and a large medium"
+}
+
+# Runs a test of the folder over the builds that were proved, and says how many checks there were.
+over_builds() {
+    R10_BUILDS=$room/builds "$top/scripts/tests/$1.sh" >"$room/$1.out" 2>&1 || {
+        grep -v '^ok: ' "$room/$1.out" >&2
         return 1
     }
-    grep '^NOT TRIED' "$room/install.out"
-    echo "ffi: installation and package of what was proved: $(grep -c '^ok: ' "$room/install.out") checks pass"
+    grep '^NOT TRIED' "$room/$1.out"
+    echo "ffi: $2: $(grep -c '^ok: ' "$room/$1.out") checks pass"
 }
 
 # Hands on what `rt ci` prints. When it has proved the library's crate, and there is memory beside its provers, the library is made

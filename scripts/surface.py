@@ -6,7 +6,8 @@
 
 So no name, argument or answer that another crate can use changes unseen. A line is the item as the source has it, without what
 contracts say of it: of a struct its public fields, of an enum its variants, of a trait its functions. What can be derived of a type
-stands after it. scripts/conditions.py says which functions are public. Crates of tests and programs have no surface.
+stands after it. Of a type of faults, which `thiserror` prints, each text has a line. scripts/conditions.py says which functions are
+public. Crates of tests and programs have no surface.
 """
 from __future__ import annotations
 
@@ -24,6 +25,9 @@ PAGE = TOP / 'docs' / 'surface.txt'
 HEAD = '# What each crate shows to others. Made by scripts/surface.py, which also compares it with the sources.\n'
 ITEM = re.compile(r'^pub (?P<kind>struct|enum|type|const|trait|union) (?P<name>\w+)', re.M)
 DERIVED = re.compile(r'#\[derive\(([^)]*)\)\]\n(?:#\[[^\n]*\]\n|///[^\n]*\n|//[^\n]*\n)*$')
+# The text of a fault, before a variant or a type.
+TEXT = re.compile(r'#\[error\(\s*(?P<text>"(?:[^"\\]|\\.)*"|transparent)[^\]]*\)\]\n'
+                  r'(?:\s*(?:#\[[^\n]*\]|//[^\n]*)\n)*\s*(?P<name>\w+)')
 END = re.compile(r'\n\s*(?:requires|ensures|ghost|where)\b|{|;(?=\s*\n)')
 REMARK = re.compile(r'^\s*//.*$|\s//.*$|^\s*#\[.*\]$', re.M)
 
@@ -69,6 +73,12 @@ def fields(text: str, kind: str, start: int, end: int) -> str:
     return '%s %s %s' % (text[start], ', '.join(shown + ['..'] * hidden), text[end - 1])
 
 
+def texts(text: str, name: str, start: int, end: int) -> Iterator[str]:
+    """The texts of a type of faults between these places: its own, which stands before `pub`, or those of its variants."""
+    for found in TEXT.finditer(text, start, end):
+        yield 'text %s %s' % (name if found['name'] == 'pub' else name + '::' + found['name'], found['text'])
+
+
 def items(text: str, names: set[str], is_out: bool) -> Iterator[str]:
     """Each public type and constant of a file."""
     for found in ITEM.finditer(text):
@@ -84,6 +94,9 @@ def items(text: str, names: set[str], is_out: bool) -> Iterator[str]:
         elif stop and kind == 'type' and stop.group() == '=':
             line += ' ' + on_a_line(text[stop.start():text.index(';', stop.start())])
         yield line + after
+        if derived and 'Error' in after:
+            has_parts = stop and stop.group() in '{('
+            yield from texts(text, name, derived.start(), closed(text, stop.start()) if has_parts else found.end())
 
 
 def functions(text: str, names: set[str], is_out: bool) -> Iterator[str]:

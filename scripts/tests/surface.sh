@@ -12,7 +12,7 @@ anew() {
     cat >"$src/lib.rt" <<'RT'
 mod lane;
 mod hidden;
-pub use lane::{Lane, LaneFault, LaneOut, WIDTH, open_lane};
+pub use lane::{Lane, LaneFault, LaneOut, NoLane, WIDTH, open_lane};
 RT
     cat >"$src/lane.rt" <<'RT'
 /// How wide it is.
@@ -27,11 +27,26 @@ pub struct Lane {
     ghost invariant = { λ lane. lane.id < 9 };
 }
 
-#[derive(Debug)]
+#[derive(Debug, Error)]
 pub enum LaneFault {
+    /// No room.
+    #[error("the lane is full")]
     Full,
+    #[error("lane {0} is \"closed\"")]
+    #[repr(C)]
     Closed(u16),
 }
+
+/// No lane.
+#[derive(Error)]
+#[error("there is no lane {number}")]
+pub struct NoLane {
+    pub number: u16,
+}
+
+#[derive(Error)]
+#[error("nobody sees this")]
+struct Unseen;
 
 pub trait LaneOut {
     fn take(&mut self) -> Option<u8>;
@@ -77,11 +92,15 @@ anew
 check "the page" diff - <(tail -n +3 "$page") <<'PAGE'
 [r10_low]
 const WIDTH: usize
-enum LaneFault { Full, Closed(u16) }; Debug
+enum LaneFault { Full, Closed(u16) }; Debug, Error
 fn Lane::stamp(&self) -> [u8; 8]
 fn LaneOut::take(&mut self) -> Option<u8>
 fn open_lane<F: Fn(u16) -> bool>(id: u16, test: F) -> Result<Lane, LaneFault>
 struct Lane { id: u16, .. }; Clone, Drop
+struct NoLane { number: u16 }; Error
+text LaneFault::Closed "lane {0} is \"closed\""
+text LaneFault::Full "the lane is full"
+text NoLane "there is no lane {number}"
 trait LaneOut
 
 [r10_high]
@@ -97,7 +116,13 @@ check "another argument" says 1 'surface: -fn open_lane<F: Fn(u16) -> bool>(id: 
 surface: +fn open_lane<F: Fn(u16) -> bool>(id: u32, test: F) -> Result<Lane, LaneFault>'
 anew
 sed -i 's/    Closed(u16),/    Closed(u16),\n    Gone,/' "$src/lane.rt"
-check "another variant" says 1 'surface: +enum LaneFault { Full, Closed(u16), Gone }; Debug'
+check "another variant" says 1 'surface: +enum LaneFault { Full, Closed(u16), Gone }; Debug, Error'
+anew
+sed -i 's/is full/has no room/' "$src/lane.rt"
+check "another text of a fault" says 1 'surface: +text LaneFault::Full "the lane has no room"'
+anew
+sed -i 's/no lane {number}/lane/' "$src/lane.rt"
+check "another text of a fault that is a struct" says 1 'surface: -text NoLane "there is no lane {number}"'
 anew
 sed -i 's/derive(Clone, Drop)/derive(Drop)/' "$src/lane.rt"
 check "a type that is no longer copied" says 1 'surface: +struct Lane { id: u16, .. }; Drop'

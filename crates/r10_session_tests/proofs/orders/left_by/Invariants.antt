@@ -1,6 +1,0 @@
-use Rattle.std.proofs.Common.{[], ◌∷◌}
-use Rattle.r10_session_tests.proofs.orders.left_by.Given as goal
-
--- the rings are named for the channels of their ports, and the gauge is the recorder's
-abbrev pub ghosts-run_orders : goal.ghosts-run_orders
-ghosts-run_orders g a = record { rings = record { channel = 5; ring = a.made.five.ring } ∷ record { channel = 6; ring = a.made.six.ring } ∷ []; gauge = a.made.gauged.cell }
