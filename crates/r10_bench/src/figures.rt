@@ -1,6 +1,6 @@
 //! What is measured, and how it is printed.
 
-ghost use Rattle.std.specs.Prelude.{◌≡◌, ◌+◌, min};
+ghost use Rattle.std.specs.Prelude.{◌≡◌, ◌+◌, ◌*◌, ◌/◌, max, min};
 
 use crate::fault::BenchFault;
 use r10_builder::Closed;
@@ -31,7 +31,9 @@ impl Packets {
 }
 
 /// How many of these there are in a second, where there are so many, fewer than 2^34, in so many nanoseconds.
-pub(crate) fn a_second(amount: u64, nanos: u64) -> u64 {
+pub(crate) fn a_second(amount: u64, nanos: u64) -> u64
+    ensures { result ≡ min (amount * 1_000_000_000) u64.MAX / max 1 nanos }
+{
     amount.saturating_mul(1_000_000_000) / nanos.max(1)
 }
 
