@@ -1,11 +1,13 @@
-//! Calls for bodies that no program makes: `r10_uart`, `r10_b1553`, `r10_a429`, `r10_discrete`, `r10_message`, `r10_indexbody`.
+//! Calls for bodies that no program makes: `r10_uart`, `r10_b1553`, `r10_a429`, `r10_discrete`, `r10_message`, `r10_timebody`,
+//! `r10_indexbody`.
 
 use r10_a429::{ArincBody, ArincEntry};
 use r10_b1553::{BusBody, BusEntry};
-use r10_count::{Count, Reading};
+use r10_count::{Civil, Count, Parts, Reading};
 use r10_discrete::{DiscreteBody, DiscreteEntry};
-use r10_indexbody::{NodeBody, NodeEntry, RootBody, RootEntry};
+use r10_indexbody::{LossBody, NodeBody, NodeEntry, RootBody, RootEntry};
 use r10_message::{MessageBody, MessageEntry};
+use r10_timebody::TimeBody;
 use r10_uart::{UartBody, UartEntry};
 use std::alloc::{AllocError, Global};
 use std::test::Fail;
@@ -33,6 +35,14 @@ const DISCRETE: [u8; 16] = [0x40, 0, 0, 0, 0xB8, 0x0B, 0, 0, 0, 0, 0, 0, 0x81, 0
 /// ABC at 1000, of subchannel 1.
 const MESSAGE: [u8; 20] = [
     1, 0, 0, 0, 0xE8, 3, 0, 0, 0, 0, 0, 0, 3, 0, 1, 0, 0x41, 0x42, 0x43, 0,
+];
+
+/// 2024-02-29 12:34:56.78.
+const TIME: [u8; 12] = [1, 3, 0, 0, 0x78, 0x56, 0x34, 0x12, 0x29, 2, 0x24, 0x20];
+
+/// One message of channel 5 was lost.
+const LOSS: [u8; 20] = [
+    0, 0, 0, 0, 0x4C, 0x4F, 0x53, 0x53, 5, 0, 0, 0, 1, 0, 0, 0, 0, 0, 0, 0,
 ];
 
 /// The bytes that are written of what is read of a UART message, their size, and the message's count.
@@ -195,6 +205,43 @@ fn bodies_of_messages_are_read_and_written(rt: HostRuntime) -> Result<(), Fail> 
     ] {
         assert_eq!(rt; (out.as_slice(), size, said), (bytes, bytes.len(), count));
     }
+    Ok(())
+}
+
+#[test]
+fn a_time_is_written_and_read(rt: HostRuntime) -> Result<(), Fail> {
+    let civil = Civil::of(Parts {
+        year: 2024,
+        month: 2,
+        day: 29,
+        hour: 12,
+        minute: 34,
+        second: 56,
+        centi: 78,
+    });
+    let civil = civil.ok_or("no time")?;
+    let body = TimeBody { civil };
+    let mut out = Vec::new(rt.alloc());
+    body.encode_into(&mut out)?;
+    assert_eq!(rt;
+        (body.check(), body.size(), out.as_slice()),
+        (true, 12, TIME.as_slice())
+    );
+    assert!(rt; TimeBody::decode(&TIME) == Reading::Strict(civil));
+    Ok(())
+}
+
+#[test]
+fn a_loss_report_is_written_and_read(rt: HostRuntime) -> Result<(), Fail> {
+    let body = LossBody {
+        channel: 5,
+        reserved: 0,
+        lost: 1,
+    };
+    let mut out = Vec::new(rt.alloc());
+    body.encode_into(&mut out)?;
+    assert_eq!(rt; (body.size(), out.as_slice()), (20, LOSS.as_slice()));
+    assert!(rt; LossBody::decode(&LOSS) == Some(body));
     Ok(())
 }
 
