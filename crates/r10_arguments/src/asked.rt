@@ -19,7 +19,7 @@ use std::alloc::{AllocError, Global};
 use thiserror::Error;
 
 /// What the words of a call ask for.
-#[derive(Debug, Drop)]
+#[derive(Drop)]
 pub enum Asked {
     /// Run a script that is read from standard input.
     Sim,
@@ -38,7 +38,7 @@ pub enum Asked {
 }
 
 /// What a medium is to be formatted to. Whether it is within the limits is not asked here.
-#[derive(Debug, Drop)]
+#[derive(Drop)]
 pub struct FormatWords {
     /// The blocks of the medium.
     pub blocks: usize,

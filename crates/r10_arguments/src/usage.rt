@@ -504,7 +504,12 @@ fn printed_word(alloc: Global, word: &str) -> Result<String, AllocError> {
 
 fn front_of(alloc: Global, word: &str) -> Result<String, AllocError> {
     let mut front = String::new(alloc);
-    for character in word.chars().take(MOST) {
+    let mut room = MOST;
+    for character in word.chars() {
+        if room == 0 {
+            break;
+        }
+        room -= 1;
         front.push(character)?;
     }
     Ok(front)

@@ -31,7 +31,7 @@ fn split_bytes(bytes: &[u8], size: usize) -> Option<(&[u8], &[u8])>
 }
 
 /// An entry of bytes that stands first.
-#[derive(Clone, Copy, Debug)]
+#[derive(Clone, Copy)]
 pub struct TextEntry<'a> {
     pub count: Count,
     /// Flags and subchannel, and in the low half the number of its bytes.

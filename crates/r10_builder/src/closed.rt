@@ -21,7 +21,7 @@ pub enum Reason {
 }
 
 /// A packet that is complete but for its sequence number.
-#[derive(Debug, Drop)]
+#[derive(Drop)]
 pub struct Closed {
     /// The packet's header. Its sequence number is 0.
     pub header: Header,

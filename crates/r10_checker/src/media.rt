@@ -18,7 +18,7 @@ use r10_medium::BlockMedium;
 use std::alloc::Global;
 
 /// What is stated of a file of a medium.
-#[derive(Debug, Drop)]
+#[derive(Drop)]
 pub struct FileVerdict {
     /// The file's name, without the zero bytes and spaces after it.
     pub name: Vec<u8>,

@@ -4,7 +4,7 @@ use r10_count::{Civil, Count};
 use std::marker::Model;
 
 /// A count, and the civil time at it.
-#[derive(Clone, Copy, Debug)]
+#[derive(Clone, Copy)]
 pub(crate) struct ClockTick {
     pub(crate) count: Count,
     pub(crate) civil: Civil,

@@ -44,7 +44,7 @@ pub struct LaneStatus {
 }
 
 /// How a recorder is, whatever its lanes.
-#[derive(Debug, Drop)]
+#[derive(Drop)]
 pub struct RecorderStatus {
     pub mode: Mode,
     /// The count of the last tick.

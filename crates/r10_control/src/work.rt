@@ -9,7 +9,7 @@ use r10_machine::Mode;
 use r10_openfile::OpenFile;
 
 /// What a recorder does, with the directory that it has in use and the file that it records.
-#[derive(Debug, Drop)]
+#[derive(Drop)]
 pub(crate) enum Doing {
     Unmounted,
     Idle(Directory),

@@ -4,7 +4,7 @@ use r10_index::IndexBook;
 use r10_indexbody::NodeEntry;
 
 /// What the medium shows of the file that is written.
-#[derive(Clone, Copy, Debug)]
+#[derive(Clone, Copy)]
 pub struct Written<'a> {
     /// The file's number.
     pub file: usize,
@@ -17,7 +17,7 @@ pub struct Written<'a> {
 }
 
 /// Where a file's packets stand that the medium shows.
-#[derive(Clone, Copy, Debug)]
+#[derive(Clone, Copy)]
 pub(crate) struct Shown<'a> {
     /// The number of the file's first block.
     pub first: usize,

@@ -7,7 +7,7 @@ use crate::page::Page;
 use crate::{Entries, Entry};
 
 /// A block of the directory of a recording medium (IRIG 106-17, chapter 10).
-#[derive(Debug, Drop)]
+#[derive(Drop)]
 pub struct DirBlock {
     /// 0xFF: properly dismounted, 0x00: not. Only the first block's has a meaning.
     pub shutdown: u8,

@@ -6,7 +6,7 @@ use arrayvec::ArrayVec;
 use std::marker::Model;
 
 /// The entries of a directory block, at most four. They take no memory.
-#[derive(Debug, Drop)]
+#[derive(Drop)]
 pub struct Entries {
     items: ArrayVec<Entry, 4>,
 }

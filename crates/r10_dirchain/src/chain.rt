@@ -8,7 +8,7 @@ use std::alloc::{AllocError, Global};
 use std::marker::Model;
 
 /// A directory block and its number on the medium.
-#[derive(Debug, Drop)]
+#[derive(Drop)]
 pub struct ChainBlock {
     pub number: u64,
     pub block: DirBlock,
@@ -22,7 +22,7 @@ pub struct ListedFile {
 }
 
 /// The blocks of a directory, in order.
-#[derive(Debug, Drop)]
+#[derive(Drop)]
 pub struct Directory {
     pub(crate) chain: Vec<ChainBlock>,
 }

@@ -5,7 +5,7 @@ use crate::ChainBlock;
 use std::alloc::{AllocError, Global};
 
 /// The memory for a directory with one block more.
-#[derive(Debug, Drop)]
+#[derive(Drop)]
 pub struct Room {
     blocks: Vec<ChainBlock>,
     ghost empty: { blocks.items ≡ [] },

@@ -18,7 +18,7 @@ use r10_indexbody::NodeEntry;
 use r10_packet_rules::{Facts, PacketKind};
 use std::alloc::{AllocError, Global};
 
-#[derive(Debug, Drop)]
+#[derive(Drop)]
 pub(crate) struct IndexTracks {
     /// What nodes say of the packets that are no index packets.
     pub(crate) book: IndexBook,

@@ -98,7 +98,7 @@ fn is_own(bytes: &[u8], counter: u64, offset: u64) -> bool
 }
 
 /// Where the nodes of an index stand.
-#[derive(Clone, Copy, Debug)]
+#[derive(Clone, Copy)]
 pub(crate) struct NodesAt {
     /// The counter of each.
     pub(crate) counter: u64,

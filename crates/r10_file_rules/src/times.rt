@@ -21,7 +21,7 @@ pub struct TimeMark {
     pub civil: Civil,
 }
 
-#[derive(Clone, Copy, Debug)]
+#[derive(Clone, Copy)]
 pub(crate) struct TimeTracks {
     /// How many packets there are.
     pub(crate) packets: u64,

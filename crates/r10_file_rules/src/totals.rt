@@ -11,7 +11,7 @@ use r10_body::LOSS_COST;
 use r10_indexbody::LossBody;
 use r10_packet_rules::Facts;
 
-#[derive(Clone, Copy, Debug)]
+#[derive(Clone, Copy)]
 pub(crate) struct Totals {
     pub(crate) entries: u64,
     pub(crate) cost: u64,

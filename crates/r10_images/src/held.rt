@@ -6,7 +6,7 @@ use r10_medium::{BlockMedium, MediumFault};
 
 /// An image that was read, as a medium that can't be written: each write fails, and changes nothing of it. A read never fails.
 /// Bytes after the last whole block are no part of it.
-#[derive(Debug, Drop)]
+#[derive(Drop)]
 pub struct Image {
     bytes: Vec<u8>,
     failures: u64,

@@ -4,7 +4,7 @@ ghost use Rattle.std.specs.Prelude.{◌≡◌, ◌+◌, ◌^◌, ◌<◌};
 ghost use Rattle.r10_index.specs.Left.{first_place};
 
 /// Where the next packet of an index stands.
-#[derive(Clone, Copy, Debug)]
+#[derive(Clone, Copy)]
 pub struct IndexPlace {
     /// How many packets on channel 0 stand before its group.
     pub(crate) number: usize,

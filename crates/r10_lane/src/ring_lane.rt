@@ -16,7 +16,7 @@ use std::alloc::{AllocError, Global};
 use std::marker::Model;
 
 /// A lane of one thread, with room for as many samples as its channel's capacity.
-#[derive(Debug, Drop)]
+#[derive(Drop)]
 pub struct RingLane {
     spec: ChannelSpec,
     waiting: HeapCircularBuffer<Sample, Global>,

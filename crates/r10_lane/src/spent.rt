@@ -7,7 +7,7 @@ use r10_body::{ChannelSpec, Sample};
 use std::marker::Model;
 
 /// What stands in the place of a lane that was taken away: nobody sends to it, and it gives nothing.
-#[derive(Debug, Drop)]
+#[derive(Drop)]
 pub struct Spent {
     spec: ChannelSpec,
 }

@@ -13,7 +13,7 @@ pub enum DataSum {
 
 /// A packet that stands first in bytes. Where bit 7 of the header's flags tells a secondary
 /// header, the packet is only separated from the next: the body after that header is not looked at.
-#[derive(Clone, Copy, Debug)]
+#[derive(Clone, Copy)]
 pub struct PacketView<'a> {
     pub header: Header,
     /// As many bytes as the header's data length tells, right after the primary header. Of a

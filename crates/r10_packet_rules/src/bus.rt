@@ -8,7 +8,7 @@ ghost use Rattle.r10_count.specs.Count.{IsCount, stamp};
 use r10_count::{Count, split_u16};
 
 /// What stands in front of the words of a bus message, and after them.
-#[derive(Clone, Copy, Debug)]
+#[derive(Clone, Copy)]
 pub(crate) struct BusFront<'a> {
     pub(crate) count: Count,
     pub(crate) status: u16,

@@ -25,7 +25,7 @@ pub(crate) fn split_word(bytes: &[u8]) -> Option<(u32, u32, &[u8])>
 }
 
 /// A change of discretes, and what stands after it.
-#[derive(Clone, Copy, Debug)]
+#[derive(Clone, Copy)]
 pub(crate) struct Change<'a> {
     pub(crate) count: Count,
     pub(crate) states: u32,

@@ -9,7 +9,7 @@ ghost use Rattle.r10_packet.specs.Sums.{data_checksum};
 use r10_packet::{Check, sum8, sum16, sum32};
 
 /// Filler and data checksum, at most 3 bytes and at most 4, as they stand within eight.
-#[derive(Clone, Copy, Debug)]
+#[derive(Clone, Copy)]
 pub(crate) struct Ending {
     pub(crate) bytes: [u8; 8],
     pub(crate) start: usize,

@@ -18,7 +18,7 @@ use std::io;
 use std::io::{BufWriter, ErrorKind, Read, Write};
 
 /// Why a replay is not printed.
-#[derive(Debug, Drop)]
+#[derive(Drop)]
 enum PlayStop {
     /// The medium failed in a read.
     Medium,

@@ -14,7 +14,7 @@ pub struct Selection {
 }
 
 /// Why entries are refused.
-#[derive(Clone, Copy, Debug, PartialEq, Eq, Drop)]
+#[derive(Clone, Copy, PartialEq, Eq, Drop)]
 pub(crate) enum PlayRefusal {
     /// A count doesn't fit 48 bits.
     CountRange,
@@ -27,7 +27,7 @@ pub(crate) enum PlayRefusal {
 }
 
 /// Why there are no entries.
-#[derive(Clone, Copy, Debug, PartialEq, Eq, Drop)]
+#[derive(Clone, Copy, PartialEq, Eq, Drop)]
 pub(crate) enum PlayFault {
     /// The image refuses them.
     Refused(PlayRefusal),
