@@ -1,8 +1,8 @@
 #!/usr/bin/env python3
 """Makes the row of `r10 sim` that advances over a file of 257 messages, and compares the program with a scan of that file.
 
-    scripts/advance_cases.py cases          # what stands in crates/r10_rows/stdin as `== advanced-over-257-messages`
-    scripts/advance_cases.py answers        # the same of crates/r10_rows/stdout
+    scripts/advance_cases.py cases          # what stands in rows/cases as `== advanced-over-257-messages`
+    scripts/advance_cases.py answers        # the same of rows/answers
     scripts/advance_cases.py kept           # fails where one of these files has another in its place
     scripts/advance_cases.py run PROGRAM    # the same advances over each of the three channels too, and every entry is read: says
                                               what differs

@@ -1,8 +1,8 @@
 #!/usr/bin/env python3
 """Makes the rows of `r10 check`, and of what a file's first fault is under its directory entry.
 
-    scripts/check_cases.py cases          # what stands in crates/r10_rows/stdin from `== check-first` on
-    scripts/check_cases.py answers        # the same of crates/r10_rows/stdout
+    scripts/check_cases.py cases          # what stands in rows/cases from `== check-first` on
+    scripts/check_cases.py answers        # the same of rows/answers
     scripts/check_cases.py kept           # fails where one of these files has others in their place
     scripts/check_cases.py run PROGRAM    # runs PROGRAM check over each file of these rows, and says what does not answer as wanted
 
@@ -18,7 +18,7 @@ from collections.abc import Callable, Iterable
 
 from judge_recording import ARINC, EVENT, INDEX, LOSS, SETUP, TIME, UART, first_fault, verdict
 
-KEPT = pathlib.Path(__file__).resolve().parent.parent / 'crates' / 'r10_rows'
+KEPT = pathlib.Path(__file__).resolve().parent.parent / 'rows'
 CIVIL = bytes.fromhex('010300007856341229022420')
 FOREIGN = 0x68
 
@@ -453,7 +453,7 @@ def row_texts(text: str) -> dict[str, str]:
 
 
 def differing(made: str, kept: str) -> list[str]:
-    """How a file of crates/r10_rows differs from what is made for it: nothing where that stands in it, as a whole and once."""
+    """How a file of rows/ differs from what is made for it: nothing where that stands in it, as a whole and once."""
     if kept.count(made) == 1:
         return []
     ours, theirs = row_texts(made), row_texts(kept)
@@ -462,11 +462,11 @@ def differing(made: str, kept: str) -> list[str]:
 
 
 def compare_kept(rows: list[tuple], case_text: Callable[..., str], answer_text: Callable[..., str]) -> int:
-    """Says which rows stand otherwise in crates/r10_rows than they are made, and answers how many."""
+    """Says which rows stand otherwise in rows/ than they are made, and answers how many."""
     bad = 0
-    for file, text in (('stdin', case_text), ('stdout', answer_text)):
+    for file, text in (('cases', case_text), ('answers', answer_text)):
         for name in differing(''.join(text(*row) for row in rows), (KEPT / file).read_text(encoding='utf-8')):
-            print('crates/r10_rows/%s: %s' % (file, name))
+            print('rows/%s: %s' % (file, name))
             bad += 1
     print('%s: %d rows, %d not as made' % (pathlib.Path(sys.argv[0]).name, len(rows), bad))
     return bad
@@ -474,7 +474,7 @@ def compare_kept(rows: list[tuple], case_text: Callable[..., str], answer_text: 
 
 def print_rows(words: list[str], rows: Iterable[tuple], case_text: Callable[..., str], answer_text: Callable[..., str],
                usage: str) -> int:
-    """Prints the cases of rows, or their answers; or compares both with the files of crates/r10_rows."""
+    """Prints the cases of rows, or their answers; or compares both with the files of rows/."""
     if words not in (['cases'], ['answers'], ['kept']):
         sys.exit(usage)
     if words == ['kept']:

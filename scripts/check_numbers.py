@@ -58,7 +58,7 @@ ALLOWED = [
     (('r10_count/specs/Names.antt',), (0x30,), 'a digit'),
     (('r10_index/specs/Lists.antt',), (0x00,), 'an entry where there is none'),
 ]
-TRIALS = re.compile(r'_tests$|_bench$|^r10_trials$|^r10_rows$')
+TRIALS = re.compile(r'_tests$|_bench$|^r10_trials$')
 WORKED = re.compile(r'Vectors$|Cases$|^Losses$|^Recordings$|^Soundness$')
 COMMENT = {'.rt': re.compile(r'//[^\n]*|b?\'(?:[^\'\\]|\\.)\'|"(?:[^"\\]|\\.)*"', re.S),
            '.antt': re.compile(r'(?:^|(?<=\s))--[^\n]*', re.M)}

@@ -12,7 +12,7 @@
 #                                            of 1,000 beside `r10 sim`
 #     scripts/ffi.sh check             # runs both, ffi/calls.c, which calls each function, also as C++, ffi/flight.c, ffi/disk.c,
 #                                        ffi/commits.c, ffi/accounts.c, ffi/refused.c, ffi/media.c, ffi/parts.c, ffi/memory.c and
-#                                        ffi/ports.c, and compares what they print with ffi/*.expected
+#                                        ffi/ports.c, and compares what they print with ffi/*.expected; runs the rows
 #     scripts/ffi.sh kept              # prints where the library is: the proved one if it is there, else one that is not proved
 #     scripts/ffi.sh proved            # prints where the proved library is; status 1 if it is not there, or a source has changed
 #     scripts/ffi.sh behind-ci         # `rt ci`; after it `check` over its libraries, an installation of what was proved, the
@@ -184,6 +184,25 @@ beside_sim() {
     echo "ffi: $2 scripts of 1,000 random calls come to the same in r10 sim"
 }
 
+# The rows, through the program of R10_PROGRAM, or the proved one, as LLVM and as Rattle's own compiler built it. Files are judged
+# under a directory entry through the library.
+rows() {
+    local program=${R10_PROGRAM:-$top/crates/r10_cli/out/r10_cli} build
+    [ -x "$program" ] || {
+        echo "ffi: NOT TRIED: there is no program to run the rows through"
+        return 0
+    }
+    c_example first_fault.c "$room/first_fault"
+    for build in "$program" "$program.by-rattle"; do
+        [ -x "$build" ] || continue
+        "$top/scripts/run_rows.py" "$build" --first-fault "$room/first_fault" >"$room/rows" 2>&1 || {
+            cat "$room/rows" >&2
+            give_up "what ${build##*/} prints is not rows/answers"
+        }
+        echo "ffi: rows through ${build##*/}: $(tail -n 1 "$room/rows")"
+    done
+}
+
 random() {
     c_example random.c "$room/random"
     cc -std=c11 -g -O1 -fsanitize=address,undefined -fno-sanitize-recover=all -I"$top/ffi" -o "$room/random_asan" \
@@ -243,6 +262,7 @@ check() {
         c_example random.c "$room/random"
         "$room/random" 1 50000 >"$room/random.out" || give_up "random: status $?"
         beside_sim 1 5
+        rows
         echo "ffi: the programs in C print what they are to"
         install_for "$room/installed" "$room/installed"
         under_threads "$room/installed/lib"

@@ -1,24 +1,22 @@
 #!/usr/bin/env python3
 """Mangles recordings and images, and compares what r10 says of each with what the rules of docs/FORMAT.md say.
 
-    scripts/mangle.py run [PROGRAM] [--rows ROWS] [--seed SEED] [--count COUNT]   # says what differs, and how many came to what
-    scripts/mangle.py case PROGRAM NUMBER [--seed SEED]                           # writes the mangled bytes of one
-    scripts/mangle.py kept                                                    # judges the kept ones, the rows `mangled-..` of
-    crates/r10_rows
+    scripts/mangle.py run PROGRAM [--first-fault OTHER] [--seed SEED] [--count COUNT]
+                                            # says what differs, and how many came to what
+    scripts/mangle.py case PROGRAM NUMBER [--seed SEED]    # writes the mangled bytes of one
+    scripts/mangle.py kept                  # judges the kept ones, the rows `mangled-..` in rows/
 
-PROGRAM is the program, and ROWS that of crates/r10_rows, by which each recording is also judged under a closed and an unclosed
-entry, rules included; without PROGRAM each call is made through ROWS, of fifty mangled ones in one run of it. The seed is 1 and the
-count 10,000 where none is given. Half of the mangled are recordings, which `check` judges, and `play` on a medium with that file
-alone; half are images, for `files` and `play`. What is right is said by judge_recording.py and judge_image.py, which take nothing
-from the recorder. What is mangled are the recordings and images of check_cases.py and play_cases.py, and what the program records
-of the examples and of the scripts in crates/r10_rows.
+PROGRAM is the program, and OTHER ffi/first_fault.c, compiled over the library, by which each recording is also judged under a
+closed and an unclosed entry, rules included. The seed is 1 and the count 10,000 where none is given. Half of the mangled are
+recordings, which `check` judges, and `play` on a medium with that file alone; half are images, for `files` and `play`. What is
+right is said by judge_recording.py and judge_image.py, which take nothing from the recorder. What is mangled are the recordings
+and images of check_cases.py and play_cases.py, and what the program records of the examples and of the scripts in rows/.
 """
 import argparse
 import collections
 import concurrent.futures
 import hashlib
 import pathlib
-import re
 import subprocess
 import sys
 
@@ -27,7 +25,7 @@ from check_cases import (CHAIN, CLOSED, FAR, FAR_BY_TWO, FIRST, LONG, LONG_INDEX
                          lost, number, report, told)
 from judge_image import Refused, answer, listed, said_of
 from judge_recording import INDEX, WIDTHS, first_fault, little, verdict
-from play_cases import KINDS, PAIR, alone, big, case_text as image_text, directory_block, listed as entry_bytes
+from play_cases import KINDS, PAIR, alone, big, directory_block, listed as entry_bytes
 
 TOP = pathlib.Path(__file__).resolve().parent.parent
 BLOCK = 512
@@ -362,7 +360,7 @@ def scripts():
     for script in sorted((TOP / 'examples').glob('*.toml')):
         if script.stem != 'session':
             yield script.read_bytes()
-    for case in (TOP / 'crates/r10_rows/stdin').read_bytes().split(b'\n== '):
+    for case in (TOP / 'rows' / 'cases').read_bytes().split(b'\n== '):
         head, status, *lines = case.split(b'\n')
         if head.split(b' ')[1:] in ([], [b'sim'],
                                     [b'sim', b'--image']) and status.split(b' ')[:1] == [b'0'] and b'hex' not in status:
@@ -375,22 +373,10 @@ def recorded(program, script):
     return done.stdout if done.returncode == 0 else None
 
 
-def recorded_by_rows(rows, script):
-    """The same, through the program of the rows, which shows so many bytes of an image in hex digits. None of more than 128
-    blocks."""
-    blocks = int(re.search(rb'^blocks = (\d+)', script, re.M)[1])
-    if blocks > 128:
-        return None
-    case = '== image sim --image\n0 hex bytes 0 %d\n%s\n' % (blocks * BLOCK, script.hex())
-    done = subprocess.run([rows], input=case.encode(), capture_output=True)
-    lines = done.stdout.decode('ascii', 'replace').split('\n')
-    return bytes.fromhex(lines[2]) if lines[1:2] == ['0'] else None
-
-
 class Bases:
     """Recordings and images without a fault."""
 
-    def __init__(self, program, rows=None):
+    def __init__(self, program):
         self.recordings = [FIRST, FIRST[:124], KINDS, b''.join(lost()), b''.join(ONE), b''.join(TWO), b''.join(CLOSED),
                            b''.join(OPENING),
                            b''.join(LONG + LONG_INDEX), b''.join(MANY + MANY_INDEX), b''.join(told(70000)), b''.join(told(1)[:5])]
@@ -398,7 +384,7 @@ class Bases:
                                                FAR + FAR_BY_TWO)]
         self.images = [alone(FIRST), alone(FIRST[:124], False), alone(KINDS), PAIR, chain_of_five()] + list(map(alone, self.chains))
         for script in scripts():
-            image = recorded(program, script) if program else recorded_by_rows(rows, script)
+            image = recorded(program, script)
             if image is not None and image not in self.images and len(image) <= 128 * BLOCK:
                 self.images.append(image)
         for image in self.images:
@@ -441,27 +427,15 @@ def wanted_of(words, data):
     return said_of(data, words)
 
 
-def text_of(name, words, data, lines, status):
-    """The case of a row, and its answer."""
-    return image_text(name, ' '.join(words), data, status, lines), '== %s %s\n%d\n%s' % (name, ' '.join(words), status,
-                                                                                         ''.join(line + '\n' for line in lines))
-
-
-def by_itself(program, words, data, lines, status):
+def by_itself(options, words, data, lines, status):
     """What the program answers, where it is not what is wanted."""
-    done = subprocess.run([program] + words, input=data, capture_output=True)
+    command = [options.program] + words
+    if words[0] == 'judge':
+        command, data = [options.first_fault], alone(data, words[1] == 'closed')
+    done = subprocess.run(command, input=data, capture_output=True)
     wanted = (''.join(line + '\n' for line in lines).encode(), status, b'')
     seen = (done.stdout, done.returncode, done.stderr)
     return '' if seen == wanted else 'came %r' % (seen,)
-
-
-def by_rows(program, asked):
-    """What the program of the rows answers to each, where it is not what is wanted."""
-    texts = [text_of(*it) for it in asked]
-    done = subprocess.run([program], input=''.join(case for case, _ in texts).encode(), capture_output=True)
-    seen = ['== ' + it for it in ('\n' + done.stdout.decode('ascii', 'replace')).split('\n== ')[1:]]
-    seen += ['nothing, %r' % done.stderr[:200]] * (len(asked) - len(seen))
-    return ['' if text.rstrip('\n') == wanted.rstrip('\n') else 'came %r' % text for text, (_, wanted) in zip(seen, texts)]
 
 
 def asked_in(bases, seed, which):
@@ -490,10 +464,8 @@ def word_for(words, lines, status):
 def judge(words, bases, numbers):
     """What differs in the cases of these numbers, and how often which answer is wanted."""
     asked = [it for which in numbers for it in asked_in(bases, words.seed, which)]
-    calls = [it for it in asked if words.program and it[1][0] != 'judge']
-    rows = [it for it in asked if words.rows and (it[1][0] == 'judge' or not words.program)]
-    asked = calls + rows
-    seen = [by_itself(words.program, *it[1:]) for it in calls] + (by_rows(words.rows, rows) if rows else [])
+    asked = [it for it in asked if words.first_fault or it[1][0] != 'judge']
+    seen = [by_itself(words, *it[1:]) for it in asked]
     wrong = ['%s: %s: wanted %r, %s' % (name, ' '.join(words), lines, came)
              for (name, words, _, lines, _), came in zip(asked, seen) if came]
     return wrong, collections.Counter(word_for(*it[1:2], *it[3:]) for it in asked)
@@ -501,7 +473,7 @@ def judge(words, bases, numbers):
 
 def run(words):
     """Compares, and answers how many answers differ."""
-    bases = Bases(words.program, words.rows)
+    bases = Bases(words.program)
     counts, wrong = collections.Counter(), []
     groups = [range(at, min(at + 50, words.count)) for at in range(0, words.count, 50)]
     with concurrent.futures.ThreadPoolExecutor(words.lanes) as pool:
@@ -534,9 +506,9 @@ def data_of(lines):
 
 def kept():
     """Says which of the kept rows has another answer than the rules."""
-    folder, bad, seen = TOP / 'crates' / 'r10_rows', 0, 0
-    answers = rows_of(folder / 'stdout')
-    for head, (status, *lines) in rows_of(folder / 'stdin').items():
+    folder, bad, seen = TOP / 'rows', 0, 0
+    answers = rows_of(folder / 'answers')
+    for head, (status, *lines) in rows_of(folder / 'cases').items():
         name, *words = head.split(' ')
         if name.startswith('mangled-'):
             seen += 1
@@ -558,15 +530,15 @@ def main(words):
     parser.add_argument('task', choices=('run', 'case', 'kept'))
     parser.add_argument('program', nargs='?')
     parser.add_argument('number', nargs='?', type=int)
-    parser.add_argument('--rows')
+    parser.add_argument('--first-fault', metavar='OTHER')
     parser.add_argument('--seed', type=int, default=1)
     parser.add_argument('--count', type=int, default=10000)
     parser.add_argument('--lanes', type=int, default=2)
     words = parser.parse_args(words)
     if words.task == 'kept':
         return int(kept() > 0)
-    if words.program is None and (words.task == 'case' or words.rows is None) or (words.task == 'case' and words.number is None):
-        parser.error('PROGRAM is missing, or ROWS, or the number of a case')
+    if words.program is None or (words.task == 'case' and words.number is None):
+        parser.error('PROGRAM is missing, or the number of a case')
     if words.task == 'run':
         return int(run(words) > 0)
     if words.task == 'case':

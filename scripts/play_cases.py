@@ -1,8 +1,8 @@
 #!/usr/bin/env python3
 """Makes the rows of `r10 play`, and compares it with a reader of the public standard.
 
-    scripts/play_cases.py cases            # what stands in crates/r10_rows/stdin from `== play-first` on, up to `== check-first`
-    scripts/play_cases.py answers          # the same of crates/r10_rows/stdout
+    scripts/play_cases.py cases            # what stands in rows/cases from `== play-first` on, up to `== check-first`
+    scripts/play_cases.py answers          # the same of rows/answers
     scripts/play_cases.py kept             # fails where one of these files has others in their place
     scripts/play_cases.py compare PROGRAM  # PROGRAM play and scripts/read_chapter10.py --entries print the same of each strict
                                              file,

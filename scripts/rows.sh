@@ -1,5 +1,5 @@
 #!/usr/bin/env bash
-# Looks at the cases of crates/r10_rows; docs/ROWS.md says what they are.
+# Looks at the rows; docs/ROWS.md says what they are.
 #
 #     scripts/rows.sh              the names of all cases
 #     scripts/rows.sh NAME         a case and its answer, side by side
@@ -7,7 +7,7 @@
 set -eu
 
 top=$(cd "$(dirname "${BASH_SOURCE[0]}")/.." && pwd)
-readonly cases=$top/crates/r10_rows/stdin answers=$top/crates/r10_rows/stdout
+readonly cases=$top/rows/cases answers=$top/rows/answers
 
 usage() {
     sed -n '4,6p' "$0" | cut -c 7-

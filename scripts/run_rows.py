@@ -1,16 +1,19 @@
 #!/usr/bin/env python3
-"""Runs the cases of crates/r10_rows through a program, each in a process of its own, and compares what it prints with their
-answers.
+"""Runs the rows, which are the cases in rows/cases, through a program, each in a process of its own. What it prints is compared
+with rows/answers.
 
-    scripts/run_rows.py PROGRAM            all cases, in a quarter of a minute; a line for each that differs, and status 1 where one
-                                           does
-    scripts/run_rows.py PROGRAM NAME..     these cases, with what the program prints
+    scripts/run_rows.py PROGRAM                        all rows, in a quarter of a minute; a line for each that differs, and then
+                                                       status 1
+    scripts/run_rows.py PROGRAM NAME..                 these rows, with what the program prints
+    scripts/run_rows.py PROGRAM --first-fault OTHER    rows of the words `judge closed` and `judge unclosed` too
 
-docs/ROWS.md says what a case is. Cases of the words `judge closed` and `judge unclosed` are no calls of the program, and are left
-out.
+docs/ROWS.md says what a row is. Those of `judge` are no calls of the program. OTHER is ffi/first_fault.c, compiled over the library
+(scripts/ffi.sh check does that): it reads an image with the file, whose entry is closed or not. Without it they are left out, and a
+line says how many.
 """
 from __future__ import annotations
 
+import argparse
 import pathlib
 import re
 import subprocess
@@ -18,7 +21,9 @@ import sys
 from collections.abc import Iterator
 from concurrent.futures import ThreadPoolExecutor
 
-FOLDER = pathlib.Path(__file__).resolve().parent.parent / 'crates' / 'r10_rows'
+from play_cases import alone
+
+FOLDER = pathlib.Path(__file__).resolve().parent.parent / 'rows'
 
 
 class Case:
@@ -52,35 +57,47 @@ def cases(name: str) -> Iterator[Case]:
         yield Case(text)
 
 
-def answer_of(program: str, case: Case) -> bytes:
+def answer_of(words: argparse.Namespace, case: Case) -> bytes:
     """What the program makes of a case, as its answer has it."""
-    done = subprocess.run([program, *case.words], input=case.given(), capture_output=True, timeout=120)
+    command, given = [words.program, *case.words], case.given()
+    if is_judgement(case):
+        command, given = [words.first_fault], alone(given, case.words == ['judge', 'closed'])
+    done = subprocess.run(command, input=given, capture_output=True, timeout=120)
     status = str(done.returncode) if str(done.returncode) == case.status else '%d, not %s' % (done.returncode, case.status)
     return b'%s\n%s%s' % (status.encode(), case.shown(done.stdout), done.stderr)
 
 
-def main(words: list[str]) -> int:
+def is_judgement(case: Case) -> bool:
+    """Whether a case is no call of the program: a file is judged under a directory entry."""
+    return case.words[:1] == ['judge']
+
+
+def main() -> int:
     """Does what the words ask for."""
-    if not words:
-        print(__doc__, file=sys.stderr)
-        return 2
-    program, names = words[0], words[1:]
+    parser = argparse.ArgumentParser(description=__doc__, formatter_class=argparse.RawDescriptionHelpFormatter)
+    parser.add_argument('program')
+    parser.add_argument('names', nargs='*', metavar='name')
+    parser.add_argument('--first-fault', metavar='OTHER')
+    words = parser.parse_args()
     answers = {(it.name, *it.words): it.status.encode() + b' '.join([b'', *(x.encode() for x in it.how)]) + b'\n' + it.body
-               for it in cases('stdout')}
-    wanted = [it for it in cases('stdin') if it.words[:1] != ['judge'] and (not names or it.name in names)]
+               for it in cases('answers')}
+    asked = [it for it in cases('cases') if not words.names or it.name in words.names]
+    wanted = [it for it in asked if words.first_fault or not is_judgement(it)]
     with ThreadPoolExecutor() as pool:
-        found = list(pool.map(lambda it: answer_of(program, it), wanted))
+        found = list(pool.map(lambda it: answer_of(words, it), wanted))
     differ = 0
     for case, text in zip(wanted, found):
-        if names:
+        if words.names:
             print('== ' + ' '.join([case.name, *case.words]))
             print(text.decode(errors='replace'), end='')
         if text != answers.get((case.name, *case.words)):
             differ += 1
             print('differs: ' + case.name)
+    if len(wanted) < len(asked):
+        print('NOT TRIED: %d cases of judge: --first-fault names the program for them' % (len(asked) - len(wanted)))
     print('(%d cases, %d differ)' % (len(wanted), differ))
     return 1 if differ or not wanted else 0
 
 
 if __name__ == '__main__':
-    sys.exit(main(sys.argv[1:]))
+    sys.exit(main())

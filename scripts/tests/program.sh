@@ -1,6 +1,6 @@
 #!/usr/bin/env bash
 # Tests of the program that is kept, over readers and writers that fail or are slow, a long script, and the largest medium: some
-# seconds. What it prints of scripts and images is in crates/r10_rows. Status 1 where a check fails.
+# seconds. What it prints of scripts and images is in rows/. Status 1 where a check fails.
 set -u
 # shellcheck disable=SC2016,SC2317 source=scripts/tests/kit.sh
 . "$(dirname "$(readlink -f "${BASH_SOURCE[0]}")")/kit.sh"

@@ -9,7 +9,7 @@ program=${1:-$("$top/scripts/quick_build.py" --current)} || {
     exit 0
 }
 
-check "each case of r10_rows is answered as it stands there" "$top/scripts/run_rows.py" "$program"
+check "each row is answered as it stands there" "$top/scripts/run_rows.py" "$program"
 
 # The lines that help shows run as they stand, in the folder of the sources; what they write goes to a copy of it.
 mkdir "$room/bin" "$room/sources"

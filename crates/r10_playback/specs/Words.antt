@@ -1,11 +1,10 @@
 -- Verdicts and faults in words.
-use Rattle.std.specs.Prelude.{ℕ, List, ◌++◌, Option, Some, None, codes}
+use Rattle.std.specs.Prelude.{ℕ, List, ◌++◌, codes}
 use Rattle.std.specs.Fmt.{decimal}
 use Rattle.r10_body.specs.declared.fault.FileFault.{FileFault}
 use Rattle.r10_text.specs.Refusals.{fault_text}
 use Rattle.r10_checker.specs.declared.check.Verdict.{Verdict}
 use Rattle.r10_checker.specs.declared.check.Verdict.TheVariants.{Strict, Lenient, Faulty}
-use Rattle.r10_packet_rules.specs.declared.file.FirstFault.{FirstFault}
 
 -- an offset and a fault
 abbrev pub place_text : ℕ → FileFault → List ℕ
@@ -15,7 +14,3 @@ abbrev pub verdict_line : Verdict → List ℕ
 verdict_line Strict = codes "strict\n"
 verdict_line (Lenient opaque) = codes "lenient " ++ (decimal opaque ++ codes "\n")
 verdict_line (Faulty offset fault) = codes "faulty " ++ place_text offset fault
-
-abbrev pub found_line : Option FirstFault → List ℕ
-found_line None = codes "none\n"
-found_line (Some at) = place_text at.offset at.fault

@@ -1,9 +1,8 @@
 //! What is printed of a file: the entries of a strict one that are asked for, in the order of a replay, or why there are none;
-//! and the verdict on a recording, or its first fault under a directory entry.
+//! and the verdict on a recording.
 #![tactic(auto)]
 
 mod check;
-mod closing;
 mod file;
 mod lines;
 mod play;
@@ -12,6 +11,5 @@ mod selection;
 mod words;
 
 pub use check::check_input;
-pub use closing::judge_closing;
 pub use play::play_input;
 pub use selection::Selection;

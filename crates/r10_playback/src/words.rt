@@ -1,10 +1,9 @@
 //! The words of verdicts and faults.
 
 ghost use Rattle.std.specs.Prelude.{◌≡◌, IfOk, string_bytes};
-ghost use Rattle.r10_playback.specs.Words.{found_line, verdict_line};
+ghost use Rattle.r10_playback.specs.Words.{verdict_line};
 
 use r10_checker::Verdict;
-use r10_packet_rules::FirstFault;
 use r10_text::fault_text;
 use std::alloc::{AllocError, Global};
 
@@ -18,20 +17,6 @@ pub(crate) fn verdict_line(alloc: Global, verdict: Verdict) -> Result<String, Al
         Verdict::Faulty { offset, fault } => {
             let word = fault_text(alloc, fault)?;
             format!(in alloc; "faulty {offset} {word}\n")
-        }
-    }
-}
-
-/// The line of a file's first fault, with its line feed, or of none.
-pub(crate) fn found_line(alloc: Global, found: Option<FirstFault>) -> Result<String, AllocError>
-    ensures { IfOk result (λ line. string_bytes line ≡ found_line found) }
-{
-    match found {
-        None => String::from_str(alloc, "none\n"),
-        Some(at) => {
-            let offset = at.offset;
-            let word = fault_text(alloc, at.fault)?;
-            format!(in alloc; "{offset} {word}\n")
         }
     }
 }

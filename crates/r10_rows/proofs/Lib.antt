@@ -1,4 +1,0 @@
-mod Commanded
-mod Lengths
-mod Lines
-mod Parts
