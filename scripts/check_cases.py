@@ -364,7 +364,6 @@ def judged():
     yield 'header-sum-first', flipped(FIRST, 22, 1), True, '0 HeaderSum'
     yield 'rule-before-a-later-fault', b''.join(ONE + [uart(0, 1002)]) + b'\x25', False, '%d Rule 6' % size(ONE)
     yield 'fault-before-a-rule', flipped(b''.join(ONE + [uart(0, 1002)]), size(ONE), 1), False, '%d Sync' % size(ONE)
-    yield 'no-bytes-unclosed', b'', False, '0 Truncated'
 
 
 # ---- a thousand files

@@ -431,7 +431,8 @@ def by_itself(options, words, data, lines, status):
     """What the program answers, where it is not what is wanted."""
     command = [options.program] + words
     if words[0] == 'judge':
-        command, data = [options.first_fault], alone(data, words[1] == 'closed')
+        # (a script has a block beyond the directory)
+        command, data = [options.first_fault], alone(data, words[1] == 'closed') + bytes(BLOCK)
     done = subprocess.run(command, input=data, capture_output=True)
     wanted = (''.join(line + '\n' for line in lines).encode(), status, b'')
     seen = (done.stdout, done.returncode, done.stderr)
@@ -444,7 +445,7 @@ def asked_in(bases, seed, which):
     for words, data in case.asked:
         lines, status = wanted_of(words, data)
         yield 'case-%d' % which, words, data, lines, status
-    if case.kind == 'recording':
+    if case.kind == 'recording' and case.data:  # (a medium with a file without bytes is not mounted)
         for closed in ('closed', 'unclosed'):
             line = first_fault(case.data, closed == 'closed')
             yield 'case-%d' % which, ['judge', closed], case.data, [line], int(line != 'none')

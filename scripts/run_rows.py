@@ -2,8 +2,7 @@
 """Runs the rows, which are the cases in rows/cases, through a program, each in a process of its own. What it prints is compared
 with rows/answers.
 
-    scripts/run_rows.py PROGRAM                        all rows, in a quarter of a minute; a line for each that differs, and then
-                                                       status 1
+    scripts/run_rows.py PROGRAM                        all rows, in some seconds; a line for each that differs, and then status 1
     scripts/run_rows.py PROGRAM NAME..                 these rows, with what the program prints
     scripts/run_rows.py PROGRAM --first-fault OTHER    rows of the words `judge closed` and `judge unclosed` too
 
@@ -61,7 +60,8 @@ def answer_of(words: argparse.Namespace, case: Case) -> bytes:
     """What the program makes of a case, as its answer has it."""
     command, given = [words.program, *case.words], case.given()
     if is_judgement(case):
-        command, given = [words.first_fault], alone(given, case.words == ['judge', 'closed'])
+        # (a script has a block beyond the directory)
+        command, given = [words.first_fault], alone(given, case.words == ['judge', 'closed']) + bytes(512)
     done = subprocess.run(command, input=given, capture_output=True, timeout=120)
     status = str(done.returncode) if str(done.returncode) == case.status else '%d, not %s' % (done.returncode, case.status)
     return b'%s\n%s%s' % (status.encode(), case.shown(done.stdout), done.stderr)
@@ -78,7 +78,7 @@ def main() -> int:
     parser.add_argument('program')
     parser.add_argument('names', nargs='*', metavar='name')
     parser.add_argument('--first-fault', metavar='OTHER')
-    words = parser.parse_args()
+    words = parser.parse_intermixed_args()
     answers = {(it.name, *it.words): it.status.encode() + b' '.join([b'', *(x.encode() for x in it.how)]) + b'\n' + it.body
                for it in cases('answers')}
     asked = [it for it in cases('cases') if not words.names or it.name in words.names]

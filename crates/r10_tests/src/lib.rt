@@ -1,6 +1,6 @@
-//! Lanes and sources between threads; sessions: feeds, a writer, orders and readers at the same time, and what became of each
-//! message; the lock and its readers, called once each; bodies, the model's instalment, and verdicts on a medium's files; and what
-//! counts, times and refusals print.
+//! Lanes and sources; sessions: feeds, a writer, orders and readers at the same time, and what became of each message; the lock
+//! and its readers, called once each; bodies, the model's instalment, and verdicts on a medium's files; and what counts, times and
+//! refusals print.
 #![tactic(auto)]
 
 #[cfg(test)]
@@ -9,8 +9,6 @@ mod asks;
 mod bodies;
 #[cfg(test)]
 mod counts;
-#[cfg(test)]
-mod crossing;
 #[cfg(test)]
 mod handing;
 #[cfg(test)]
