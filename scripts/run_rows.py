@@ -83,8 +83,13 @@ def main() -> int:
                for it in cases('answers')}
     asked = [it for it in cases('cases') if not words.names or it.name in words.names]
     wanted = [it for it in asked if words.first_fault or not is_judgement(it)]
-    with ThreadPoolExecutor() as pool:
-        found = list(pool.map(lambda it: answer_of(words, it), wanted))
+    try:
+        with ThreadPoolExecutor() as pool:
+            found = list(pool.map(lambda it: answer_of(words, it), wanted))
+    except OSError as error:
+        sys.exit('run_rows: cannot run %s: %s' % (error.filename, error.strerror))
+    except subprocess.TimeoutExpired as error:
+        sys.exit('run_rows: %s did not end in %d seconds' % (' '.join(map(str, error.cmd)), error.timeout))
     differ = 0
     for case, text in zip(wanted, found):
         if words.names:
