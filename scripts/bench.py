@@ -243,7 +243,7 @@ def recorded(part):
 
 def proved_instructions(words, number, folder):
     """The instructions of each measure of the proved program, and its figures."""
-    (small, _, recorder, replay, follow, wide, narrow, close, *judged), text = spans(words.proved, [str(number)], folder)
+    (small, recorder, replay, follow, wide, narrow, close, *judged), text = spans(words.proved, [str(number)], folder)
     found = {
         'copy': sum(small[0::3]), 'channel': sum(small[1::3]), 'recorder': recorded(recorder), 'check': replay[0],
         'replay': sum(replay[2:4]), 'replay-behind': sum(follow[9::12]) + sum(follow[10::12]), 'close': close[-1],

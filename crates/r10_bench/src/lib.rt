@@ -1,14 +1,12 @@
 //! What the program `r10_bench` measures, run by hand: how many small UART messages a second go through a lane and a builder,
-//! beside a plain copy of the same bytes, how many go through lanes of one thread and between two, how long searches in the book
-//! of a file's packets take, and its index, how many messages a second a recorder records onto a medium in memory, how many entries
-//! a second it replays, how long it takes to find one in a file of many packets, how many bytes of index a second it writes where
-//! it closes one, and how many bytes of a file are judged in a second. And how many messages a second a session between threads
-//! takes in, and what offers, glances and advances wait for while a medium syncs slowly.
+//! beside a plain copy of the same bytes; how many a recorder records onto a medium in memory; how many entries a second it replays,
+//! how long it takes to find one in a file of many packets, how many bytes of index a second it writes where it closes one, and how
+//! many bytes of a file are judged in a second. And how many messages a second a session between threads takes in, and what offers,
+//! glances and advances wait for while a medium syncs slowly.
 #![tactic(auto)]
 
 mod apparatus;
 mod bench;
-mod book;
 mod check;
 mod closing;
 mod copy;
@@ -16,7 +14,6 @@ mod fault;
 mod figures;
 mod finding;
 mod halfway;
-mod lanes;
 mod lengths;
 mod messages;
 mod mounted;
@@ -81,13 +78,8 @@ fn read_words<R: Env + AllocGlobal>(rt: &R) -> io::Result<Option<(Part, u32)>> {
 }
 
 /// All parts, of so many messages.
-fn measure_all<R: Print + Clock + CpuClock + Threads + Wait + Sync>(
-    rt: &R,
-    alloc: Global,
-    number: u32,
-) -> Result<(), BenchFault> {
+fn measure_all<R: Print + CpuClock>(rt: &R, alloc: Global, number: u32) -> Result<(), BenchFault> {
     bench::run(rt, alloc, number)?;
-    book::run(rt, alloc, number)?;
     let recorder = whole::run(rt, alloc, number, whole::LENGTH, &whole::TEXT)?;
     replay::run(rt, alloc, recorder, number)?;
     replay::follow(rt, alloc, number)?;
@@ -98,9 +90,7 @@ fn measure_all<R: Print + Clock + CpuClock + Threads + Wait + Sync>(
     for shape in &check::SHAPES {
         check::run(rt, alloc, shape, number)?;
     }
-    lanes::through_lane(rt, alloc, number)?;
-    lanes::through_ports(rt, alloc, number)?;
-    lanes::cross(rt, alloc, number)
+    Ok(())
 }
 
 /// Measures what the command line asks for, and prints it. `scripts/build.py` makes a program of this crate, whose `main` is this
