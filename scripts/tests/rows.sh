@@ -38,11 +38,14 @@ run() { PYTHONPATH=$top/scripts "$room/scripts/run_rows.py" "$@" 2>&1; }
 # What it prints, and its status.
 said() { run "$@"; echo "status $?"; }
 
-check "what is printed as it stands there is right" is "$(said "$room/program" --first-fault "$room/judge")" $'(3 cases, 0 differ)\nstatus 0'
+check "what is printed as it stands there is right" is "$(said "$room/program" --first-fault "$room/judge")" \
+    $'(3 cases, 0 differ)\nstatus 0'
 check "rows of judge are left out without their program, and a line says so" is "$(said "$room/program")" \
     $'NOT TRIED: 1 cases of judge: --first-fault names the program for them\n(2 cases, 0 differ)\nstatus 0'
-check "a row by its name is printed" is "$(said "$room/program" plain)" $'== plain sim 0\n0\nsim 0\na line\n(1 cases, 0 differ)\nstatus 0'
-check "also after the other program" says "$(said "$room/program" --first-fault "$room/judge" of-a-file)" $'1\n2560\n(1 cases, 0 differ)'
+check "a row by its name is printed" is "$(said "$room/program" plain)" \
+    $'== plain sim 0\n0\nsim 0\na line\n(1 cases, 0 differ)\nstatus 0'
+check "also after the other program" says "$(said "$room/program" --first-fault "$room/judge" of-a-file)" \
+    $'1\n2560\n(1 cases, 0 differ)'
 check "no row of that name is a failure" is "$(said "$room/program" none)" $'(0 cases, 0 differ)\nstatus 1'
 check "a program that is killed differs" says "$(said "$room/killed" plain)" $'-9, not 0\nr10: gone\ndiffers: plain'
 check "and then the status is 1" says "$(said "$room/killed" plain)" "status 1"

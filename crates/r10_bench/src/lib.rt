@@ -1,8 +1,8 @@
 //! What the program `r10_bench` measures, run by hand: how many small UART messages a second go through a lane and a builder,
-//! beside a plain copy of the same bytes; how many a recorder records onto a medium in memory; how many entries a second it replays,
-//! how long it takes to find one in a file of many packets, how many bytes of index a second it writes where it closes one, and how
-//! many bytes of a file are judged in a second. And how many messages a second a session between threads takes in, and what offers,
-//! glances and advances wait for while a medium syncs slowly.
+//! beside a plain copy of the same bytes; how many a recorder records onto a medium in memory; how many entries a second it
+//! replays, how long it takes to find one in a file of many packets, how many bytes of index a second it writes where it closes
+//! one, and how many bytes of a file are judged in a second. And how many messages a second a session between threads takes in, and
+//! what offers, glances and advances wait for while a medium syncs slowly.
 #![tactic(auto)]
 
 mod apparatus;
