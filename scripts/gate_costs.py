@@ -12,6 +12,9 @@ Each prover's processor time is read from the system twice a second while it run
 costs nothing here: for the whole, --anew, on a machine that does nothing else. A crate below MINUTES (1 where none is told) stands
 in one line with the others. Status 1 where the gate fails; what it printed is kept then.
 
+A minute is not the same from hour to hour where others use the host. So how quick the machine is stands below, before and after: it
+is measured by bench/, as scripts/bench.py does it, if cargo makes that program.
+
 A crate's paths are one, for itself, and those of each crate that it lists. A library is a crate with a `src/lib.rt` that is no
 static library.
 """
@@ -23,6 +26,8 @@ import re
 import sys
 import tempfile
 import time
+
+from bench import PLAIN, state_of
 
 TOP = pathlib.Path(__file__).resolve().parent.parent
 TICKS = os.sysconf('SC_CLK_TCK')
@@ -72,6 +77,7 @@ def is_below(pid, top, parents):
 
 def watched(command, said):
     """Runs the gate, and answers its status, what each prover took by crate and part, and what the whole took."""
+    before = os.times()
     gate, kinds, times = subprocess.Popen(command, cwd=TOP, stdin=subprocess.DEVNULL, stdout=said, stderr=subprocess.STDOUT), {}, {}
     memory = {}
     while gate.poll() is None:
@@ -91,7 +97,8 @@ def watched(command, said):
     for (crate, part), most in memory.items():
         table[crate]['memory'] = max(table[crate].get('memory', 0), most)
     used = os.times()
-    return gate.returncode, table, (used.children_user + used.children_system) / 60
+    whole = used.children_user + used.children_system - before.children_user - before.children_system
+    return gate.returncode, table, whole / 60
 
 
 def listed(file: pathlib.Path) -> dict[str, tuple[bool, list[str]]]:
@@ -127,6 +134,16 @@ def print_paths(file: pathlib.Path) -> None:
         print(f'{number:8,}  {crate}')
 
 
+def state() -> str:
+    """How quick the machine is now, where the program that measures it is there or can be made."""
+    try:
+        subprocess.run(['cargo', 'build', '--release', '--offline', '--quiet'], cwd=TOP / 'bench', check=True, capture_output=True)
+    except (OSError, subprocess.CalledProcessError):
+        if not PLAIN.is_file():
+            return 'not measured'
+    return state_of(PLAIN)
+
+
 def main():
     words = argparse.ArgumentParser(description=__doc__, formatter_class=argparse.RawDescriptionHelpFormatter)
     words.add_argument('--least', type=float, default=1.0)
@@ -136,12 +153,12 @@ def main():
     if words.paths:
         print_paths(words.paths)
         return
-    began = time.time()
+    first, began = state(), time.time()
     with tempfile.TemporaryFile('w+', errors='replace') as said:
         status, table, whole = watched(['.ci/run'] if words.whole else ['rt', 'ci', *others], said)
         said.seek(0)
         text = said.read()
-    last = text.rstrip().split('\n')[-1]
+    last, minutes = text.rstrip().split('\n')[-1], (time.time() - began) / 60
     sums = {it: sum(row[it] for row in table.values()) for it in ('proof', 'tests', 'edits')}
     print('| Crate | Proof | Tests | Edits | MB |\n|---|---|---|---|---|')
     least = [0.0, 0.0, 0.0]
@@ -154,7 +171,8 @@ def main():
     print('| all others | %.1f | %.1f | %.1f | |' % tuple(least))
     print('| all | %.1f | %.1f | %.1f | |' % (sums['proof'], sums['tests'], sums['edits']))
     print('\n%.0f minutes of a processor in all, with what compiles, links and runs; %.0f minutes of time. %s'
-          % (whole, (time.time() - began) / 60, last))
+          % (whole, minutes, last))
+    print('The machine, a second: %s before, %s after.' % (first, state()))
     if status:
         file, path = tempfile.mkstemp(prefix='gate-', suffix='.log')
         with open(file, 'w', encoding='utf-8') as log:
