@@ -69,7 +69,7 @@ def answer_of(words: argparse.Namespace, case: Case) -> bytes:
 
 def is_judgement(case: Case) -> bool:
     """Whether a case is no call of the program: a file is judged under a directory entry."""
-    return case.words[:1] == ['judge']
+    return case.words in (['judge', 'closed'], ['judge', 'unclosed'])
 
 
 def main() -> int:

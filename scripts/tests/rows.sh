@@ -18,6 +18,8 @@ a line
 == in-hex check 1
 1 hex bytes 8 10
 4142.
+== no-command judge 2
+2
 == of-a-file judge closed
 1 hex
 4142
@@ -30,6 +32,9 @@ a line
 == in-hex check 1
 1
 4142
+== no-command judge 2
+2
+judge 2
 == of-a-file judge closed
 1
 2560
@@ -39,9 +44,9 @@ run() { PYTHONPATH=$top/scripts "$room/scripts/run_rows.py" "$@" 2>&1; }
 said() { run "$@"; echo "status $?"; }
 
 check "what is printed as it stands there is right" is "$(said "$room/program" --first-fault "$room/judge")" \
-    $'(3 cases, 0 differ)\nstatus 0'
+    $'(4 cases, 0 differ)\nstatus 0'
 check "rows of judge are left out without their program, and a line says so" is "$(said "$room/program")" \
-    $'NOT TRIED: 1 cases of judge: --first-fault names the program for them\n(2 cases, 0 differ)\nstatus 0'
+    $'NOT TRIED: 1 cases of judge: --first-fault names the program for them\n(3 cases, 0 differ)\nstatus 0'
 check "a row by its name is printed" is "$(said "$room/program" plain)" \
     $'== plain sim 0\n0\nsim 0\na line\n(1 cases, 0 differ)\nstatus 0'
 check "also after the other program" says "$(said "$room/program" --first-fault "$room/judge" of-a-file)" \
@@ -53,7 +58,7 @@ check "a program that is not there is one line" is "$(said "$room/nowhere" plain
     "run_rows: cannot run $room/nowhere: No such file or directory"$'\nstatus 1'
 sed -i 's/^2560$/2561/' "$room/rows/answers"
 check "another answer of judge differs" is "$(said "$room/program" --first-fault "$room/judge")" \
-    $'differs: of-a-file\n(3 cases, 1 differ)\nstatus 1'
+    $'differs: of-a-file\n(4 cases, 1 differ)\nstatus 1'
 sed -i 's/^a line$/a word/' "$room/rows/answers"
 check "so does another line" says "$(said "$room/program")" "differs: plain"
 sed -i '/^== in-hex/,/^4142/d' "$room/rows/answers"
