@@ -194,7 +194,10 @@ rows() {
     }
     c_example first_fault.c "$room/first_fault"
     for build in "$program" "$program.by-rattle"; do
-        [ -x "$build" ] || continue
+        [ -x "$build" ] || {
+            [ -n "${R10_PROGRAM:-}" ] || echo "ffi: NOT TRIED: there is no ${build##*/} to run the rows through"
+            continue
+        }
         "$top/scripts/run_rows.py" "$build" --first-fault "$room/first_fault" >"$room/rows" 2>&1 || {
             cat "$room/rows" >&2
             give_up "what ${build##*/} prints is not rows/answers"

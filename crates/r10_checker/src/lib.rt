@@ -3,14 +3,12 @@
 #![tactic(auto)]
 
 mod check;
-mod fault;
 mod laws;
 mod media;
 mod place;
 mod verdict;
 
 pub use check::{Verdict, check_file, end_verdict};
-pub use fault::find_fault;
 pub use laws::one_verdict;
 pub use media::{FileVerdict, check_medium};
 pub use place::{extent_of, is_inside};
