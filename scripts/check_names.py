@@ -22,7 +22,6 @@ INSIDE = re.compile(r'^\s+type ')
 
 ALLOWED = {
     'AnySource': 'a boxed source, named where it is used and where it is handed out',
-    'Apparatus': 'the recorder of a bench, and that of the trials',
     'BeginFault': 'why a file was not begun: of the multiplexer, and of the open file over it',
     'Civil': 'a civil time, and the same for C',
     'Entry': "an entry of a file, and of a directory: each is its format's word",

@@ -12,7 +12,8 @@
 #                                            of 1,000 beside `r10 sim`
 #     scripts/ffi.sh check             # runs both, ffi/calls.c, which calls each function, also as C++, ffi/flight.c, ffi/disk.c,
 #                                        ffi/commits.c, ffi/accounts.c, ffi/refused.c, ffi/media.c, ffi/parts.c, ffi/memory.c and
-#                                        ffi/ports.c, and compares what they print with ffi/*.expected; runs the rows
+#                                        ffi/ports.c, and compares what they print with ffi/*.expected; ffi/port_load.c, for its
+#                                        sums; runs the rows
 #     scripts/ffi.sh kept              # prints where the library is: the proved one if it is there, else one that is not proved
 #     scripts/ffi.sh proved            # prints where the proved library is; status 1 if it is not there, or a source has changed
 #     scripts/ffi.sh behind-ci         # `rt ci`; after it `check` over its libraries, an installation of what was proved, the
@@ -262,6 +263,8 @@ check() {
             "$room/$trial" >"$room/$trial.out" || give_up "$trial: status $?"
             compare "$trial.expected" "$room/$trial.out"
         done
+        c_example port_load.c "$room/port_load"
+        { "$room/port_load" feeds 20000 8 && "$room/port_load" slow 1; } >"$room/port_load.out" || give_up "port_load: status $?"
         c_example random.c "$room/random"
         "$room/random" 1 50000 >"$room/random.out" || give_up "random: status $?"
         beside_sim 1 5
@@ -435,7 +438,7 @@ behind-ci)
     behind_ci
     ;;
 *)
-    sed -n '2,27s/^# \{0,1\}//p' "${BASH_SOURCE[0]}" >&2
+    sed -n '2,28s/^# \{0,1\}//p' "${BASH_SOURCE[0]}" >&2
     exit 2
     ;;
 esac

@@ -4,7 +4,7 @@ ghost use Rattle.std.specs.Prelude.{◌≡◌, ◌+◌, ◌*◌, ◌/◌, max, m
 
 use crate::fault::BenchFault;
 use r10_builder::Closed;
-use std::time::{Clock, CpuClock};
+use std::time::CpuClock;
 
 /// A figure: its name, how many there are, of what, and how many nanoseconds they took together: 0 where that was not measured, and
 /// the greatest number where the clock failed.
@@ -50,14 +50,6 @@ fn since(last: &mut u64, now: u64) -> u64 {
 /// The nanoseconds of processor time since the last reading, and the greatest number where one of both readings failed.
 pub(crate) fn lap<R: CpuClock>(rt: &R, last: &mut u64) -> u64 {
     match rt.thread_cpu_time() {
-        Ok(time) => since(last, time.as_nanos().min(u128::from(u64::MAX)) as u64),
-        Err(_) => since(last, u64::MAX),
-    }
-}
-
-/// The nanoseconds that passed since the last reading, and the greatest number where one of both readings failed.
-pub(crate) fn passed<R: Clock>(rt: &R, last: &mut u64) -> u64 {
-    match rt.monotonic() {
         Ok(time) => since(last, time.as_nanos().min(u128::from(u64::MAX)) as u64),
         Err(_) => since(last, u64::MAX),
     }

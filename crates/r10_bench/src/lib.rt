@@ -1,11 +1,9 @@
 //! What the program `r10_bench` measures, run by hand: how many small UART messages a second go through a lane and a builder,
 //! beside a plain copy of the same bytes; how many a recorder records onto a medium in memory; how many entries a second it
 //! replays, how long it takes to find one in a file of many packets, how many bytes of index a second it writes where it closes
-//! one, and how many bytes of a file are judged in a second. And how many messages a second a session between threads takes in, and
-//! what offers, glances and advances wait for while a medium syncs slowly.
+//! one, and how many bytes of a file are judged in a second.
 #![tactic(auto)]
 
-mod apparatus;
 mod bench;
 mod check;
 mod closing;
@@ -13,14 +11,11 @@ mod copy;
 mod fault;
 mod figures;
 mod finding;
-mod halfway;
 mod lengths;
 mod messages;
 mod mounted;
 mod path;
 mod replay;
-mod session;
-mod slow;
 mod whole;
 
 pub use fault::BenchFault;
@@ -28,9 +23,7 @@ use std::alloc::Global;
 use std::io;
 use std::process::ExitCode;
 use std::rt::Env;
-use std::sync::Wait;
-use std::thread::Threads;
-use std::time::{Clock, CpuClock};
+use std::time::CpuClock;
 
 /// What is measured.
 #[derive(Clone, Copy)]
@@ -40,10 +33,6 @@ enum Part {
     Close,
     /// Only the whole recorder, with messages of several lengths: so many of 64 bytes, of others as many bytes together.
     Lengths,
-    /// A session between threads, of so many messages of each feed: without bytes, and of 8 bytes.
-    Session,
-    /// What is waited for while a medium syncs, so many milliseconds each time.
-    Slow,
 }
 
 /// The part that a word names.
@@ -51,8 +40,6 @@ fn part_of(word: &str) -> Part {
     match word {
         "close" => Part::Close,
         "lengths" => Part::Lengths,
-        "session" => Part::Session,
-        "slow" => Part::Slow,
         _ => Part::All,
     }
 }
@@ -66,7 +53,7 @@ fn read_words<R: Env + AllocGlobal>(rt: &R) -> io::Result<Option<(Part, u32)>> {
     let part = part_of(first.as_str());
     let number = match part {
         Part::All => first.parse().ok(),
-        Part::Close | Part::Lengths | Part::Session | Part::Slow => match words.next() {
+        Part::Close | Part::Lengths => match words.next() {
             Some(second) => second.parse().ok(),
             None => None,
         },
@@ -95,23 +82,14 @@ fn measure_all<R: Print + CpuClock>(rt: &R, alloc: Global, number: u32) -> Resul
 
 /// Measures what the command line asks for, and prints it. `scripts/build.py` makes a program of this crate, whose `main` is this
 /// call: so the gate proves it, and builds none.
-pub fn measure<R: Env + AllocGlobal + Print + Clock + CpuClock + Threads + Wait + Sync>(
-    rt: &R,
-) -> Result<ExitCode, BenchFault> {
+pub fn measure<R: Env + AllocGlobal + Print + CpuClock>(rt: &R) -> Result<ExitCode, BenchFault> {
     let alloc = rt.alloc();
     match read_words(rt)? {
         Some((Part::All, number)) => measure_all(rt, alloc, number)?,
         Some((Part::Close, number)) => closing::run(rt, alloc, number)?,
         Some((Part::Lengths, number)) => lengths::run(rt, alloc, number)?,
-        Some((Part::Session, number)) => {
-            session::run(rt, alloc, number, &[])?;
-            session::run(rt, alloc, number, &[0x55; 8])?;
-        }
-        Some((Part::Slow, number)) => slow::run(rt, alloc, number)?,
         None => {
-            println!(rt;
-                "usage: r10_bench MESSAGES | close PACKETS | lengths MESSAGES | session MESSAGES | slow MILLISECONDS"
-            )?;
+            println!(rt; "usage: r10_bench MESSAGES | close PACKETS | lengths MESSAGES")?;
             return Ok(ExitCode::from(2));
         }
     }
