@@ -18,7 +18,7 @@ use std::alloc::{AllocError, Global};
 /// first stands at the packet's counter.
 /// Source: IRIG 106-17 chapter 11, ARINC 429 data packets, format 0. The places of the fields in
 /// the intra-packet data header are this recorder's own choice.
-#[derive(Debug, Drop, PartialEq, Eq)]
+#[derive(Drop)]
 pub struct ArincBody {
     pub entries: Items<ArincEntry>,
 }

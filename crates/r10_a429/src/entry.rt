@@ -11,7 +11,7 @@ use std::alloc::{AllocError, Global};
 pub const LONGEST_GAP: u32 = 1_000_000;
 
 /// A word of an ARINC 429 bus with its time.
-#[derive(Clone, Copy, Debug, PartialEq, Eq)]
+#[derive(Clone, Copy)]
 pub struct ArincEntry {
     /// The count of its first data, in units of 100 ns.
     pub count: Count,

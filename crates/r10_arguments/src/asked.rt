@@ -49,7 +49,7 @@ pub struct FormatWords {
 }
 
 /// Which entries are to be printed. Whether there are such is not asked here.
-#[derive(Clone, Copy, Debug, PartialEq, Eq)]
+#[derive(Clone, Copy)]
 pub struct PlayWords {
     /// The file's number, from 0.
     pub file: usize,

@@ -14,7 +14,7 @@ use std::alloc::{AllocError, Global};
 /// The body of a MIL-STD-1553 packet: the channel specific data word with the number of messages, and one entry for
 /// each message.
 /// Source: IRIG 106-17 chapter 11, MIL-STD-1553 bus data packets, format 1.
-#[derive(Debug, Drop, PartialEq, Eq)]
+#[derive(Drop)]
 pub struct BusBody {
     pub entries: Items<BusEntry>,
 }

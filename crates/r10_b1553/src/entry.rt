@@ -19,7 +19,7 @@ pub const MOST_WORDS: usize = 36;
 pub const MOST_BYTES: u16 = 2 * MOST_WORDS as u16;
 
 /// A message of the bus with its time.
-#[derive(Debug, Drop, PartialEq, Eq)]
+#[derive(Drop)]
 pub struct BusEntry {
     /// The count of its first data, in units of 100 ns.
     pub count: Count,

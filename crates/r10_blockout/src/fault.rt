@@ -3,7 +3,7 @@
 use thiserror::Error;
 
 /// Bytes weren't read.
-#[derive(Clone, Copy, Debug, PartialEq, Eq, Drop, Error)]
+#[derive(Clone, Copy, Debug, Drop, Error)]
 pub enum ReadFault {
     /// The medium failed in a read.
     #[error("a read of the medium failed")]

@@ -4,7 +4,7 @@ use r10_body::Gap;
 use r10_packet::Header;
 
 /// Why a packet was closed.
-#[derive(Clone, Copy, Debug, PartialEq, Eq)]
+#[derive(Clone, Copy, Debug)]
 pub enum Reason {
     /// Messages were lost before the next one.
     Gap,

@@ -16,7 +16,7 @@ use r10_region::SteadyMedium;
 use std::alloc::{AllocError, Global};
 
 /// How many messages of a channel were accepted, up to `u64::MAX`.
-#[derive(Clone, Copy, Debug, PartialEq, Eq)]
+#[derive(Clone, Copy)]
 pub struct Accepted {
     pub channel: u16,
     pub messages: u64,
@@ -24,7 +24,7 @@ pub struct Accepted {
 
 /// What became of the messages of a channel.
 #[repr(C)]
-#[derive(Clone, Copy, Debug, PartialEq, Eq)]
+#[derive(Clone, Copy)]
 pub struct AccountOut {
     /// the messages that its lane accepted, up to 2^64 - 1
     pub accepted: u64,

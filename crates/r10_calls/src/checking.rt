@@ -12,7 +12,7 @@ use std::alloc::Global;
 
 /// What a script says of its medium, or where it is wrong.
 #[repr(C)]
-#[derive(Clone, Copy, Debug, PartialEq, Eq)]
+#[derive(Clone, Copy)]
 pub struct ScriptOut {
     /// how many blocks its medium has
     pub blocks: usize,

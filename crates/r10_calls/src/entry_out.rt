@@ -34,7 +34,7 @@ pub(crate) const MOST_WORDS: usize = 36;
 
 /// An entry without its bytes or words. What its kind does not have is 0.
 #[repr(C)]
-#[derive(Clone, Copy, Debug, PartialEq, Eq)]
+#[derive(Clone, Copy)]
 pub struct EntryOut {
     /// units of 100 ns
     pub count: u64,

@@ -8,7 +8,7 @@ use r10_machine::Reply;
 
 /// What the last refusal carried, of those that carry something: `BadDirectory` and `BadFile`.
 #[repr(C)]
-#[derive(Clone, Copy, Debug, PartialEq, Eq)]
+#[derive(Clone, Copy)]
 pub struct FaultOut {
     /// of 26 the first block of the directory that can't be taken, of 27 where in the file the first wrong packet is, in bytes
     pub at: u64,

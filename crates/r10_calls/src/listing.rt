@@ -15,7 +15,7 @@ use r10_region::SteadyMedium;
 
 /// A file, without its name.
 #[repr(C)]
-#[derive(Clone, Copy, Debug, PartialEq, Eq)]
+#[derive(Clone, Copy)]
 pub struct FileOut {
     /// the bytes that the medium shows of it
     pub size: u64,
@@ -28,7 +28,7 @@ pub struct FileOut {
 
 /// How a recorder is.
 #[repr(C)]
-#[derive(Clone, Copy, Debug, PartialEq, Eq)]
+#[derive(Clone, Copy)]
 pub struct StatusOut {
     /// the count of the last tick, in units of 100 ns; 0 where there was none
     pub tick: u64,
@@ -46,7 +46,7 @@ pub struct StatusOut {
 
 /// How a channel is.
 #[repr(C)]
-#[derive(Clone, Copy, Debug, PartialEq, Eq)]
+#[derive(Clone, Copy)]
 pub struct ChannelOut {
     /// the messages that were refused because the lane was full, up to 2^64 - 1
     pub lost: u64,

@@ -34,7 +34,7 @@ use r10_volume::{count, last_file, next_block};
 use std::alloc::{AllocError, Global};
 
 /// How a channel of a recorder is.
-#[derive(Clone, Copy, Debug, PartialEq, Eq)]
+#[derive(Clone, Copy)]
 pub struct LaneStatus {
     pub channel: u16,
     /// The messages that its lane holds.

@@ -12,7 +12,7 @@ use r10_packet_rules::FirstFault;
 use thiserror::Error;
 
 /// A file wasn't read.
-#[derive(Clone, Copy, Debug, PartialEq, Eq, Drop, Error)]
+#[derive(Clone, Copy, Debug, Drop, Error)]
 pub enum ReadRefusal {
     /// No file has this number.
     #[error("no file has this number")]

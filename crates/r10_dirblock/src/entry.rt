@@ -8,7 +8,7 @@ use r10_count::Civil;
 
 /// A file as a directory block lists it (IRIG 106-17, chapter 10): each field as it stands, so that
 /// an entry of another recorder is written again byte for byte.
-#[derive(Clone, Copy, Debug, PartialEq, Eq)]
+#[derive(Clone, Copy, PartialEq, Eq)]
 pub struct Entry {
     /// padded with zero bytes; another recorder may pad with spaces
     pub name: [u8; 56],

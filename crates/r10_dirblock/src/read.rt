@@ -10,7 +10,7 @@ use crate::{DirBlock, Entries, Entry};
 use thiserror::Error;
 
 /// What is wrong in a directory block, in the order in which it is looked for.
-#[derive(Clone, Copy, Debug, PartialEq, Eq, Error)]
+#[derive(Clone, Copy, Debug, Error)]
 pub enum DirFault {
     /// It does not begin with the format's name.
     #[error("the block does not begin with FORTYtwo")]

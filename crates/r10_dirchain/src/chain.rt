@@ -15,7 +15,7 @@ pub struct ChainBlock {
 }
 
 /// A file and the number of the directory block that lists it.
-#[derive(Clone, Copy, Debug, PartialEq, Eq)]
+#[derive(Clone, Copy)]
 pub struct ListedFile {
     pub entry: Entry,
     pub number: u64,

@@ -18,7 +18,7 @@ use r10_medium::BlockMedium;
 use thiserror::Error;
 
 /// Why a medium was not formatted.
-#[derive(Clone, Copy, Debug, PartialEq, Eq, Drop, Error)]
+#[derive(Clone, Copy, Debug, Drop, Error)]
 pub enum FormatError {
     /// The volume's name is not 1 to 32 letters, digits, `.`, `_` or `-`.
     #[error("the volume's name is not 1 to 32 letters, digits, '.', '_' or '-'")]

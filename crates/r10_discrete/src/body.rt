@@ -15,7 +15,7 @@ use std::alloc::{AllocError, Global};
 /// The body of a discrete packet: the channel specific data word, and one entry for each change of
 /// the states.
 /// Source: IRIG 106-17 chapter 11, discrete data packets, format 1.
-#[derive(Debug, Drop, PartialEq, Eq)]
+#[derive(Drop)]
 pub struct DiscreteBody {
     /// How many discretes the channel has, 1 to 31.
     pub bits: u8,

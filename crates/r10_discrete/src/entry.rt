@@ -8,7 +8,7 @@ use r10_count::{BodyEntry, Count, append_all, split_u32};
 use std::alloc::{AllocError, Global};
 
 /// The states of a channel's discretes with their time.
-#[derive(Clone, Copy, Debug, PartialEq, Eq)]
+#[derive(Clone, Copy)]
 pub struct DiscreteEntry {
     /// The count at which they came, in units of 100 ns.
     pub count: Count,

@@ -2,7 +2,7 @@
 
 /// How the sending end of a channel's lane is.
 #[repr(C)]
-#[derive(Clone, Copy, Debug, PartialEq, Eq)]
+#[derive(Clone, Copy)]
 pub struct PortOut {
     /// the messages that it accepted, up to 2^64 - 1
     pub accepted: u64,

@@ -19,7 +19,7 @@ use std::alloc::{AllocError, Global};
 use std::collections::HashMap;
 
 /// What is kept of a channel that has packets.
-#[derive(Clone, Copy, PartialEq, Eq)]
+#[derive(Clone, Copy)]
 pub(crate) struct ChannelTrack {
     /// The data type of its packets.
     data_type: u8,

@@ -13,7 +13,7 @@ use r10_count::{Civil, Count};
 use r10_packet_rules::{Facts, PacketKind};
 
 /// What a time packet says.
-#[derive(Clone, Copy, Debug, PartialEq, Eq)]
+#[derive(Clone, Copy)]
 pub struct TimeMark {
     /// Its counter.
     pub count: Count,

@@ -44,7 +44,7 @@ impl GaugeKind for Levels {
 
 /// How many messages a lane's sender sent and lost, each up to `u64::MAX`, and how many of those that it sent were not taken yet
 /// when it last looked.
-#[derive(Clone, Copy, Debug, Default, PartialEq, Eq)]
+#[derive(Clone, Copy, Default)]
 pub struct Level {
     pub sent: u64,
     pub lost: u64,

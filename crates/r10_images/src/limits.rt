@@ -8,7 +8,7 @@ use r10_count::is_volume;
 use thiserror::Error;
 
 /// What of a medium to be formatted is out of its limits.
-#[derive(Clone, Copy, Debug, PartialEq, Eq, Drop, Error)]
+#[derive(Clone, Copy, Debug, Drop, Error)]
 pub enum Limit {
     /// The number of blocks.
     #[error("a medium has 2 blocks more than its directory at least, and 16777216 at most")]

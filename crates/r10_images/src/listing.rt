@@ -20,7 +20,7 @@ use std::io;
 use std::io::{BufWriter, ErrorKind, Read, Write};
 
 /// How a command over an image ended.
-#[derive(Clone, Copy, Debug, PartialEq, Eq, Drop)]
+#[derive(Clone, Copy, Drop)]
 pub enum Outcome {
     /// It did its work.
     Done,

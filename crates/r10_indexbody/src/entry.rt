@@ -8,7 +8,7 @@ use r10_count::{BodyEntry, Count, append_all, split_u32, split_u64};
 use std::alloc::{AllocError, Global};
 
 /// What a node says of a packet.
-#[derive(Clone, Copy, Debug, PartialEq, Eq)]
+#[derive(Clone, Copy)]
 pub struct NodeEntry {
     /// The counter of its header, in units of 100 ns.
     pub counter: Count,
@@ -21,7 +21,7 @@ pub struct NodeEntry {
 }
 
 /// What a root says of a node, or of a root.
-#[derive(Clone, Copy, Debug, PartialEq, Eq)]
+#[derive(Clone, Copy)]
 pub struct RootEntry {
     /// The counter of its header, in units of 100 ns.
     pub counter: Count,

@@ -13,7 +13,7 @@ const MARK: u32 = 0x5353_4F4C;
 
 /// The body of a loss report: the channel specific data word, four letters, and of which channel how many messages were
 /// refused because its lane was full. That such a packet has the data type 0x00 is this recorder's own choice.
-#[derive(Clone, Copy, Debug, PartialEq, Eq)]
+#[derive(Clone, Copy, PartialEq, Eq)]
 pub struct LossBody {
     /// The channel ID.
     pub channel: u16,

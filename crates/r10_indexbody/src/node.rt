@@ -15,7 +15,7 @@ use std::alloc::{AllocError, Global};
 /// The body of a node packet: the channel specific data word with the number of entries, and the
 /// entries.
 /// Source: IRIG 106-17 chapter 11, recording index packets.
-#[derive(Debug, Drop, PartialEq, Eq)]
+#[derive(Drop)]
 pub struct NodeBody {
     pub entries: Items<NodeEntry>,
 }

@@ -1,7 +1,7 @@
 //! Where a file stands.
 
 /// Where a file stands on a medium.
-#[derive(Clone, Copy, Debug, PartialEq, Eq)]
+#[derive(Clone, Copy)]
 pub struct Extent {
     /// The number of its first block.
     pub first: usize,

@@ -8,12 +8,12 @@ ghost use Rattle.r10_judge.specs.Judgements.{IsJudged};
 ghost use Rattle.r10_judge.specs.Walks.{IsWalked};
 
 use crate::extent::Extent;
-use crate::window::{Walked, walk_bytes, walk_file};
+use crate::window::{Walked, walk_file};
 use r10_blockout::ReadFault;
 use r10_file_rules::Tracks;
 use r10_medium::BlockMedium;
 use r10_packet_rules::FirstFault;
-use std::alloc::{AllocError, Global};
+use std::alloc::Global;
 
 /// What a file is under its directory entry.
 #[derive(Drop)]
@@ -43,16 +43,6 @@ pub fn judge_file<M: BlockMedium>(
     match walk_file(alloc, medium, extent, closed, buffer) {
         Ok(walked) => Ok(judgement_of(walked)),
         Err(fault) => Err(fault),
-    }
-}
-
-/// Judges a file that stands in memory, and whose directory entry is closed or not.
-pub fn judge_bytes(alloc: Global, bytes: &[u8], closed: bool) -> Result<Judgement, AllocError>
-    ensures { IfOk result (IsJudged bytes.now closed) }
-{
-    match walk_bytes(alloc, bytes, closed) {
-        Ok(walked) => Ok(judgement_of(walked)),
-        Err(error) => Err(error),
     }
 }
 

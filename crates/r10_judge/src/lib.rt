@@ -11,7 +11,7 @@ mod window;
 
 pub use extent::Extent;
 pub use judge::Judge;
-pub use judgement::{Judgement, judge_bytes, judge_file};
+pub use judgement::{Judgement, judge_file};
 pub use laws::{fault_or_strict, next_packet, one_first_fault};
 pub use r10_file_rules::Tracks;
 pub use walk::Walk;

@@ -19,7 +19,7 @@ pub struct Walk {
 }
 
 /// What is taken of some bytes.
-#[derive(Clone, Copy, PartialEq, Eq)]
+#[derive(Clone, Copy)]
 pub(crate) struct Taken {
     /// How many bytes the packets have.
     pub length: usize,

@@ -14,7 +14,7 @@ use std::alloc::{AllocError, Global};
 /// The body of a message data packet: the channel specific data word with the number of messages, and one entry for
 /// each message.
 /// Source: IRIG 106-17 chapter 11, message data packets, format 0.
-#[derive(Debug, Drop, PartialEq, Eq)]
+#[derive(Drop)]
 pub struct MessageBody {
     pub entries: Items<MessageEntry>,
 }

@@ -9,7 +9,7 @@ use r10_count::{BodyEntry, Bytes, Count, append_text, split_u32, strip_padding};
 use std::alloc::{AllocError, Global};
 
 /// A message with its time.
-#[derive(Debug, Drop, PartialEq, Eq)]
+#[derive(Drop)]
 pub struct MessageEntry {
     /// The count of its first data, in units of 100 ns.
     pub count: Count,

@@ -6,7 +6,7 @@ ghost use Rattle.r10_message.specs.Message.{FitsHeader, header_bits};
 /// The parts of an intra-packet data header of 32 bits: the data error is bit 31, the format error bit 30, the subchannel has
 /// bits 29 to 16, and the length bits 15 to 0.
 /// Source: IRIG 106-17 chapter 11, message data packets, format 0.
-#[derive(Clone, Copy, Debug, PartialEq, Eq)]
+#[derive(Clone, Copy)]
 pub struct MessageHeader {
     /// A data error came in the message.
     pub data_error: bool,

@@ -16,7 +16,7 @@ pub enum BeginFault {
 }
 
 /// Why a sample or an event was not taken in.
-#[derive(Clone, Copy, Debug, PartialEq, Eq, Error)]
+#[derive(Clone, Copy, Debug, Error)]
 pub enum TakeFault {
     /// There is no memory for it, and the file is as it was.
     #[error("out of memory")]
@@ -27,7 +27,7 @@ pub enum TakeFault {
 }
 
 /// What an entry has no room in.
-#[derive(Clone, Copy, Debug, PartialEq, Eq)]
+#[derive(Clone, Copy, Debug)]
 pub enum Full {
     /// The file's part of the medium: the file with the entry would cost more.
     Medium,

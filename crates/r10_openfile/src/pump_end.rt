@@ -5,7 +5,7 @@ use r10_mux::Full;
 use thiserror::Error;
 
 /// Why a pump moved nothing, or could not go on.
-#[derive(Clone, Copy, Debug, PartialEq, Eq, Error)]
+#[derive(Clone, Copy, Debug, Error)]
 pub enum PumpStop {
     /// The first sample has no room. It waits on, and nothing has changed.
     #[error("the medium has no room for the first sample that waits")]
@@ -16,7 +16,7 @@ pub enum PumpStop {
 }
 
 /// What a lane shows first, before it is taken.
-#[derive(Clone, Copy, PartialEq, Eq)]
+#[derive(Clone, Copy)]
 pub(crate) enum Next {
     /// Nothing waits.
     Nothing,
@@ -27,7 +27,7 @@ pub(crate) enum Next {
 }
 
 /// How many samples were moved, and what the next one has no room in, where that ended it.
-#[derive(Clone, Copy, PartialEq, Eq)]
+#[derive(Clone, Copy)]
 pub(crate) struct Moved {
     pub number: usize,
     pub full: Option<Full>,
@@ -35,7 +35,7 @@ pub(crate) struct Moved {
 
 /// How many samples of a channel were moved and how many are left, and what the next one has no room in,
 /// where that ended it.
-#[derive(Clone, Copy, PartialEq, Eq)]
+#[derive(Clone, Copy)]
 pub(crate) struct Share {
     pub number: usize,
     pub left: usize,

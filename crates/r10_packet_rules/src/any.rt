@@ -15,7 +15,7 @@ use r10_body::{FileFault, is_opaque};
 use r10_packet::{DataSum, Header, Packet};
 
 /// A packet that any recorder may have written.
-#[derive(Clone, Copy, Debug, PartialEq, Eq)]
+#[derive(Clone, Copy)]
 pub struct AnyPacket {
     pub packet: ForeignPacket,
     /// What its strict reading finds.

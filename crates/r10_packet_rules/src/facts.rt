@@ -4,7 +4,7 @@ use r10_count::{Civil, Count};
 use r10_indexbody::LossBody;
 
 /// What a packet carries, as far as the rules of a file ask.
-#[derive(Clone, Copy, Debug, PartialEq, Eq)]
+#[derive(Clone, Copy)]
 pub enum PacketKind {
     Setup,
     Time {
@@ -29,7 +29,7 @@ pub enum PacketKind {
 }
 
 /// The counts of a packet's entries, of which there is one at least.
-#[derive(Clone, Copy, Debug, PartialEq, Eq)]
+#[derive(Clone, Copy)]
 pub struct Spread {
     pub first: Count,
     pub last: Count,
@@ -39,7 +39,7 @@ pub struct Spread {
 }
 
 /// What a packet of this recorder says to the rules of a file.
-#[derive(Clone, Copy, Debug, PartialEq, Eq)]
+#[derive(Clone, Copy)]
 pub struct Facts {
     /// The channel ID.
     pub channel: u16,

@@ -18,7 +18,7 @@ pub struct FirstFault {
 }
 
 /// How far a file is judged: all packets so far are ones that any recorder may have written.
-#[derive(Clone, Copy, Debug, PartialEq, Eq)]
+#[derive(Clone, Copy)]
 pub struct ForeignTrack {
     /// How many bytes they have.
     pub offset: u64,

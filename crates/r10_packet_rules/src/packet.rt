@@ -10,7 +10,7 @@ use r10_body::{FileFault, is_opaque};
 use r10_packet::{DataSum, Packet, PacketFault};
 
 /// A packet that any recorder may have written.
-#[derive(Clone, Copy, Debug, PartialEq, Eq)]
+#[derive(Clone, Copy)]
 pub struct ForeignPacket {
     /// It is separated from the next one, and passed over unread.
     pub opaque: bool,

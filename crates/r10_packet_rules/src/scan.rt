@@ -12,7 +12,7 @@ use r10_body::ChannelEntry;
 use r10_count::{Count, split_u32};
 
 /// What an entry comes to.
-#[derive(Clone, Copy, PartialEq, Eq)]
+#[derive(Clone, Copy)]
 pub(crate) struct Glimpse {
     pub(crate) count: Count,
     /// What it costs in a file.

@@ -17,7 +17,7 @@ use r10_packet::{
 };
 
 /// What the strict reading of the packet that stands first finds.
-#[derive(Clone, Copy, Debug, PartialEq, Eq)]
+#[derive(Clone, Copy)]
 pub enum StrictReading {
     /// A packet of this recorder's.
     Strict(Facts),

@@ -7,7 +7,7 @@ use crate::facts::Spread;
 use r10_count::Count;
 
 /// What entries come to, one by one.
-#[derive(Clone, Copy, PartialEq, Eq)]
+#[derive(Clone, Copy)]
 pub(crate) struct EntryTally {
     /// How many there are.
     pub(crate) entries: usize,

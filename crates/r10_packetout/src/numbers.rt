@@ -5,7 +5,7 @@ ghost use Rattle.r10_packetout.specs.Numbers.{next_of};
 ghost use Rattle.r10_packetout.specs.Places.{IsPlace};
 
 /// A channel, and the sequence number of its next packet.
-#[derive(Clone, Copy, PartialEq, Eq)]
+#[derive(Clone, Copy)]
 pub(crate) struct Number {
     pub(crate) channel: u16,
     pub(crate) next: u8,

@@ -1,7 +1,7 @@
 //! What is asked for, and why it isn't given.
 
 /// The entries of an image's file that are asked for.
-#[derive(Clone, Copy, Debug, PartialEq, Eq)]
+#[derive(Clone, Copy)]
 pub struct Selection {
     /// The file's number, from 0.
     pub file: usize,
@@ -14,7 +14,7 @@ pub struct Selection {
 }
 
 /// Why entries are refused.
-#[derive(Clone, Copy, PartialEq, Eq, Drop)]
+#[derive(Clone, Copy, Drop)]
 pub(crate) enum PlayRefusal {
     /// A count doesn't fit 48 bits.
     CountRange,
@@ -27,7 +27,7 @@ pub(crate) enum PlayRefusal {
 }
 
 /// Why there are no entries.
-#[derive(Clone, Copy, PartialEq, Eq, Drop)]
+#[derive(Clone, Copy, Drop)]
 pub(crate) enum PlayFault {
     /// The image refuses them.
     Refused(PlayRefusal),

@@ -21,7 +21,7 @@ use std::snapshot::Snapshot;
 
 /// An operation, without the bytes of a write.
 #[repr(C)]
-#[derive(Clone, Copy, Debug, PartialEq, Eq)]
+#[derive(Clone, Copy)]
 pub struct OrderOut {
     /// which block is written
     pub block: usize,
@@ -31,7 +31,7 @@ pub struct OrderOut {
 
 /// Operations that a disk may do at once, without the bytes of their writes.
 #[repr(C)]
-#[derive(Clone, Copy, Debug, PartialEq, Eq)]
+#[derive(Clone, Copy)]
 pub struct RunOut {
     /// which block is written first
     pub block: usize,
@@ -82,7 +82,7 @@ impl Drop for Orders {
 
 /// How many operations wait, and how many have a place.
 #[repr(C)]
-#[derive(Clone, Copy, Debug, PartialEq, Eq)]
+#[derive(Clone, Copy)]
 pub struct QueueOut {
     /// how many wait in the ring in hand
     pub waiting: usize,

@@ -4,7 +4,7 @@ use r10_packet_rules::FirstFault;
 use thiserror::Error;
 
 /// Why a last file that was left open isn't closed.
-#[derive(Clone, Copy, Debug, PartialEq, Eq, Drop, Error)]
+#[derive(Clone, Copy, Debug, Drop, Error)]
 pub enum SealFault {
     /// It is not strict: the first fault of its bytes.
     #[error("{0}")]

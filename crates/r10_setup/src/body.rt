@@ -17,7 +17,7 @@ pub const LONGEST_TEXT: usize = LONGEST_BODY - 4;
 
 /// The body of a setup packet: the channel specific data word, and the setup text as it is.
 /// Source: IRIG 106-17 chapter 11, computer-generated data packets, format 1.
-#[derive(Clone, Copy, Debug, PartialEq, Eq)]
+#[derive(Clone, Copy)]
 pub struct SetupBody<'a> {
     /// The setup text.
     pub text: &'a [u8],

@@ -14,7 +14,7 @@ use r10_medium::BlockMedium;
 use std::alloc::Global;
 
 /// Why a session is not ended as one whose recorder failed.
-#[derive(Clone, Copy, Debug, PartialEq, Eq)]
+#[derive(Clone, Copy)]
 pub enum NotEnded {
     /// The recorder did not fail: `end_session` ends such a session.
     Works,

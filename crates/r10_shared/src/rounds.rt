@@ -10,7 +10,7 @@ use r10_body::Refusal;
 use std::sync::Wait;
 
 /// What came of a turn of the writer.
-#[derive(Clone, Copy, Debug, PartialEq, Eq)]
+#[derive(Clone, Copy)]
 pub enum Turn {
     Moved,
     Idle,
@@ -18,7 +18,7 @@ pub enum Turn {
 }
 
 /// What came of a round, and whether it committed.
-#[derive(Clone, Copy, Debug, PartialEq, Eq)]
+#[derive(Clone, Copy)]
 pub struct Round {
     pub turn: Turn,
     pub committed: bool,

@@ -19,7 +19,7 @@ use std::thread;
 pub type AnySource = Box<dyn ChannelSource + Send>;
 
 /// How many messages of a source its port accepted and refused, up to `u64::MAX`, where each stays.
-#[derive(Clone, Copy, Debug, Default, PartialEq, Eq)]
+#[derive(Clone, Copy, Default)]
 pub struct Tally {
     pub accepted: u64,
     pub refused: u64,

@@ -63,7 +63,7 @@ pub trait Watching<T> {
 }
 
 /// What a look came to: so many commits were made then, and whether the reader goes on.
-#[derive(Clone, Copy, PartialEq, Eq)]
+#[derive(Clone, Copy)]
 pub(crate) struct Looked {
     shown: u64,
     on: bool,

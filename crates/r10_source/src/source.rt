@@ -17,7 +17,7 @@ pub enum SourceItem {
 }
 
 /// What a source gives in one turn.
-#[derive(Debug, Drop, PartialEq, Eq)]
+#[derive(Drop)]
 pub enum Given {
     /// The next message, with its count.
     Item(Count, Message),

@@ -15,7 +15,7 @@ use std::alloc::AllocError;
 
 /// The body of a time packet: the channel specific data word, and one civil time as packed decimal
 /// digits, with month and year. Source: IRIG 106-17 chapter 11, time data packets, format 1.
-#[derive(Clone, Copy, Debug, PartialEq, Eq)]
+#[derive(Clone, Copy)]
 pub struct TimeBody {
     /// The time of the packet's counter.
     pub civil: Civil,

@@ -13,7 +13,7 @@ use std::alloc::{AllocError, Global};
 
 /// The body of a UART packet: the channel specific data word, and one entry for each message.
 /// Source: IRIG 106-17 chapter 11, UART data packets, format 0.
-#[derive(Debug, Drop, PartialEq, Eq)]
+#[derive(Drop)]
 pub struct UartBody {
     pub entries: Items<UartEntry>,
 }

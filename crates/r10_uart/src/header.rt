@@ -7,7 +7,7 @@ ghost use Rattle.r10_uart.specs.declared.header.UartHeader.{UartHeader as UartHe
 /// The parts of an intra-packet data header of 32 bits: the parity error is bit 31, bit 30 must be 0, the subchannel has bits
 /// 29 to 16, and the length bits 15 to 0.
 /// Source: IRIG 106-17 chapter 11, UART data packets, format 0.
-#[derive(Clone, Copy, Debug, PartialEq, Eq)]
+#[derive(Clone, Copy)]
 pub struct UartHeader {
     /// A parity error came in the message.
     pub parity: bool,
