@@ -12,6 +12,7 @@
 #include <string.h>
 #include <time.h>
 
+#include "measured.h"
 #include "r10.h"
 #include "r10_posix.h"
 
@@ -27,19 +28,6 @@ static char script[512];
 static run *runs;
 static size_t run_count, run_room, syncs, written;
 static unsigned long most_own, most_rings;
-
-static void must(const char *what, uint32_t number) {
-    if (number != R10_OK) {
-        printf("%s: refused %u, %s\n", what, number, r10_strerror(number));
-        exit(1);
-    }
-}
-
-static double seconds(void) {
-    struct timespec now;
-    clock_gettime(CLOCK_MONOTONIC, &now);
-    return (double)now.tv_sec + (double)now.tv_nsec / 1e9;
-}
 
 static void note(uint32_t block, uint32_t blocks) {
     if (run_count == run_room) {

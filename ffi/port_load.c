@@ -14,6 +14,7 @@
 #include <string.h>
 #include <time.h>
 
+#include "measured.h"
 #include "r10.h"
 
 enum { FEEDS = 4, FIRST = 3, CAPACITY = 1000, ROOM = 1024, COST = 124, MOST_BLOCKS = 1 << 24, COMMITS = 50, LOOKS = 1000, ROUNDS = 16 };
@@ -34,19 +35,6 @@ static r10 recorder;
 static feed feeds[FEEDS];
 static uint8_t buffer[512 * 128];
 static char script[2048];
-
-static void must(const char *what, uint32_t number) {
-    if (number != R10_OK) {
-        printf("%s: refused %u, %s\n", what, number, r10_strerror(number));
-        exit(1);
-    }
-}
-
-static double seconds(void) {
-    struct timespec now;
-    clock_gettime(CLOCK_MONOTONIC, &now);
-    return (double)now.tv_sec + (double)now.tv_nsec / 1e9;
-}
 
 static void offer(feed *it, uint64_t n) {
     static const uint8_t bytes[65535];
