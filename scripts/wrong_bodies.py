@@ -132,18 +132,47 @@ def homes_of(texts: dict[str, str]) -> dict[str, str]:
     return {it['name']: file for file, text in texts.items() if file.endswith('.rt') for it in TYPE.finditer(blanked(text))}
 
 
+def enclosed(text: str) -> tuple[str, str]:
+    """What stands between the angle brackets that the text begins with, and what stands after them."""
+    depth = 0
+    for place, sign in enumerate(text):
+        depth += {'<': 1, '>': -1}.get(sign, 0)
+        if not depth:
+            return text[1:place], text[place + 1:]
+    return text, ''
+
+
+def arguments_of(text: str) -> list[str]:
+    """What stands between the commas of a list of types, by the first word of each."""
+    while '<' in text:
+        at = text.index('<')
+        text = text[:at] + enclosed(text[at:])[1]
+    return [it.split(':')[0].split()[-1] for it in text.split(',') if it.split(':')[0].split()]
+
+
+def with_arguments(rest: str) -> str:
+    """What is added to the name of a block's type: its arguments, if one of them is no parameter of the block."""
+    mine, rest = enclosed(rest) if rest.startswith('<') else ('', rest)
+    if '<' not in rest:
+        return ''
+    given = arguments_of(enclosed(rest[rest.index('<'):])[0])
+    return '' if set(given) <= set(arguments_of(mine)) else ''.join('+' + it for it in given)
+
+
 def functions_of(file: str, text: str, homes: dict[str, str]) -> list[Function]:
     """The functions of a source file that have a body."""
     code, made = blanked(text), []
     blocks = []
     for head in HEAD.finditer(code):
         rest = re.sub(r'<[^<>]*(?:<[^<>]*(?:<[^<>]*>[^<>]*)*>[^<>]*)*>', '', head['rest']).split(' where ')[0]
+        more = ''
         if ' for ' in rest:
             trait, kind = rest.split(' for ')
             owner = kind.split()[0].split('::')[-1] + trait.split()[-1].split('::')[-1]
         else:
             owner = rest.split()[0].split('::')[-1].rstrip(':') if rest.split() else ''
-        blocks.append((head.end() - 1, end_of(code, head.end() - 1), owner))
+            more = with_arguments(head['rest'].split(' where ')[0].strip()) if head['kind'] == 'impl' else ''
+        blocks.append((head.end() - 1, end_of(code, head.end() - 1), owner, more))
     for it in FUNCTION.finditer(code):
         depth, place, body = 0, it.end(), -1
         while place < len(code):
@@ -163,8 +192,10 @@ def functions_of(file: str, text: str, homes: dict[str, str]) -> list[Function]:
             place += 1
         if body < 0:
             continue
-        owner = next((owner for start, end, owner in blocks if start < it.start() < end), '')
-        made.append(Function(file, it['name'], owner, it.start(), body, end_of(code, body), homes.get(owner, '')))
+        owner, more = next(((owner, more) for start, end, owner, more in blocks if start < it.start() < end), ('', ''))
+        # (a block for some arguments of its type has the module of its own file)
+        home = '' if more else homes.get(owner, '')
+        made.append(Function(file, it['name'], owner + more, it.start(), body, end_of(code, body), home))
     return made
 
 

@@ -178,6 +178,16 @@ homes = wrong_bodies.homes_of(texts)
 print(*[it.said() for it in wrong_bodies.functions_of("src/reading.rt", texts["src/reading.rt"], homes)])')
 check "a function has the module of its type in its name, whatever file it stands in" is "$named" "kept::Kept::read"
 
+given=$(cd "$tree/scripts" && python3 -B -c '
+import wrong_bodies
+texts = {"src/kept.rt": "pub struct Kept<M> {\n}\n",
+         "src/reading.rt": "impl<M: Medium<u8>> Kept<Block, M> {\n    fn read(&self) -> u8 {\n        0\n    }\n}\n\n"
+                           "impl<M: Medium<u8>, L> Kept<M, L> {\n    fn find(&self) -> u8 {\n        0\n    }\n}\n"}
+homes = wrong_bodies.homes_of(texts)
+print(*[it.said() for it in wrong_bodies.functions_of("src/reading.rt", texts["src/reading.rt"], homes)])')
+check "one for some arguments of its type has them there, and the module of its file" is "$given" \
+    "reading::Kept+Block+M::read kept::Kept::find"
+
 found=$(cd "$tree/scripts" && python3 -B -c '
 import wrong_bodies
 text = "const WORDS: &str =\n    \"one of: {,\\\n    \\\"two\";\n\nfn read() -> u8 {\n    0\n}\n"
