@@ -41,6 +41,8 @@ leaves_medium (events.Offer channel count message) = true
 leaves_medium (events.Lose channel lost) = true
 leaves_medium (events.Next id) = true
 leaves_medium (events.Close id) = true
+leaves_medium events.Files = true
+leaves_medium events.Status = true
 leaves_medium event = false
 
 -- its medium is the one that it was

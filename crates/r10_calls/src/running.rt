@@ -60,6 +60,11 @@ pub(crate) fn leaves_medium(event: &Event) -> bool
 {
     matches!(
         event,
-        Event::Offer { .. } | Event::Lose { .. } | Event::Next { .. } | Event::Close { .. }
+        Event::Offer { .. }
+            | Event::Lose { .. }
+            | Event::Next { .. }
+            | Event::Close { .. }
+            | Event::Files
+            | Event::Status
     )
 }

@@ -242,6 +242,8 @@ leaves_all {M} disk old event new leaves = by event leaves
     by (events.Event number count) left = same_medium left
     by events.Commit left = same_medium left
     by events.Stop left = same_medium left
+    by events.Files (kept, same) = same_medium (same_kept old.kept new.kept kept, same)
+    by events.Status (kept, same) = same_medium (same_kept old.kept new.kept kept, same)
     by event (kept, same) = (same_kept old.kept new.kept kept, same)
 
 -- an offer lacks nothing

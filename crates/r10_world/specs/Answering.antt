@@ -101,13 +101,15 @@ MayLack disk old slots (CountAt file parts) new r = EitherOr (IsReadFileRefusal 
 
 -- ---- what a refusal leaves
 
--- What is kept, and of the medium what is read and what a stop leaves. A call that puts into the file that is recorded leaves the medium itself, and what is kept but for memory that it asked for in that file.
+-- What is kept, and of the medium what is read and what a stop leaves. A call that puts into the file that is recorded leaves the medium itself, and what is kept but for memory that it asked for in that file. A list of files and a status leave the medium itself.
 abbrev pub LeavesAll : {M : Type 0} → (M → Disk) → RecorderState M Lane → EventValue → RecorderState M Lane → Type 0
 LeavesAll disk old (Tick count parts) new = IsSameKept old.kept new.kept × (new.medium ≡ old.medium)
 LeavesAll disk old (Pump channel most) new = IsSameKept old.kept new.kept × (new.medium ≡ old.medium)
 LeavesAll disk old (Event number count) new = IsSameKept old.kept new.kept × (new.medium ≡ old.medium)
 LeavesAll disk old Commit new = IsSameKept old.kept new.kept × (new.medium ≡ old.medium)
 LeavesAll disk old Stop new = IsSameKept old.kept new.kept × (new.medium ≡ old.medium)
+LeavesAll disk old Files new = (new.kept ≡ old.kept) × (new.medium ≡ old.medium)
+LeavesAll disk old Status new = (new.kept ≡ old.kept) × (new.medium ≡ old.medium)
 LeavesAll disk old event new = (new.kept ≡ old.kept) × Unchanged (disk old.medium) (disk new.medium)
 
 -- a call that only reads changes nothing on a medium that fails

@@ -30,7 +30,7 @@ returns-clause-answers g c = λ slots.
     matched _ _ _ (λ (x : Reply). AnswersSo disk old slots events.Files x old slots) (λ infos. replies.Files infos.items) call.result c.files_reply.result call.ensures.does.passed call.ensures.told call.ensures.does.refused
     (λ v is passed told. (passed, (told, refl, refl)))
     (λ r is refuses. refused_call disk (recorder_refusal old.kept events.Files) nothing_lacks old old slots events.Files r refuses refl refl (or_memory nothing_lacks) (λ none fails. absurd (failed_refuses old.kept.work none (ap (λ (k : Kept). k.work) fails)))
-    (λ lacks. tt) (λ left. left) tt (λ lanes. lanes))
+    (λ lacks. tt) (λ left. (left.0, refl)) tt (λ lanes. lanes))
     c.files_reply.ensures
 
 pub returns-clause-spares : goal.returns-clause-spares

@@ -27,7 +27,7 @@ returns-clause-answers g c = λ slots.
     let disk = g.M.BlockMedium.disk in
     told_apart _ _ (λ (x : Reply). AnswersSo disk old slots events.Status x old slots) (λ status. replies.Status status) call.result c.status_reply.result call.ensures.told call.ensures.refused
     (λ v told. (refl, (told, refl, refl)))
-    (λ r lacks. subst (λ (q : Refusal). AnswersSo disk old slots events.Status (replies.Refused q) old slots) (sym lacks) (record { cause = tt; leaves = (refl, unchanged (disk old.medium)); own = own_same old.kept old.kept (disk old.medium).blocks (disk old.medium).blocks refl refl; lanes = refl; cursors = refl }))
+    (λ r lacks. subst (λ (q : Refusal). AnswersSo disk old slots events.Status (replies.Refused q) old slots) (sym lacks) (record { cause = tt; leaves = (refl, refl); own = own_same old.kept old.kept (disk old.medium).blocks (disk old.medium).blocks refl refl; lanes = refl; cursors = refl }))
     c.status_reply.ensures
 
 pub returns-clause-spares : goal.returns-clause-spares
