@@ -187,8 +187,8 @@ SUMMARY_MORE = """Of each channel and type of data:
                   3+ if a loss has no report: it counts as one
   jumps           packets whose sequence number does not follow that of the
                   channel's packet before
-  opaque          packets that are not read: a secondary header, stamps of
-                  another clock, a type or a form of it that is not known
+  opaque          packets that are not read: stamps of another clock, a type
+                  or a form of it that is not known
   bad             packets that were passed over, where the header says of which
                   channel; in the row all every damaged stretch
   first, last     the lowest and highest count of its entries, or else of its

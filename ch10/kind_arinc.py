@@ -65,9 +65,9 @@ def rows(packet: Packet, states: Dict[int, int]) -> Rows:
 def ahead(octets: Any, begin: int, some: List[tuple]) -> Dict[int, Tuple[int, int, int]]:
     import numpy  # which is there where this is called
     known: Dict[int, Tuple[int, int, int]] = {}
-    for at, behind, word, counter in some:
+    for at, body, behind, word, counter in some:
         number = word & NUMBER
-        if number and at + 28 + 8 * number <= behind:
-            gaps = numpy.frombuffer(octets, '<u4', 2 * number, at + 28 - begin)[::2] & GAP
+        if number and body + 4 + 8 * number <= behind:
+            gaps = numpy.frombuffer(octets, '<u4', 2 * number, body + 4 - begin)[::2] & GAP
             known[at] = number, counter + int(gaps[0]), counter + int(gaps.sum(dtype=numpy.int64))
     return known

@@ -13,10 +13,14 @@ HEADER_WORDS = struct.Struct('<11H')
 ONE_WORD = struct.Struct('<I')
 MOST = 524288  # bytes of a packet but one of setup
 
-Packet = namedtuple('Packet', 'offset channel kind length sequence flags counter body word')
-Packet.__doc__ = """A packet: its offset, channel, type, length, sequence number, flags and counter, and its body with the word at \
-its
-front. The word is None where the packet is opaque: then the body is all that stands after the header."""
+SECOND = 12  # bytes of a secondary header
+SECOND_WORDS = struct.Struct('<6H')
+
+Packet = namedtuple('Packet', 'offset channel kind length sequence flags counter body word second')
+Packet.__new__.__defaults__ = (None,)
+Packet.__doc__ = """A packet: its offset, channel, type, length, sequence number, flags and counter, its body with the word at its
+front, and the 12 bytes of its secondary header, or None. The word is None where the packet is opaque: then the body is all that
+stands after the headers."""
 
 Stretch = namedtuple('Stretch', 'offset length why channel kind')
 Stretch.__doc__ = """Bytes that were passed over: from which offset on, how many, and why. Channel and type are those of the \
@@ -45,22 +49,40 @@ def packet_at(data: Data, at: int, begin: int, end: int, judged: bool = True, op
     whose = channel, kind, sequence, low | high << 32
     if at + length > end:
         raise Fault('less than its packet', here, length, whose)
-    word = None
-    if not flags & 0xC0 and (kind in KNOWN or kind == LOSS and size == 20 and data[at + 24:at + 32] == REPORT):
+    front, word, second = front_of(flags), None, None
+    fits = front + size <= length
+    if front > 24 and fits:
+        second = bytes(data[at + 24:at + front])
+        if judged and not is_second(second):
+            raise Fault('a wrong checksum of the secondary header', here, length, whose)
+    if not flags & 0x40 and fits and (kind in KNOWN or kind == LOSS and size == 20
+                                      and data[at + front:at + front + 8] == REPORT):
         if size < 4:
             raise Fault('a body without its word', here, length, whose)
-        word, = ONE_WORD.unpack_from(data, at + 24)
+        word, = ONE_WORD.unpack_from(data, at + front)
         if kind in FORMS and FORMS[kind](word, size):
             word = None
     if word is None:
-        if opaque and not summed and flags & 3 and not flags & 0x80 and 24 + size + WIDTHS[flags & 3] <= length:
-            need_sum(data, at, length, size, flags & 3, here, whose)
-        body = data[at + 24:at + length]
+        if opaque and not summed and flags & 3 and fits and front + size + WIDTHS[flags & 3] <= length:
+            need_sum(data, at, length, size, flags, here, whose)
+        body = data[at + (front if fits else 24):at + length]
     else:
         if judged and not summed and flags & 3:
-            need_sum(data, at, length, size, flags & 3, here, whose)
-        body = data[at + 24:at + 24 + size]
-    return Packet(here, channel, kind, length, sequence, flags, low | high << 32, body, word)
+            need_sum(data, at, length, size, flags, here, whose)
+        body = data[at + front:at + front + size]
+    return Packet(here, channel, kind, length, sequence, flags, low | high << 32, body, word, second)
+
+
+def front_of(flags: int) -> int:
+    """How many bytes stand before a packet's body: its header, and the secondary header that bit 7 of its flags says
+    (IRIG 106-17, 11.2.1.2)."""
+    return 24 + SECOND if flags & 0x80 else 24
+
+
+def is_second(second: bytes) -> bool:
+    """Whether the last of the six words of a secondary header is the sum of the others."""
+    words = SECOND_WORDS.unpack(second)
+    return sum(words[:5]) & 0xFFFF == words[5]
 
 
 def packets(data: Data, begin: int = 0, end: Optional[int] = None, judged: bool = True,
@@ -80,13 +102,14 @@ def packets(data: Data, begin: int = 0, end: Optional[int] = None, judged: bool 
         at += packet.length
 
 
-def need_sum(data: Data, at: int, length: int, size: int, check: int, here: int, whose: Optional[Whose]) -> None:
-    """That a data checksum of this kind has room, and is right."""
-    width = WIDTHS[check]
+def need_sum(data: Data, at: int, length: int, size: int, flags: int, here: int, whose: Optional[Whose]) -> None:
+    """That a data checksum of the kind that these flags say has room, and is right. It is the sum of all that stands between the
+    headers, the secondary one too, and itself."""
+    width, front = WIDTHS[flags & 3], front_of(flags)
     end = at + length - width
-    if at + 24 + size > end:
+    if at + front + size > end:
         raise Fault('no room for the checksum', here, length, whose)
-    words = struct.unpack_from('<%d%s' % ((end - at - 24) // width, SUMS[check]), data, at + 24)
+    words = struct.unpack_from('<%d%s' % ((end - at - front) // width, SUMS[flags & 3]), data, at + front)
     if sum(words) % 256 ** width != little(data, end, width):
         raise Fault('a wrong data checksum', here, length, whose)
 
@@ -123,10 +146,10 @@ def sum_of(data: Data, at: int) -> Optional[bool]:
     """Whether the data checksum of the packet with a right header at a place is right. None where it has none, or is not looked
     at."""
     _, _, length, size, _, _, flags, _, _, _, _ = HEADER.unpack_from(data, at)
-    if not flags & 3 or flags & 0x80:
+    if not flags & 3 or front_of(flags) + size > length:
         return None
     try:
-        need_sum(data, at, length, size, flags & 3, at, None)
+        need_sum(data, at, length, size, flags, at, None)
     except Fault:
         return False
     return True

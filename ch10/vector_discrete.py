@@ -6,6 +6,7 @@ from typing import List, Tuple
 import numpy
 
 from .buses import changed_bits
+from .kind_discrete import number_of, up
 from .standard import COUNT_BITS
 from .vector import Always, Block, Piece, Vector, hexes, padded
 from .walk import Array
@@ -19,15 +20,16 @@ def entries(vector: Vector, kind: int, packets: List[tuple]) -> Tuple[Block, Lis
     block.count = (found['stamp'] & COUNT_BITS).astype(numpy.int64)
     if not len(found):
         return block, []
-    states = found['states'].astype(numpy.int64)
+    values = found['states'].astype(numpy.int64)
+    states = values >> numpy.array([up(packet.word) for _, packet, _ in packets], numpy.int64)[block.of]
     first = numpy.cumsum(number) - number
     before = numpy.roll(states, 1)
     for place, (of, much) in enumerate(zip(packets, number.tolist())):
         if much:
             known = vector.ordered.states.get(of[0])
             before[first[place]] = states[first[place]] if known is None else known
-    block.columns.update(states=states, before=before,
-                         bits=numpy.array([packet.word >> 3 & 31 or 32 for _, packet, _ in packets], numpy.int64)[block.of])
+    block.columns.update(values=values, states=states, before=before,
+                         bits=numpy.array([number_of(packet.word) for _, packet, _ in packets], numpy.int64)[block.of])
     return block, []
 
 
@@ -39,7 +41,7 @@ def pieces(vector: Vector, kind: int, block: Block) -> List[Piece]:
     starts = numpy.arange(32, 32 * len(states) + 1, 32) - bits
     differ = (columns['before'] ^ states) & ((1 << bits) - 1)
     changed = [changes(vector, kind, place, differ, states) for place in range(4) if (differ >> 8 * place & 0xFF).any()]
-    return [vector.lost(kind, block, quote), hexes(states), Always(quote + joints[1] + quote),
+    return [vector.lost(kind, block, quote), hexes(columns['values']), Always(quote + joints[1] + quote),
             Piece(padded(pairs.reshape(-1), 32), starts, most, None if int(bits.min()) == most else bits),
             Always(quote + joints[2] + quote)] + changed + [Always(quote + joints[3] + b'\n')]
 

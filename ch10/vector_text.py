@@ -20,7 +20,10 @@ JSON_ESCAPES = {0x09: '\\\\t', 0x0D: '\\\\r', 0x0A: '\\\\n', 0x5C: '\\\\\\\\', 0
 
 
 def entries(vector: Vector, kind: int, packets: List[tuple]) -> Tuple[Block, List[tuple]]:
-    """The packets with an entry that is too long are left."""
+    """The packets with an entry that is too long, or without stamps, are left."""
+    if kind in walk.ALONE and any(walk.ALONE[kind](packet.word) for _, packet, _ in packets):
+        some = [one for one in packets if not walk.ALONE[kind](one[1].word)]
+        return vector.walked(kind, some, False)[1], [one for one in packets if walk.ALONE[kind](one[1].word)]
     data, block = vector.walked(kind, packets, False)
     octets = numpy.frombuffer(data, numpy.uint8)
     places = block.columns['place']

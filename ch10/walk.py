@@ -5,7 +5,7 @@ from typing import Any, Callable, Dict, List, Optional, Sequence, Set, Tuple
 
 from .bodies import counts
 from .kinds import by_type
-from .packets import FORMS, HEADER, Packet
+from .packets import FORMS, HEADER, Packet, front_of
 from .standard import COUNT_BITS, SYNC, WIDTHS, Data
 
 Array = Any  # of numpy
@@ -33,8 +33,10 @@ def is_ready(size: int) -> bool:
 # entries begin at even places; and those bits of a body's word that say how many there are.
 SHAPES: Dict[int, Tuple[int, int, bool]] = by_type('SHAPE')
 NUMBERS: Dict[int, Optional[int]] = by_type('NUMBER')
+# Of some types whether a word selects a form whose entries are found packet by packet.
+ALONE: Dict[int, Callable[[int], bool]] = by_type('is_alone')
 # Of some other types what finds number, lowest and highest count of the entries of some packets, by their places. Of each packet it
-# has the place, that of the end of the body, the word and the counter, and of the bytes the place that they begin at.
+# has the place, those of the body and of its end, the word and the counter, and of the bytes the place that they begin at.
 AHEADS: Dict[int, Callable[[Array, int, List[tuple]], Dict[int, Tuple[int, int, int]]]] = by_type('ahead')
 
 
@@ -152,12 +154,13 @@ class Ahead(Alone):
             sync, _, length, size, _, _, flags, kind, low, high, _ = HEADER.unpack_from(data, at)
             if sync != SYNC or length & 3 or 24 + size > length or at + length > self.end:
                 break
-            if flags & 3 and not flags & 0x80 and 24 + size + WIDTHS[flags & 3] <= length:
-                sums[flags & 3].append((at, at + length))
-            if not flags & 0xC0 and size >= 4 and (kind in SHAPES or kind in AHEADS):
-                word = int.from_bytes(data[at + 24:at + 28], 'little')
-                if kind not in FORMS or not FORMS[kind](word, size):
-                    kinds.setdefault(kind, []).append((at, at + 24 + size, word, low | high << 32))
+            front = front_of(flags)
+            if flags & 3 and front + size + WIDTHS[flags & 3] <= length:
+                sums[flags & 3].append((at, at + front, at + length))
+            if not flags & 0x40 and size >= 4 and front + size <= length and (kind in SHAPES or kind in AHEADS):
+                word = int.from_bytes(data[at + front:at + front + 4], 'little')
+                if (kind not in FORMS or not FORMS[kind](word, size)) and (kind not in ALONE or not ALONE[kind](word)):
+                    kinds.setdefault(kind, []).append((at, at + front, at + front + size, word, low | high << 32))
             at += length
         self.known, self.until, self.summed = {}, max(at, begin + 24), set()
         octets = numpy.frombuffer(data, numpy.uint8, at - begin, begin)
@@ -173,14 +176,15 @@ class Ahead(Alone):
     def sums(self, octets: Array, begin: int, width: int, ends: Array) -> None:
         """Takes note of those packets whose data checksum, of so many bytes, is right."""
         words = octets.view('<u%d' % width)
-        places = (ends - begin + (24, -width)) // width
+        places = (ends[:, 1:] - begin - (0, width)) // width
         found = numpy.add.reduceat(words, places.reshape(-1), dtype=words.dtype)[::2]
         found[places[:, 0] == places[:, 1]] = 0  # which has no word
         self.summed.update(ends[found == words[places[:, 1]], 0].tolist())
 
     def entries(self, octets: Array, begin: int, kind: int, some: List[tuple]) -> None:
-        places, number, bad = walk(octets, [at + 28 - begin for at, _, _, _ in some], [behind - begin for _, behind, _, _ in some],
-                                   [number_in(kind, word) for _, _, word, _ in some], kind)
+        places, number, bad = walk(octets, [body + 4 - begin for _, body, _, _, _ in some],
+                                   [behind - begin for _, _, behind, _, _ in some],
+                                   [number_in(kind, word) for _, _, _, word, _ in some], kind)
         has = numpy.flatnonzero((number > 0) & ~bad)
         if not len(places) or not len(has):
             return

@@ -167,7 +167,7 @@ def others() -> Tuple[object, object]:
     return (status, line, rows, len(entries), entries[0]['time'], entries[0]['text'], run(['setup'], data)[1].encode()), (
         0, '', {(0, 'setup'): (1, 0, 0, 0), (1, 'time'): (10, 0, 0, 0), (5, 'uart'): (40, 0, 0, 0), (20, 'pcm-09'): (40, 40, 0, 0),
                 (21, 'video-40'): (40, 40, 0, 0),
-                (22, 'ethernet-68'): (40, 40, 0, 0), (23, 'analog-21'): (40, 40, 0, 0), (24, 'uart'): (40, 40, 0, 0)}, 40,
+                (22, 'ethernet-68'): (40, 40, 0, 0), (23, 'analog-21'): (40, 40, 0, 0), (24, 'uart'): (40, 0, 0, 0)}, 40,
         '060 12:34:10.0000000', 'plain', SETUP_TEXT)
 
 

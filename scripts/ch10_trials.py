@@ -30,11 +30,13 @@ from concurrent.futures import ThreadPoolExecutor
 sys.dont_write_bytecode = True
 TOP = pathlib.Path(__file__).resolve().parent.parent
 sys.path.insert(0, str(TOP))
+sys.path.append(str(TOP / 'scripts' / 'trials'))
 
 from ch10 import command, inputs  # noqa: E402
 import ch10_damage  # noqa: E402
 import ch10_hostile  # noqa: E402
 import ch10_meanings  # noqa: E402
+import ch10_types  # noqa: E402
 import check_cases  # noqa: E402
 import judge_recording  # noqa: E402
 import made_kinds  # noqa: E402
@@ -549,9 +551,9 @@ def others_recordings():
                                packet(9, 3, 0x40, 2500, bytes(40))]),
            [(0, 'setup', 1, None, 0, 0), (1, 'time', 1, 1, 0, 0), (5, 'uart', 1, 1, 0, 0), (9, 'video-40', 1, None, 0, 1)],
            ['060 12:34:56.7800000', '060 12:34:56.7801000'])
-    yield (b''.join(opening + [packet(5, 0, 0x50, 2000, number(1 << 31, 4) + letters(2000, b'A'), flags=0x80, filler=bytes(14)),
+    yield (b''.join(opening + [packet(5, 0, 0x50, 2000, number(1 << 31, 4) + letters(2000, b'A'), flags=0x40),
                                packet(5, 1, 0x50, 2000, number(1 << 31, 4) + letters(2000, b'A'), flags=0x40),
-                               packet(5, 2, 0x50, 2000, number(0, 4) + letters(2000, b'A')),
+                               packet(5, 2, 0x50, 2000, number(1 << 31, 4) + letters(2000, b'A'), flags=0x40),
                                packet(5, 4, 0x50, 2010, number(1 << 31, 4) + letters(2010, b'A')),
                                packet(6, 0, 0x30, 2000, number(1 << 16 | 9, 4) + letters(2000, b'A')),
                                packet(0, 8, 0x03, 1000, number(1 << 30 | 1, 4) + bytes(24)),
@@ -572,7 +574,7 @@ def check():
     trials += [lambda it=it: compare_others(*it) for it in others_recordings()]
     trials += [lambda it=it: compare_verdict(*it) for it in check_cases.verdicts()]
     trials += [lambda it=it: agree(run(it[0], it[1])[::2], it[2:], str(it[0])) for it in calls()] + [compare_shell]
-    trials += [lambda it=it: agree(*it(), it.__name__) for it in ch10_meanings.TRIALS + ch10_hostile.TRIALS]
+    trials += [lambda it=it: agree(*it(), it.__name__) for it in ch10_meanings.TRIALS + ch10_hostile.TRIALS + ch10_types.TRIALS]
     trials += [lambda seed=seed: agree(ch10_damage.each_twentieth(seed), [], 'a bit in each twentieth packet') for seed in range(3)]
     trials += [lambda which=which: agree(ch10_damage.one_damaged(1, which)[1], [], 'damage') for which in range(20)]
     for trial in trials:

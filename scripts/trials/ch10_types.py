@@ -1,0 +1,208 @@
+"""Packets of each data type of IRIG 106-17, chapter 11, made from the standard's text, and what the filters have to say of them.
+
+The makers take nothing from the filters: numbers are put together bit by bit here. `scripts/ch10_trials.py check` runs the trials.
+Each function of TRIALS gives what was found and what is wanted.
+"""
+import csv
+import io
+import json
+import pathlib
+import sqlite3
+import struct
+import sys
+import tempfile
+from typing import Callable, Dict, Iterable, List, Optional, Sequence, Tuple
+
+from ch10 import command
+
+Found = Tuple[object, object]
+
+
+def run(words: Sequence[str], data: bytes) -> Tuple[int, bytes, str]:
+    """The status, the output and the line of a call."""
+    to = io.BytesIO()
+    status, line = command.answer(list(words), lambda: data, lambda: to)
+    return status, to.getvalue(), line or ''
+
+
+def cells(words: Sequence[str], data: bytes, *names: str) -> List[Tuple[str, ...]]:
+    """Those columns of the entries of `csv`."""
+    return [tuple(row[name] for name in names) for row in csv.DictReader(io.StringIO(run(['csv', *words], data)[1].decode()))]
+
+
+def summary_rows(data: bytes) -> Dict[Tuple[int, str], dict]:
+    """The rows of `summary --json` by channel and type."""
+    rows = (json.loads(line) for line in run(['summary', '--json'], data)[1].splitlines())
+    return {(row['channel'], row['type']): row for row in rows if 'packets' in row}
+
+
+# ---- packets (11.2.1)
+
+def word(value: int, size: int) -> bytes:
+    return bytes(value >> 8 * place & 0xFF for place in range(size))
+
+
+def sum_of(data: bytes, size: int) -> bytes:
+    """A sum of words of so many bytes."""
+    return word(sum(int.from_bytes(data[at:at + size], 'little') for at in range(0, len(data), size)), size)
+
+
+def second_header(time: bytes) -> bytes:
+    """A secondary header (11.2.1.2): a time of eight bytes, two reserved ones, and the sum of these five words."""
+    front = time + bytes(2)
+    return front + sum_of(front, 2)
+
+
+def packet(channel: int, kind: int, counter: int, body: bytes, sequence: int = 0, flags: int = 0, second: bytes = b'') -> bytes:
+    """A packet of version 8 with the least filler, and the data checksum that bits 1 and 0 of its flags say."""
+    width = (0, 1, 2, 4)[flags & 3]
+    filled = body + bytes(-(len(body) + width) % 4)
+    front = b'\x25\xeb' + word(channel, 2) + word(24 + len(second) + len(filled) + width, 4) + word(len(body), 4)
+    front += bytes((8, sequence, flags | (0x80 if second else 0), kind)) + word(counter, 6)
+    return front + sum_of(front, 2) + second + filled + (sum_of(filled, width) if width else b'')
+
+
+def opened(setup: bytes = b'G\\106:17;') -> List[bytes]:
+    """The setup (11.2.7.2) and the time (11.2.3, format 1, 2024-02-29 12:34:56.00 at the count 1000) of a recording."""
+    return [packet(0, 0x01, 1000, word(0x0C, 4) + setup),
+            packet(1, 0x11, 1000, word(0x201, 4) + word(0x5600, 2) + word(0x1234, 2) + word(0x0229, 2) + word(0x2024, 2))]
+
+
+# ---- UART (11.2.15)
+
+def uart_entry(text: bytes, parity: int = 0, sub: int = 0, stamp: Optional[int] = None) -> bytes:
+    """An entry: its stamp, where it has one, then length, subchannel and parity error, the bytes, and one more to an even number."""
+    front = b'' if stamp is None else word(stamp, 8)
+    return front + word(len(text), 2) + word(parity << 15 | sub, 2) + text + bytes(len(text) & 1)
+
+
+def uart_without_stamps() -> Found:
+    """Each entry of a packet whose bit 31 is clear is at the packet's counter, with its parity error, subchannel and bytes."""
+    data = b''.join(opened() + [
+        packet(5, 0x50, 2000, word(0, 4) + uart_entry(b'ABC', 0, 7) + uart_entry(b'', 1, 9) + uart_entry(b'"x"', 0, 0x3FFF)),
+        packet(5, 0x50, 3000, word(1 << 31, 4) + uart_entry(b'D', 0, 1, stamp=3005), 1),
+        packet(5, 0x50, 4000, word(0, 4) + uart_entry(bytes(600), 1, 2), 2, flags=2)])
+    row = summary_rows(data)[5, 'uart']
+    columns = 'count', 'time', 'value', 'text', 'sub', 'errors'
+    said = [json.loads(line) for line in run(['json', '--channel', '5'], data)[1].splitlines()]
+    late = cells(['--channel', '5', '--from', '2500'], data, 'count')
+    with tempfile.TemporaryDirectory() as folder:
+        path = str(pathlib.Path(folder, 'f.db'))
+        run(['sqlite', '--out', path], data)
+        base = sqlite3.connect(path)
+        stored = base.execute('SELECT count, value, sub, errors FROM uart ORDER BY rowid').fetchall()
+        base.close()
+    wanted = [('2000', '2024-02-29 12:34:56.0001000', '414243', 'ABC', '7', ''),
+              ('2000', '2024-02-29 12:34:56.0001000', '', '', '9', 'parity error'),
+              ('2000', '2024-02-29 12:34:56.0001000', '227822', '"x"', '16383', ''),
+              ('3005', '2024-02-29 12:34:56.0002005', '44', 'D', '1', ''),
+              ('4000', '2024-02-29 12:34:56.0003000', '00' * 600, '', '2', 'parity error')]
+    return ((row['entries'], row['opaque'], row['first'], row['last']), cells(['--channel', '5'], data, *columns),
+            [tuple(str(one[name]) for name in columns) for one in said], late, stored,
+            cells(['--raw', '--channel', '5'], data, 'value', 'sub', 'parity')), (
+        (5, 0, 2000, 4000), wanted, wanted, [('3005',), ('4000',)],
+        [(int(count), value, int(sub), errors) for count, _, value, _, sub, errors in wanted],
+        [(value, sub, '1' if errors else '0') for _, _, value, _, sub, errors in wanted])
+
+
+def uart_without_stamps_cut() -> Found:
+    """A length that leads over the body's end is a fault of that packet alone; so is less than a header."""
+    whole = uart_entry(b'AB') + uart_entry(b'CD')
+    found = []
+    for body in (whole[:-1], whole[:-6] + whole[-6:-4], word(4, 2)):
+        data = b''.join(opened() + [packet(5, 0x50, 2000, word(0, 4) + body), packet(5, 0x50, 2001, word(0, 4) + whole, 1)])
+        status, _, line = run(['csv', '--keep-going'], data)
+        found.append((status, cells(['--keep-going', '--channel', '5'], data, 'value'), line.count('less than its entries in a body')))
+    return found, [(1, [('4142',), ('4344',)], 1)] * 3
+
+
+# ---- secondary headers (11.2.1.2)
+
+STAMPED = (
+    (5, 0x50, word(1 << 31, 4) + uart_entry(b'ABC', 0, 7, stamp=2003)),
+    (6, 0x30, word(1, 4) + word(2004, 8) + word(2, 2) + word(1, 2) + b'xy'),
+    (7, 0x19, word(1, 4) + word(2005, 8) + word(0, 2) + word(80, 2) + word(6, 2) + word(0x2862, 2) + word(0x1111, 2)
+     + word(0x2222, 2)),
+    (8, 0x38, word(1, 4) + word(1 << 24, 4) + word(0x80000083, 4)),
+    (9, 0x29, word(8 << 3, 4) + word(2006, 8) + word(0x81, 4)),
+    (2, 0x02, word(1, 4) + word(2007, 8) + word(1 << 28 | 2 << 12 | 3, 4)),
+)
+
+
+def with_second(check: int, change: Callable[[bytes], bytes] = bytes) -> bytes:
+    """A packet of each kind that is read, each behind a secondary header, which may be changed."""
+    second = change(second_header(bytes(range(1, 9))))
+    return b''.join(opened() + [packet(channel, kind, 2000, body, 0, check, second) for channel, kind, body in STAMPED])
+
+
+def second_headers() -> Found:
+    """Entries behind a secondary header are those without one, in every form and with every data checksum."""
+    plain = b''.join(opened() + [packet(channel, kind, 2000, body) for channel, kind, body in STAMPED])
+    found, wanted = [], []
+    for check in range(4):
+        for words in (['csv'], ['json'], ['csv', '--raw'], ['csv', '--from', '2004']):
+            found.append(run(words, with_second(check)))
+            wanted.append(run(words, plain))
+    rows = summary_rows(with_second(2))
+    return (found, sorted((key, row['entries'], row['opaque']) for key, row in rows.items())), (
+        wanted, [((0, 'setup'), None, 0), ((1, 'time'), 1, 0), ((2, 'event'), 1, 0), ((5, 'uart'), 1, 0), ((6, 'message'), 1, 0),
+                 ((7, '1553'), 1, 0), ((8, 'arinc'), 1, 0), ((9, 'discrete'), 1, 0)])
+
+
+def second_headers_damaged() -> Found:
+    """A wrong checksum of a secondary header is a fault, and so is a wrong data checksum behind one."""
+    second = second_header(bytes(range(1, 9)))
+    body = STAMPED[0][2]
+    good = packet(5, 0x50, 2000, body, 1, 2, second)
+    found = []
+    for at in (24, 31, 35, 40, 50, len(good) - 1):
+        bad = good[:at] + bytes((good[at] ^ 4,)) + good[at + 1:]
+        status, said, line = run(['summary'], b''.join(opened() + [bad, packet(5, 0x50, 3000, body, 2, 2, second)]))
+        found.append((status, [why for why in ('a wrong checksum of the secondary header', 'a wrong data checksum')
+                               if why in said.decode() + line]))
+    return found, [(1, ['a wrong checksum of the secondary header'])] * 3 + [(1, ['a wrong data checksum'])] * 3
+
+
+# ---- discretes (11.2.8)
+
+def discretes(length: int, msb: int, entries: Iterable[Tuple[int, int]]) -> bytes:
+    """The word has the alignment in bit 1 and the number in bits 7 to 3; an entry is a stamp and 32 bits."""
+    return word((length & 31) << 3 | msb << 1, 4) + b''.join(word(stamp, 8) + word(states, 4) for stamp, states in entries)
+
+
+def discretes_at_the_top() -> Found:
+    """With MSB alignment so many discretes stand at the top of the 32 bits: 31 has the highest of them."""
+    data = b''.join(opened() + [
+        packet(9, 0x29, 2000, discretes(8, 1, [(2000, 0x80000000), (2001, 0x01000000)])),
+        packet(9, 0x29, 2010, discretes(8, 1, [(2010, 0x03000000), (2011, 0x03FFFFFF)]), 1),
+        packet(9, 0x29, 2020, discretes(8, 0, [(2020, 0x02)]), 2),
+        packet(10, 0x29, 2030, discretes(0, 1, [(2030, 0x80000001)])),
+        packet(11, 0x29, 2040, discretes(1, 1, [(2040, 0x7FFFFFFF), (2041, 0x80000000)]))])
+    return cells(['--kind', 'discrete'], data, 'value', 'bits', 'changed'), [
+        ('80000000', '10000000', ''), ('01000000', '00000001', '+0 -7'), ('03000000', '00000011', '+1'), ('03ffffff', '00000011', ''),
+        ('00000002', '00000010', '-0'), ('80000001', '1' + 30 * '0' + '1', ''), ('7fffffff', '0', ''), ('80000000', '1', '+0')]
+
+
+def discretes_at_the_top_in_a_database() -> Found:
+    """A database has the same columns of them, and in a part that begins at a later packet too."""
+    rows = [(2000 + place, (place * 37 & 0xFF) << 24) for place in range(40)]
+    parts = [packet(9, 0x29, at, discretes(8, 1, [(at, states)]), place & 0xFF, 1) for place, (at, states) in enumerate(rows)]
+    data = b''.join(opened() + parts)
+    with tempfile.TemporaryDirectory() as folder:
+        path = str(pathlib.Path(folder, 'f.db'))
+        run(['sqlite', '--out', path], data)
+        base = sqlite3.connect(path)
+        stored = base.execute('SELECT bits, changed FROM discrete ORDER BY rowid').fetchall()
+        base.close()
+    wanted, before = [], None
+    for _, states in rows:
+        bits = '{:032b}'.format(states)[:8]
+        changed = '' if before is None else ' '.join(
+            '%s%d' % ('+' if now == '1' else '-', place) for place, (was, now) in enumerate(zip(before[::-1], bits[::-1])) if was != now)
+        wanted.append((bits, changed))
+        before = bits
+    return stored, wanted
+
+
+TRIALS: List[Callable[[], Found]] = [uart_without_stamps, uart_without_stamps_cut, second_headers, second_headers_damaged,
+                                     discretes_at_the_top, discretes_at_the_top_in_a_database]
