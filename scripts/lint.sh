@@ -12,7 +12,8 @@ set -u
 cd "$(dirname "${BASH_SOURCE[0]}")/.." || exit 1
 
 readonly shells=(r10 .ci/run scripts/*.sh scripts/tests/*.sh recorder/tests/*.sh)
-readonly pythons=(scripts/*.py ch10/*.py recorder/tests/*.py) sources=(ffi/*.[ch] scripts/*.c bench/*.c recorder/tests/*.c)
+readonly pythons=(scripts/*.py scripts/proofs/*.py ch10/*.py recorder/tests/*.py)
+readonly sources=(ffi/*.[ch] scripts/*.c bench/*.c recorder/tests/*.c)
 bad=0
 
 for script in "${shells[@]}"; do
@@ -24,7 +25,7 @@ for script in "${pythons[@]}"; do
         { echo "$script: it begins as a command does, and has no run bit"; bad=1; }
 done
 
-python3 - ch10/* scripts/* scripts/tests/* recorder/tests/* <<'EOF' || bad=1
+python3 - ch10/* scripts/* scripts/proofs/* scripts/tests/* recorder/tests/* <<'EOF' || bad=1
 import pathlib, sys
 
 MOST = 132

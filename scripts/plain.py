@@ -20,7 +20,7 @@ from typing import Iterator, NamedTuple
 
 TOP = Path(__file__).resolve().parent.parent
 ALLOWED = TOP / "scripts" / "plain_allowed.txt"
-MADE = {"docs/PROOFS.md", "docs/CALLERS.md", "docs/THEOREM.md"}
+MADE = {"docs/PROOFS.md", "docs/CALLERS.md", "docs/THEOREM.md", "docs/PROMISES.md"}
 LONGEST = 25
 AVERAGE = 20
 WORDS = {
