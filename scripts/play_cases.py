@@ -6,8 +6,8 @@
     scripts/play_cases.py kept             # fails where one of these files has others in their place
     scripts/play_cases.py compare PROGRAM  # PROGRAM play and scripts/read_chapter10.py --entries print the same of each strict
                                              file,
-                                           # and of what PROGRAM sim --image records of each example but those of sessions, which
-                                           leave no image
+                                           # and of each file that PROGRAM sim --image records of each example but those of
+                                           sessions, which leave no image
     scripts/play_cases.py image            # the image of a file with every kind of channel
 
 Packets and the directory are built here from IRIG 106-17, chapters 10 and 11, and the wanted lines stand beside them. Nothing is
@@ -180,9 +180,9 @@ def is_session(script: pathlib.Path) -> bool:
 
 
 def compare(program):
-    """Runs both over each strict file, and over what the program records of each example, and answers how many do not print the
-    same."""
-    bad = 0
+    """Runs both over each strict file, and over each file that the program records of each example, and answers how many do not
+    print the same."""
+    bad = files = 0
     for data, closed, lines in ((FIRST, True, FIRST_LINES), (KINDS, True, KIND_LINES), (b''.join(lost()), True, LOST_LINES),
                                 (b''.join(told(70000)), True, TOLD_LINES), (FIRST[:124], False, FIRST_LINES)):
         image = alone(data, closed)
@@ -199,14 +199,18 @@ def compare(program):
         if made.returncode != 0:
             print(script.name, 'recorded', made.stdout[:100], made.stderr)
             bad += 1
-        elif subprocess.run([program, 'files'], input=made.stdout, capture_output=True).stdout:
-            played = subprocess.run([program, 'play'], input=made.stdout, capture_output=True)
-            read = subprocess.run([sys.executable, READER, '--entries'], input=made.stdout, capture_output=True)
+            continue
+        listed = subprocess.run([program, 'files'], input=made.stdout, capture_output=True).stdout.splitlines()
+        for place in range(len(listed)):
+            words = ['--file', str(place)]
+            played = subprocess.run([program, 'play', *words], input=made.stdout, capture_output=True)
+            read = subprocess.run([sys.executable, READER, '--entries', *words], input=made.stdout, capture_output=True)
             if not (played.stdout == read.stdout != b'' and played.returncode == read.returncode == 0):
-                print(script.name, 'played', played.stdout, played.stderr, 'read', read.stdout, read.stderr)
+                print(script.name, *words, 'played', played.stdout, played.stderr, 'read', read.stdout, read.stderr)
                 bad += 1
-    print('%d not the same' % bad)
-    return bad
+            files += 1
+    print('%d files of examples, %d recordings not the same' % (files, bad))
+    return bad if files else 1
 
 
 def main(words):
