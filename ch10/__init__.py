@@ -5,13 +5,14 @@
     standard     numbers in bytes, what a fault is
     kinds        the kinds of entries, a row each: names, columns, tables, and which module reads them
     medium       the directory of an image, and its files
-    times        civil times, and the clock that gives each count its civil time
+    times        civil times: those of time packets, and those that a call gives
+    clocks       the one model of time: sessions of the counter, what time channels say, and the clock that gives each instant its
+                 civil time
     buses        what the words of buses mean
     stamps, kind_..    what reads entries of one length or with a length in them; and, a module a kind, how its entries are read,
                        what they mean, and their rows
     packets      the packets of a recording: headers, checksums, bodies as bytes
     bodies       what stands in a packet's body: its entries
-    clocks       what times say of a clock: jumps, steps back, drift
     tmats        the setup text: attributes, names of channels and buses
     survey       one pass over a recording: what each channel has, what was passed over, its clocks and setup text
     replay       the entries of a recording in order, in parts that stand for themselves

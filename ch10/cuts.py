@@ -2,11 +2,13 @@
 from __future__ import annotations
 
 from argparse import Namespace
-from typing import Dict, List
+from typing import Dict, List, Set, Tuple
+
 from .bodies import counts
+from .clocks import BITS
 from .inputs import Output, is_recording, listed, one_part, shown, the_file
 from .medium import File, bytes_of
-from .packets import loss_of, packets
+from .packets import Packet, loss_of, packets
 from .standard import INDEX, SETUP, TIME, Data, Fault, Wrong, let_go
 from .survey import Survey
 from .times import Range
@@ -55,13 +57,9 @@ def as_range(asked: Namespace, data: Data, out: Output) -> None:
     if not survey.lows:
         survey.judge()
     within = Range(asked.first, asked.last, survey.clock)
-    before = None
-    for packet in packets(data, begin, begin + survey.size, False, survey.passed):
-        if packet.kind == TIME and survey.clock and packet.channel == survey.clock.channel and within.is_before(packet.counter):
-            if before is None or before[0] <= packet.counter:
-                before = packet.counter, packet.offset
+    times = times_of(data, begin, survey, within)
     report, behind = b'', 0
-    for packet in packets(data, begin, begin + survey.size, False, survey.passed):
+    for number, packet in enumerate(packets(data, begin, begin + survey.size, False, survey.passed)):
         if packet.offset != behind:
             report = b''
         behind = packet.offset + packet.length
@@ -69,11 +67,40 @@ def as_range(asked: Namespace, data: Data, out: Output) -> None:
         if loss_of(packet):
             report = here
             continue
-        is_needed = packet.kind == SETUP or before is not None and before[1] == packet.offset
-        if packet.kind != INDEX and (is_needed or any(map(within.has, counts(packet) or [packet.counter]))):
+        if packet.kind == SETUP or packet.offset in times or packet.kind != INDEX and first_of(number, packet, survey, within) >= 0:
             out.write(report + here)
         report = b''
     survey.judge()
+
+
+def first_of(number: int, packet: Packet, survey: Survey, within: Range) -> int:
+    """The first instant of a packet's entries that is in a range, or, where it is not read, its own if that is; -1 where none
+    is."""
+    base, low, high = survey.of[number] << BITS, survey.lows[number], survey.highs[number]
+    if low > high:
+        low = high = base + packet.counter
+        return low if within.has(low) else -1
+    if not within.touches(low, high):
+        return -1
+    return min((base + count for count in counts(packet) if within.has(base + count)), default=-1)
+
+
+def times_of(data: Data, begin: int, survey: Survey, within: Range) -> Set[int]:
+    """Of each session that has something in a range the place of the time that holds where that begins: the last one before it, of
+    a channel that the clock goes by."""
+    if survey.clock is None:
+        return set()
+    first: Dict[int, int] = {}  # of each session the first instant in the range
+    told: Dict[int, List[Tuple[int, int]]] = {}  # and the times before it: instant and place
+    for number, packet in enumerate(packets(data, begin, begin + survey.size, False, survey.passed)):
+        run = survey.sessions.run_of(survey.of[number])
+        low = first_of(number, packet, survey, within) if packet.kind not in (SETUP, INDEX) else -1
+        if low >= 0:
+            first[run] = min(first.get(run, low), low)
+        elif packet.kind == TIME and packet.channel in survey.clock.channels:
+            told.setdefault(run, []).append(((survey.of[number] << BITS) + packet.counter, packet.offset))
+    before = [[one for one in told.get(run, []) if one[0] <= low] for run, low in first.items()]
+    return {max(some)[1] for some in before if some}
 
 
 def has(files: List[File]) -> str:

@@ -5,7 +5,7 @@ from __future__ import annotations
 from argparse import Namespace
 import os
 import sqlite3
-from typing import Dict, Iterator, List, Optional, Tuple
+from typing import Dict, Iterator, List, Optional, Sequence, Tuple
 
 from .clocks import TimeLine
 from .fields import Reader
@@ -14,9 +14,9 @@ from .kinds import KINDS, REAL, TEXT, WHOLE
 from .medium import File, bytes_of
 from .packets import UNTOLD
 from .replay import Ordered, Part
-from .standard import Data, Fault, Wrong
+from .standard import COUNT_BITS, Data, Fault, Wrong
 from .store_schema import MOST_NUMBER
-from .survey import Survey, name_of
+from .survey import Survey, counts_of, name_of
 
 FRONT = (('file', WHOLE), ('channel', WHOLE), ('name', TEXT), ('count', WHOLE), ('time', TEXT), ('lost', WHOLE))
 TABLES = {kind.type: kind.word for kind in sorted(KINDS, key=lambda kind: kind.type)}
@@ -125,23 +125,23 @@ def written(asked: Namespace, data: Data, base: Database) -> Optional[Fault]:
 def add(asked: Namespace, data: Data, begin: int, end: int, base: Database, number: int, file: Optional[File]) -> Optional[Fault]:
     """Adds one recording, and answers what is wrong with it."""
     survey = Survey(data, begin, end, asked.keep_going)
-    clock, span = survey.clock, survey.span() or (None, None)
+    clock, ends = survey.clock, survey.ends() if survey.rows else []
 
     def civil(count: Optional[int]) -> Optional[str]:
         return clock.text(count) if clock and count is not None else None
 
-    base.add('files', [(number, file and shown(file.name), file and int(file.closed), end - begin, len(survey.lows), *span,
-                        civil(span[0]), civil(span[1]),
+    base.add('files', [(number, file and shown(file.name), file and int(file.closed), end - begin, len(survey.lows),
+                        *(counts_of(ends) if ends else (None, None)), *(clock.ends(ends) if clock else (None, None)),
                         survey.fault and str(survey.fault), end - begin - survey.size)])
     base.add('channels', [(number, row.channel, survey.names.channel(row.channel) or None, name_of(row.kind), row.packets,
-                           row.entries if row.has_entries() else None, row.bytes, row.first(), row.last(), civil(row.first()),
+                           row.entries if row.has_entries() else None, row.bytes, *row.counts(), civil(row.first()),
                            civil(row.last()), row.rate(),
                            row.losses, row.lost and min(row.lost, MOST_NUMBER), row.untold, row.jumps, row.opaque,
                            row.bad) for row in survey.rows])
     base.add('damage', [(number, one.offset, one.length, one.why, one.channel, None if one.kind is None else name_of(one.kind))
                         for one in survey.damage])
     for line in survey.times:
-        add_clock(base, number, line, span)
+        add_clock(base, number, line, ends)
     base.add('setup', [(number, name, value) for name, value in survey.names.attributes.items()])
     ordered, reader = Ordered(data, begin, survey, asked.channel), Reader(survey.names, asked.turned_labels)
     for part in ordered.parts():
@@ -153,11 +153,12 @@ def add(asked: Namespace, data: Data, begin: int, end: int, base: Database, numb
     return None
 
 
-def add_clock(base: Database, number: int, line: TimeLine, span: Tuple[int, int]) -> None:
+def add_clock(base: Database, number: int, line: TimeLine, ends: Sequence[Tuple[int, int]]) -> None:
     drift = line.drift()
-    base.add('clocks', [(number, line.channel, line.packets, line.packets - len(line.told), line.steps_back(), line.without(*span),
+    base.add('clocks', [(number, line.channel, line.packets, line.packets - len(line.told), line.steps_back(), line.without(ends),
                          drift and drift[0])])
-    base.add('clock_jumps', [(number, line.channel, jump.offset, jump.count, jump.by / 10 ** 7) for jump in line.jumps()])
+    base.add('clock_jumps', [(number, line.channel, jump.offset, jump.instant & COUNT_BITS, jump.by / 10 ** 7)
+                             for jump in line.jumps()])
 
 
 def told(lost: int) -> Optional[int]:
@@ -168,20 +169,21 @@ def told(lost: int) -> Optional[int]:
 def add_part(base: Database, number: int, ordered: Ordered, part: Part, reader: Reader) -> None:
     """Adds the entries of a part, by their counts."""
     clock = ordered.survey.clock
-    held: Dict[str, List[tuple]] = {name: [] for name in TABLES.values()}
+    held: Dict[str, List[Tuple[int, tuple]]] = {name: [] for name in TABLES.values()}
     losses: List[tuple] = []
     for place, packet, lost, _ in ordered.packets(part):
         name = reader.names.channel(packet.channel) or None
         rows = held.get(TABLES.get(packet.kind, ''))
-        first = True
+        first, count_0 = True, ordered.base(place)
         for count, values in reader.entries(packet, ordered.states.get(place)):
-            if part.low <= count < part.high:
-                when = clock.text(count) if clock else None
-                rows.append((number, packet.channel, name, count, when, told(lost), *values))
+            instant = count + count_0
+            if part.low <= instant < part.high:
+                when = clock.text(instant) if clock else None
+                rows.append((instant, (number, packet.channel, name, instant & COUNT_BITS, when, told(lost), *values)))
                 if packet.flags & 0x10 and first:
-                    losses.append((number, packet.channel, name_of(packet.kind), count, when, told(lost)))
+                    losses.append((number, packet.channel, name_of(packet.kind), instant & COUNT_BITS, when, told(lost)))
             lost, first = 0, False
     for name, rows in held.items():
-        rows.sort(key=lambda row: (row[3], row[1]))
-        base.add(name, rows)
+        rows.sort(key=lambda pair: (pair[0], pair[1][1]))
+        base.add(name, [row for _, row in rows])
     base.add('losses', losses)

@@ -5,11 +5,11 @@ from __future__ import annotations
 import struct
 from typing import Any, Callable, Dict, Iterable, Iterator, List, NamedTuple, Optional, Sequence, Set, Tuple
 
+from .clocks import Clock
 from .kinds import KINDS, by_type
 from .packets import UNTOLD, Packet, loss_of, lost_before
 from .stamps import Kept
 from .store_schema import COMMON, MOST_NUMBER
-from .times import Clock
 
 DAY = 864000000000  # in units of 100 ns, as times are counted here
 YEAR_2000 = 730120 * DAY  # where PostgreSQL's times begin
@@ -147,8 +147,8 @@ def counted(value: Any) -> bytes:
 
 
 def moments(counts: Sequence[int], clock: Optional[Clock]) -> Sequence[Optional[int]]:
-    """The civil times of some counts as PostgreSQL counts them, in microseconds from 2000 on; None where there is no date, or none
-    that the calendar has."""
+    """The civil times of some instants as PostgreSQL counts them, in microseconds from 2000 on; None where there is no date, or
+    none that the calendar has."""
     if clock is None or not clock.dated:
         return (None,) * len(counts)
     low, high = min(counts), max(counts)
@@ -160,7 +160,7 @@ def moments(counts: Sequence[int], clock: Optional[Clock]) -> Sequence[Optional[
 
 
 def days_of(counts: Sequence[int], clock: Clock) -> Set[int]:
-    """The days of some counts, by their numbers from day 1 of the year 1 on."""
+    """The days of some instants, by their numbers from day 1 of the year 1 on."""
     low, high = min(counts), max(counts)
     first = clock.at(low)
     if clock.start <= low and high < clock.stop and first // DAY == (high + clock.ahead) // DAY:
@@ -169,16 +169,25 @@ def days_of(counts: Sequence[int], clock: Clock) -> Set[int]:
 
 
 class Reader:
-    """Goes over packets and gives the rows of those channels that are wanted, a packet's at a time, as columns."""
+    """Goes over packets and gives the rows of those channels that are wanted, a packet's at a time, as columns.
 
-    def __init__(self, number: int, wanted: Any, report: Optional[Tuple[int, int]], states: Dict[int, int]) -> None:
+    `layout` has what is known of the recording: `base` gives the instant of count 0 of the session of a packet that begins at a
+    place, and `session` what tells the session.
+    """
+
+    def __init__(self, number: int, wanted: Any, report: Optional[Tuple[int, int]], states: Dict[int, int], layout: Any) -> None:
         self.number, self.wanted, self.report, self.states = number, wanted, report, states
+        self.base, self.session = layout.base, layout.session
 
     def columns(self, packets: Iterable[Packet],
                 times: Callable[[Sequence[int]], Sequence[Any]]) -> Iterator[Tuple[int, List[Sequence[Any]]]]:
         """The data type and the columns of each packet that has rows."""
-        following = None
+        following, session = None, None
         for packet in packets:
+            if self.session(packet.offset) != session:
+                if session is not None:
+                    self.states.clear()  # which are of the session before
+                session = self.session(packet.offset)
             if following is not None and packet.offset != following:
                 self.report = None  # it stood before something that was passed over
             if (packet.channel, packet.kind) in self.wanted:
@@ -187,7 +196,9 @@ class Reader:
                     own = list(zip(*found))
                     size = len(found)
                     first = lost and min(lost, MOST_NUMBER)
-                    yield packet.kind, [(self.number,) * size, own[0], times(own[0]), [first] + [0] * (size - 1),
+                    base = self.base(packet.offset)
+                    instants = [count + base for count in own[0]] if base else own[0]
+                    yield packet.kind, [(self.number,) * size, own[0], times(instants), [first] + [0] * (size - 1),
                                         (packet.channel,) * size] + own[1:]
             elif packet.kind in STATES and packet.word is not None:
                 ROWS[packet.kind](packet, self.states)  # which takes note of the last one

@@ -5,17 +5,16 @@ import hashlib
 import os
 import re
 import subprocess
-from bisect import bisect_right
 from typing import Any, Callable, Dict, List, Optional, Tuple
 
 from .bodies import counts
-from .clocks import TimeLine
+from .clocks import NOTHING, Asked, Clock, TimeLine, Timing
 from .kinds import by_type
 from .packets import HEADER, ONE_WORD, packet_at
 from .standard import INDEX, LOSS, SETUP, TIME, Fault, Wrong, little
 from .store_schema import MOST_NUMBER
-from .survey import REPORT_ROW, Row, Survey, ends_of, name_of
-from .times import Clock, civil, time
+from .survey import REPORT_ROW, Row, Survey, counts_of, ends_of, name_of, session_ends
+from .times import civil, time
 from .tmats import Names
 
 PART = 1 << 20
@@ -130,33 +129,6 @@ def verdict_of_image(program: Optional[str], data: memoryview, fault: Fault) -> 
 
 # ---- what one pass finds
 
-class Ends:
-    """The earliest and the latest civil time of a span of counts, also where the clock was set forth or back on the way."""
-
-    def __init__(self, clock: Clock) -> None:
-        self.clock = clock
-        self.lows: List[int] = []
-        self.highs: List[int] = []
-        before = None
-        for count, ticks in zip(clock.counts, clock.ticks):
-            last = ticks if before is None else count - 1 + before
-            self.lows.append(min(ticks, last))
-            self.highs.append(max(ticks, last))
-            before = ticks - count
-
-    def of(self, low: int, high: int) -> Tuple[Optional[str], Optional[str]]:
-        """As texts; None where the calendar does not have them."""
-        first, last = self.clock.at(low), self.clock.at(high)
-        begin, end = bisect_right(self.clock.counts, low), bisect_right(self.clock.counts, high)
-        if begin < end:
-            first, last = min(first, min(self.lows[begin:end])), max(last, max(self.highs[begin:end]))
-        texts = [self.text(min(first, last)), self.text(max(first, last))]
-        return (texts[0], texts[1]) if None not in texts else (None, None)
-
-    def text(self, ticks: int) -> Optional[str]:
-        return text_of(ticks, self.clock.dated)
-
-
 def text_of(ticks: int, dated: bool) -> Optional[str]:
     """A civil time with seven places after the second."""
     said = civil(ticks, dated)
@@ -171,10 +143,10 @@ class StrictSurvey:
     words, and one packet of each channel is read.
     """
 
-    def __init__(self, data: Any, begin: int, end: int) -> None:
+    def __init__(self, data: Any, begin: int, end: int, asked: Asked = NOTHING) -> None:
         rows: Dict[Tuple[int, int], Row] = {}
         last: Dict[Tuple[int, int], int] = {}
-        lines: Dict[int, TimeLine] = {}
+        self.timing = Timing()
         self.damage: List[Any] = []
         self.setup: Optional[bytes] = None
         at, report = begin, None
@@ -186,15 +158,13 @@ class StrictSurvey:
             if kind == LOSS:
                 told, kind = (little(data, at + 32, 2), little(data, at + 36, 8)), REPORT_ROW
             elif kind == TIME:
-                if channel not in lines:
-                    lines[channel] = TimeLine(channel)
-                lines[channel].add(counter, time(data[at + 24:at + 24 + size], word), at - begin)
+                self.timing.add(channel, counter, time(data[at + 24:at + 24 + size], word), at - begin, flags)
             elif kind == SETUP:
                 self.setup = bytes(data[at + 28:at + 24 + size])
             key = channel, kind
             row = rows.get(key)
             if row is None:
-                row = rows[key] = Row(channel, kind, counter)
+                row = rows[key] = Row(channel, kind)
             row.packets += 1
             row.bytes += length
             if flags & 0x10:
@@ -207,22 +177,28 @@ class StrictSurvey:
             number = NUMBERS[kind](data, at + 24, size, word) if kind in NUMBERS else 0
             if number:
                 row.entries += number
-                if row.low is None:
-                    row.low = counter
+                if not row.entered:
+                    row.entered[0] = [counter, counter]
                 last[key] = at
-            row.end = max(row.end, counter)
+            row.at(counter)
             report = told
             at += length
         for key, place in last.items():
-            rows[key].high = last_count(data, place, begin, end)
+            rows[key].entered[0][1] = last_count(data, place, begin, end)
         self.rows = [rows[key] for key in sorted(rows)]
-        self.times = list(lines.values())
-        self.clock = Clock(self.times) if self.times else None
         self.names = Names(self.setup)
+        self.times: List[TimeLine] = list(self.timing.lines.values())
+        self.sessions = self.timing.sessions
+        self.clock: Optional[Clock] = self.timing.clock(asked, self.names.attributes)
+
+    def drawn(self) -> List[Row]:
+        return [row for row in self.rows if row.kind not in (SETUP, INDEX, REPORT_ROW)] or self.rows
 
     def span(self) -> Optional[Tuple[int, int]]:
-        drawn = [row for row in self.rows if row.kind not in (SETUP, INDEX, REPORT_ROW)]
-        return ends_of(drawn or self.rows)
+        return ends_of(self.drawn())
+
+    def ends(self) -> List[Tuple[int, int]]:
+        return session_ends(self.drawn(), self.sessions)
 
 
 def last_count(data: Any, at: int, begin: int, end: int) -> int:
@@ -249,26 +225,26 @@ def damage_of(survey: Any) -> List[Tuple[int, int, str]]:
 
 # ---- all of it
 
-def facts_of(data: Any, begin: int, end: int, program: Optional[str], survey: Optional[Survey] = None) -> Dict[str, Any]:
+def facts_of(data: Any, begin: int, end: int, program: Optional[str], survey: Optional[Survey] = None,
+             asked: Asked = NOTHING) -> Dict[str, Any]:
     """What the catalogue keeps of one recording within some bytes, but for its sum and its place; by the pass that was made, where
     one was."""
     with memoryview(data)[begin:end] as view:
         found = verdict_of(program, view)
     if survey is None:
         is_strict, is_lenient = found['verdict'] == 'strict', found['verdict'] == 'lenient'
-        survey = StrictSurvey(data, begin, end) if is_strict else Survey(data, begin, end, judged=is_lenient)
-    ends = Ends(survey.clock) if survey.clock else None
-    rows = []
+        survey = (StrictSurvey(data, begin, end, asked) if is_strict
+                  else Survey(data, begin, end, judged=is_lenient, asked=asked))
+    clock, rows = survey.clock, []
     for row in survey.rows:
-        low, high = row.first(), row.last()
+        times = clock.ends(row.ends()) if clock else (None, None)
         rows.append((row.channel, row.kind, name_of(row.kind), survey.names.channel(row.channel) or None, row.packets,
-                     row.entries if row.has_entries() else None, row.bytes,
-                     low, high) + (ends.of(low, high) if ends else (None, None)) + (row.rate(), row.losses, most(row.lost),
-                                                                                    row.untold, row.jumps, row.opaque, row.bad))
-    span = survey.span()
-    first, last = ends.of(*span) if ends and span else (None, None)
-    found.update(kind='recording', size=end - begin, first_time=first, last_time=last, first_count=span and span[0],
-                 last_count=span and span[1],
+                     row.entries if row.has_entries() else None, row.bytes) + row.counts() + times
+                    + (row.rate(), row.losses, most(row.lost), row.untold, row.jumps, row.opaque, row.bad))
+    ends = survey.ends() if survey.rows else []
+    first, last = clock.ends(ends) if clock else (None, None)
+    low, high = counts_of(ends) if ends else (None, None)
+    found.update(kind='recording', size=end - begin, first_time=first, last_time=last, first_count=low, last_count=high,
                  packets=sum(row.packets for row in survey.rows), entries=sum(row.entries for row in survey.rows),
                  channels=rows, damage=damage_of(survey), attributes=attributes_of(survey.names))
     for name in SUMS:

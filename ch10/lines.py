@@ -16,7 +16,7 @@ from .kinds import BY_NAME, KINDS, REAL, TEXT, TRUTH, VALUE, WHOLE, Kind
 from .packets import UNTOLD, Packet
 from .parallel import LEAST, MOST, in_order, processors
 from .replay import EACH, Ordered, Part
-from .standard import Data
+from .standard import COUNT_BITS, Data
 from .survey import Survey, ended_fields, stretch_fields
 from .times import Range
 from .vector import Vector
@@ -204,18 +204,20 @@ def part_lines(form: Form, ordered: Ordered, part: Part, within: Range) -> bytes
     """The lines of a part."""
     held, place, clock, fronts = [], 0, ordered.survey.clock, {}
     for number, packet, lost, is_whole in ordered.packets(part):
-        channel = packet.channel
+        channel, base = packet.channel, ordered.base(number)
         if channel not in fronts:
             fronts[channel] = form.front(channel)
         for count, tail in form.tails(packet, ordered.states.get(number)):
-            if (is_whole or part.low <= count < part.high) and (within.is_all or within.has(count)):
-                held.append((count, channel, place, lost, tail))
+            instant = count + base
+            if (is_whole or part.low <= instant < part.high) and (within.is_all or within.has(instant)):
+                held.append((instant, channel, place, lost, tail))
                 place += 1
             lost = 0
     held.sort()
     times = clock.texts([one[0] for one in held]) if clock else [None] * len(held)
     line = form.line
-    lines = [line(fronts[channel], count, when, lost, tail) for (count, channel, _, lost, tail), when in zip(held, times)]
+    lines = [line(fronts[channel], instant & COUNT_BITS, when, lost, tail)
+             for (instant, channel, _, lost, tail), when in zip(held, times)]
     lines.append('')
     return '\n'.join(lines).encode('utf-8', 'replace')
 

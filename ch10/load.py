@@ -3,20 +3,22 @@ from __future__ import annotations
 
 import datetime
 import struct
+from bisect import bisect_right
 from contextlib import closing, contextmanager
 from typing import Any, Callable, Dict, FrozenSet, Iterable, Iterator, List, NamedTuple, Optional, Sequence, Set, Tuple
 
 from .bodies import counts
 from .catalogue import TAKEN_OUT, Mark, added, now, opened, title, unread
-from .clocks import TimeLine
+from .clocks import BITS, NOTHING, Asked, Timing
 from .entry_rows import END, FRONT, TABLES, Reader, days_of, flat, packed
 from .facts import sum_of
 from .inputs import Output
 from .kinds import by_type
 from .packets import loss_of, packets
-from .standard import TIME, Fault
+from .standard import SETUP, TIME, Fault
 from .store import Store, StoreError, open_store, partition_of
-from .times import Clock, time
+from .times import time
+from .tmats import attributes
 from .workers import Pool, Task, processors
 
 PART = 1 << 22  # bytes of a recording that a worker reads at a time
@@ -67,38 +69,57 @@ class Layout:
     """The cuts of a recording, at packets: of each where it stands, the loss report right before it, and the last state of each
     channel whose packets have one."""
 
-    def __init__(self, data: Any, begin: int, end: int, passed: Dict[int, int]) -> None:
+    def __init__(self, data: Any, begin: int, end: int, passed: Dict[int, int], asked: Asked = NOTHING) -> None:
         self.cuts: List[Tuple[int, Optional[Tuple[int, int]], Dict[int, int]]] = []
-        lines: Dict[int, TimeLine] = {}
+        self.bases: List[Tuple[int, int]] = [(0, 0)]  # from which place on which instant is that of count 0
+        timing, setup = Timing(), b''
         states: Dict[int, int] = {}
         report, last = None, -PART
         for packet in packets(data, begin, end, False, passed):
+            base = timing.sessions.base_of(packet.channel, packet.kind, packet.counter, packet.sequence, packet.offset)
+            if base is None:
+                base = self.bases[-1][1]
+            elif base != self.bases[-1][1]:
+                if timing.sessions.run_of(base >> BITS) == base >> BITS > self.bases[-1][1] >> BITS:
+                    states = {}
+                self.bases.append((packet.offset, base))
             if packet.offset - last >= PART:
                 last = packet.offset
                 self.cuts.append((last, report, dict(states)))
             report = loss_of(packet)
             if packet.kind == TIME and packet.word is not None:
-                lines.setdefault(packet.channel, TimeLine(packet.channel)).add(packet.counter, time(packet.body, packet.word),
-                                                                               packet.offset)
+                timing.add(packet.channel, packet.counter + base, time(packet.body, packet.word), packet.offset, packet.flags)
+            elif packet.kind == SETUP and packet.word is not None:
+                setup = setup or bytes(packet.body[4:])
             elif packet.kind in STATES and packet.word is not None:
                 state = STATES[packet.kind](packet.body)
                 if state is not None:
                     states[packet.channel] = state
-        told = [line for line in lines.values() if line.told]
-        self.clock = Clock(told) if told else None
+        self.clock = timing.clock(asked, attributes(setup))
+        self.sessions = timing.sessions
         self.end = end - begin
+
+    def base(self, offset: int) -> int:
+        """The instant of count 0 of the session of a packet that begins there."""
+        if len(self.bases) == 1:
+            return 0
+        return self.bases[bisect_right(self.bases, (offset, 1 << 64)) - 1][1]
+
+    def session(self, offset: int) -> int:
+        """The session of a packet that begins there; one that goes on from another, as the counter's bits were full, is that."""
+        return self.sessions.run_of(self.base(offset) >> BITS)
 
 
 class Held:
     """The bytes of a recording, which are those of the catalogue, and its layout."""
 
-    def __init__(self, path: str, begin: int, end: int, sum_: str, passed: Dict[int, int]) -> None:
+    def __init__(self, path: str, begin: int, end: int, sum_: str, passed: Dict[int, int], asked: Asked = NOTHING) -> None:
         self.mark, self.data = Mark(path), opened(path)
         self.begin, self.end, self.sum, self.passed = begin, end, sum_, passed
         with memoryview(self.data)[begin:end] as view:
             if sum_of(view) != sum_:
                 raise Fault(CHANGED)
-        self.layout = Layout(self.data, begin, end, passed)
+        self.layout = Layout(self.data, begin, end, passed, asked)
 
     def packets(self) -> Iterator[Any]:
         return packets(self.data, self.begin, self.end, False, self.passed)
@@ -115,7 +136,7 @@ class Held:
     def packed(self, number: int, wanted: Set[Tuple[int, int]], cut: int) -> Dict[int, Tuple[int, bytes]]:
         """The wanted entries of a part, as COPY takes them."""
         _, report, states = self.layout.cuts[cut]
-        return packed(Reader(number, wanted, report, dict(states)), self.part(cut), self.layout.clock)
+        return packed(Reader(number, wanted, report, dict(states), self.layout), self.part(cut), self.layout.clock)
 
     def need_same(self) -> None:
         """That what was read is still what was summed."""
@@ -162,7 +183,8 @@ def days_in(held: Held, wanted: Set[Tuple[int, int]]) -> Optional[List[List[int]
         if (packet.channel, packet.kind) in wanted:
             there = counts(packet)
             if there:
-                found.update((packet.kind, day) for day in days_of(there, clock))
+                base = held.layout.base(packet.offset)
+                found.update((packet.kind, day) for day in days_of([base + count for count in there], clock))
                 if len(found) > MOST_DAYS:
                     return None
     return sorted(map(list, found))
@@ -413,7 +435,7 @@ def inserted(store: Store, some: Sequence[Wanted]) -> Dict[int, int]:
     for one in some:
         held = held_of(one, damage_in(store, one.number))
         clock = held.layout.clock
-        reader = Reader(one.number, set(one.entries), None, {})
+        reader = Reader(one.number, set(one.entries), None, {}, held.layout)
         found = reader.columns(held.packets(), clock.texts if clock and clock.dated else lambda counts: (None,) * len(counts))
         with only_changed(one):
             for kind, columns in found:

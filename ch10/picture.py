@@ -6,13 +6,14 @@ from typing import Callable, Dict, Iterable, Iterator, List, Optional, Set, Tupl
 from xml.sax.saxutils import escape
 
 from .bodies import counts
+from .clocks import BITS, Axis
 from .inputs import Output, one_part
 from .packets import UNTOLD, loss_of, lost_before, packets
 from .standard import Data, Key
 from .survey import Row, Survey, ends_of, name_of, stretch_text
-from .times import Clock, Range, civil
+from .times import Range, civil
 
-Mark = Tuple[Key, List[int], Optional[int], Optional[int]]  # channel and type, counts, the count of a loss, how many were lost
+Mark = Tuple[Key, List[int], Optional[int], Optional[int]]  # channel and type, instants, that of a loss, how many were lost
 SECOND = 10 ** 7
 WIDTH, LEFT, RIGHT = 980, 130, 150
 TOP, STRIP, MARKS, STEP = 92, 44, 8, 66
@@ -41,14 +42,16 @@ def number_text(rate: float) -> str:
 
 
 class Picture:
-    """A picture of rates and losses over a span of counts.
+    """A picture of rates and losses from one instant to another, on an `Axis`.
 
     Sources are the rows of a survey by channel and type; those by packets have no entries that are read.
     """
 
     def __init__(self, title: str, sources: Dict[Key, Row], by_packets: Set[Key], low: int, high: int, survey: Survey) -> None:
+        self.axis_line = Axis(survey.ends(), survey.clock)
+        low, high = self.axis_line.of(low), self.axis_line.of(high)
         self.title, self.sources, self.by_packets, self.low, self.high = title, sources, by_packets, low, high
-        self.clock, self.names = survey.clock, survey.names
+        self.clock, self.names = survey.clock and self.axis_line, survey.names
         self.bar = least_step(max((high - low) // MOST_BARS + 1, LEAST_BAR))
         self.bars = (high - low) // self.bar + 1
         self.much = {key: [0] * self.bars for key in sources}
@@ -57,12 +60,14 @@ class Picture:
         self.bottom = TOP + STEP * len(sources)
 
     def fill(self, seen: Iterable[Mark], has: Optional[Callable[[int], bool]]) -> None:
-        """Counts how many entries stand in each bar, and losses; `has` says whether a count is drawn, or is None."""
-        low, bar, bars = self.low, self.bar, self.bars
+        """Counts how many entries stand in each bar, and losses; `has` says whether an instant is drawn, or is None."""
+        low, bar, bars, of = self.low, self.bar, self.bars, self.axis_line.of
         for key, found, loss, lost in seen:
             if has is not None:
                 found = [count for count in found if has(count)]
                 loss = loss if loss is not None and has(loss) else None
+            if not self.axis_line.is_one:
+                found, loss = list(map(of, found)), loss if loss is None else of(loss)
             if loss is not None and 0 <= (loss - low) // bar < bars:
                 self.lost[key][(loss - low) // bar] += 1
                 sums = self.sums[key]
@@ -140,27 +145,38 @@ class Picture:
         number = row.packets if key in self.by_packets else row.entries
         if most >= FEW:
             return 'max %s%s/s' % (number_text(most * SECOND / self.bar), what)
-        if number < 2 or row.last() == row.first():
+        past, ends = sum(high - low for low, high in row.ends()), len(row.ends())
+        if number <= ends or past == 0:
             return '%d%s in all' % (number, what)
-        return 'mean %s%s/s' % (number_text((number - 1) * SECOND / (row.last() - row.first())), what)
+        return 'mean %s%s/s' % (number_text((number - ends) * SECOND / past), what)
 
     def axis(self) -> List[str]:
         """Lines at whole times, and the times below."""
         span = self.bar * self.bars
         step = least_step(span // 7)
-        start = (self.clock.at(self.low) if self.clock else 0) % step
         parts = []
-        for count in range(self.low + (step - start) % step, self.low + span + 1, step):
-            x = LEFT + SPACE * (count - self.low) / span
-            parts.append('<path stroke="#c8ccd2" d="M%.2f %dV%d"/>' % (x, TOP - 6, self.bottom))
-            parts.append(words(x, self.bottom + 16, time_text(count, self.low, step, self.clock), anchor='middle', fill='#444'))
+        for low, high in self.parts(span):
+            start = (self.clock.at(low) if self.clock else low - self.low) % step
+            for count in range(low + (step - start) % step, high + 1, step):
+                x = LEFT + SPACE * (count - self.low) / span
+                parts.append('<path stroke="#c8ccd2" d="M%.2f %dV%d"/>' % (x, TOP - 6, self.bottom))
+                parts.append(words(x, self.bottom + 16, time_text(count, self.low, step, self.clock), anchor='middle', fill='#444'))
         return parts
+
+    def parts(self, span: int) -> List[Tuple[int, int]]:
+        """From where to where each session is drawn."""
+        ends = [[low, high] for low, high in self.axis_line.ends if high >= self.low and low <= self.low + span]
+        if not ends:
+            return []
+        ends[0][0], ends[-1][1] = self.low, self.low + span
+        return [(low, high) for low, high in ends]
 
     def damaged(self, survey: Survey) -> List[str]:
         """Where stretches were passed over, shaded from the packet before to the packet after."""
         parts = []
         for stretch, (before, after) in zip(survey.damage, survey.spans):
-            ends = self.place(self.low if before is None else before), self.place(self.high if after is None else after)
+            ends = (self.place(self.low if before is None else self.axis_line.of(before)),
+                    self.place(self.high if after is None else self.axis_line.of(after)))
             left, wide = min(ends), max(ends) - min(ends)
             left, wide = (left, wide) if wide >= 2 else (left + wide / 2 - 1, 2)
             parts.append('<rect x="%.2f" y="%d" width="%.2f" height="%d" fill="%s" fill-opacity="0.4"><title>%s</title></rect>' % (
@@ -172,22 +188,24 @@ class Picture:
         return parts
 
     def jumps(self, survey: Survey) -> List[str]:
-        """Where the clock jumps."""
+        """Where the clock jumps, and where the counter begins anew."""
         parts, line = [], survey.clock and next(line for line in survey.times if line.channel == survey.clock.channel)
-        for jump in line.jumps() if line else ():
-            if self.low <= jump.count <= self.high:
-                x = self.place(jump.count)
+        seen = [(self.axis_line.of(jump.instant), 'time %+.7g s' % (jump.by / SECOND)) for jump in line.jumps()] if line else []
+        seen += [(low, 'session %d' % number) for number, (low, _) in enumerate(self.axis_line.ends[1:], 2)]
+        for place, text in sorted(seen):
+            if self.low <= place <= self.high:
+                x = self.place(place)
                 side, anchor = (x + 3, 'start') if x < WIDTH - RIGHT - 90 else (x - 3, 'end')
                 parts.append('<path stroke="%s" stroke-width="1.5" stroke-dasharray="5 3" d="M%.2f %dV%d"/>'
                              % (DARK, x, TOP - 18, self.bottom))
-                parts.append(words(side, TOP - 10, 'time %+.7g s' % (jump.by / SECOND), anchor=anchor, fill=DARK, size=11))
+                parts.append(words(side, TOP - 10, text, anchor=anchor, fill=DARK, size=11))
         return parts
 
     def ended(self, survey: Survey, size: int) -> List[str]:
         """Where the pass ended, if it did not go on after a fault."""
         if not survey.ends_early():
             return []
-        x = self.place(survey.span()[1])
+        x = self.place(self.axis_line.of(survey.span()[1]))
         return ['<path stroke="%s" stroke-width="2" d="M%.2f %dV%d"/>' % (RED, x, TOP - 6, self.bottom),
                 words(LEFT, 62, 'ends at byte %d of %d: %s' % (survey.size, size, survey.fault.what), fill=RED, weight='bold')]
 
@@ -201,7 +219,7 @@ def words(x: float, y: float, text: str, anchor: str = 'start', fill: str = 'bla
         x, y, anchor, fill, size, weight, escape(text))
 
 
-def time_text(count: int, low: int, step: int, clock: Optional[Clock]) -> str:
+def time_text(count: int, low: int, step: int, clock: Optional[Axis]) -> str:
     """A time as its step asks for, rounded to it: with places after the second, without, or with the day."""
     if clock is None or clock.text(count) is None:
         return seconds(count - low) + ' s'
@@ -236,18 +254,20 @@ def as_svg(asked: Namespace, data: Data, out: Output) -> None:
 
 
 def marks(data: Data, begin: int, survey: Survey, sources: Dict[Key, Row], by_packets: Set[Key]) -> Iterator[Mark]:
-    """Of each packet that is drawn its channel and type, its counts, the count of a loss and how many messages were lost, or None
-    twice."""
+    """Of each packet that is drawn its channel and type, its instants, the instant of a loss and how many messages were lost, or
+    None twice."""
     report, behind = None, 0
-    for packet in packets(data, begin, begin + survey.size, False, survey.passed):
+    for number, packet in enumerate(packets(data, begin, begin + survey.size, False, survey.passed)):
         key = packet.channel, packet.kind
         if packet.offset != behind:
             report = None
         behind = packet.offset + packet.length
         if key in sources:
-            found = [packet.counter] if key in by_packets else counts(packet)
+            found, base = [packet.counter] if key in by_packets else counts(packet), survey.of[number] << BITS
+            if base:
+                found = [count + base for count in found]
             if packet.flags & 0x10:
-                yield key, found, (found or [packet.counter])[0], lost_before(packet, report)
+                yield key, found, (found or [packet.counter + base])[0], lost_before(packet, report)
             elif found:
                 yield key, found, None, None
         report = loss_of(packet)
@@ -255,6 +275,6 @@ def marks(data: Data, begin: int, survey: Survey, sources: Dict[Key, Row], by_pa
 
 def ends_in(data: Data, begin: int, survey: Survey, sources: Dict[Key, Row], by_packets: Set[Key],
             within: Range) -> Optional[Tuple[int, int]]:
-    """The lowest and the highest count that is drawn of a range, or None."""
+    """The first and the last instant that is drawn of a range, or None."""
     found = [count for _, some, _, _ in marks(data, begin, survey, sources, by_packets) for count in some if within.has(count)]
     return (min(found), max(found)) if found else None

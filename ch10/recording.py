@@ -11,7 +11,7 @@
                              sequence, flags, counter, body, word
     .bytes_of(packet)        the packet as it stands, header and checksum included
     .entries_of(packet)      the entries of one packet, as `Entry`
-    .entries(channels)       all entries by count, then channel, then place, as `Entry`
+    .entries(channels)       all entries by session, then count, then channel, then place, as `Entry`
 
 An `Entry` has count, channel, kind (the data type), lost (messages lost right before it; -1 where it is not told how many) and
 value: a named tuple by its kind, as `ch10.bodies.BODIES[kind].record`. `ch10.fields.Reader(survey.names).entries(packet)` gives the
@@ -27,7 +27,7 @@ from .inputs import is_recording, listed
 from .medium import File, bytes_of
 from .packets import Packet, lost_before, packets
 from .replay import replayed
-from .standard import Data
+from .standard import COUNT_BITS, Data
 from .survey import Survey
 
 Entry = namedtuple('Entry', 'count channel kind lost value')
@@ -65,8 +65,8 @@ class Recording:
 
     def entries(self, channels: Optional[List[int]] = None) -> Iterator[Entry]:
         for some in replayed(self.data, self.begin, self.survey(), channels):
-            for count, channel, _, kind, lost, values in some:
-                yield Entry(count, channel, kind, lost, BODIES[kind].record(*values))
+            for instant, channel, _, kind, lost, values in some:
+                yield Entry(instant & COUNT_BITS, channel, kind, lost, BODIES[kind].record(*values))
 
 
 def recordings(data: Data) -> List[Recording]:

@@ -2,15 +2,16 @@
 from __future__ import annotations
 
 from array import array
-from typing import Dict, List, Optional, Tuple
+from bisect import bisect_right
+from typing import Dict, Iterable, List, Optional, Sequence, Tuple
 
 from . import walk
 from .bodies import BODIES
-from .clocks import TimeLine
+from .clocks import BITS, COUNTLESS, NOTHING, Asked, Sessions, TimeLine, Timing
 from .kinds import by_type
 from .packets import UNTOLD, Packet, Resync, Stretch, loss_of, lost_before, packet_at
-from .standard import INDEX, NONE_LATER, SETUP, SPAN, TIME, Damaged, Data, Fault, let_go
-from .times import Clock, Time, time
+from .standard import COUNT_BITS, INDEX, NONE_LATER, SETUP, SPAN, TIME, Damaged, Data, Fault, let_go
+from .times import Time, time
 from .tmats import Names
 
 STATES = by_type('last_state')
@@ -30,17 +31,19 @@ def name_of(kind: int) -> str:
 
 
 class Row:
-    """What the packets of one channel and one type have together."""
+    """What the packets of one channel and one type have together.
 
-    __slots__ = ('channel', 'kind', 'packets', 'entries', 'bytes', 'losses', 'lost', 'untold', 'jumps', 'opaque', 'bad', 'low',
-                 'high', 'begin', 'end')
+    .packed    of each session the lowest and the highest instant of its packets; .entered, of their entries
+    """
 
-    def __init__(self, channel: int, kind: int, counter: int) -> None:
+    __slots__ = ('channel', 'kind', 'packets', 'entries', 'bytes', 'losses', 'lost', 'untold', 'jumps', 'opaque', 'bad', 'packed',
+                 'entered')
+
+    def __init__(self, channel: int, kind: int) -> None:
         self.channel, self.kind = channel, kind
         self.packets = self.entries = self.bytes = self.losses = self.lost = self.untold = self.jumps = self.opaque = self.bad = 0
-        self.low: Optional[int] = None
-        self.high: Optional[int] = None
-        self.begin = self.end = counter
+        self.packed: Dict[int, List[int]] = {}
+        self.entered: Dict[int, List[int]] = {}
 
     def add(self, packet: Packet, report: Optional[Tuple[int, int]]) -> None:
         """Adds a packet after this report, or after none."""
@@ -53,36 +56,55 @@ class Row:
             self.lost += 1 if lost == UNTOLD else lost
         if packet.word is None:
             self.opaque += 1
-        counter = packet.counter
-        if counter < self.begin:
-            self.begin = counter
-        elif counter > self.end:
-            self.end = counter
+
+    def at(self, instant: int) -> None:
+        """Takes note of when a packet is."""
+        span = self.packed.get(instant >> BITS)
+        if span is None:
+            self.packed[instant >> BITS] = [instant, instant]
+        elif instant < span[0]:
+            span[0] = instant
+        elif instant > span[1]:
+            span[1] = instant
 
     def add_entries(self, number: int, low: int, high: int) -> None:
+        """Adds entries between two instants."""
         self.entries += number
-        if self.low is None:
-            self.low, self.high = low, high
-        if low < self.low:
-            self.low = low
-        if high > self.high:
-            self.high = high
+        span = self.entered.get(low >> BITS)
+        if span is None:
+            self.entered[low >> BITS] = [low, high]
+            return
+        if low < span[0]:
+            span[0] = low
+        if high > span[1]:
+            span[1] = high
 
     def has_entries(self) -> bool:
         """Whether its type is one of entries that are read."""
         return self.kind in BODIES and BODIES[self.kind].keys is not None
 
+    def ends(self) -> List[Tuple[int, int]]:
+        """Of each session the first and the last instant of its entries, or, where it has none, of its packets."""
+        return [(low, high) for _, (low, high) in sorted((self.entered or self.packed).items())]
+
     def first(self) -> int:
-        return self.begin if self.low is None else self.low
+        """The first instant."""
+        return self.ends()[0][0]
 
     def last(self) -> int:
-        return self.end if self.high is None else self.high
+        """The last instant."""
+        return self.ends()[-1][1]
+
+    def counts(self) -> Tuple[int, int]:
+        """The lowest and the highest count."""
+        return counts_of(self.ends())
 
     def rate(self) -> Optional[float]:
-        """Entries a second from the first to the last, or None."""
-        if self.entries < 2 or self.low == self.high:
+        """Entries a second from the first to the last of each session, or None."""
+        past = sum(high - low for low, high in self.entered.values())
+        if self.entries < 2 or past == 0:
             return None
-        return (self.entries - 1) * 10 ** 7 / (self.high - self.low)
+        return (self.entries - len(self.entered)) * 10 ** 7 / past if self.entries > len(self.entered) else None
 
 
 class Survey:
@@ -91,16 +113,17 @@ class Survey:
     .rows      a `Row` of each channel and type, by channel, then type
     .damage    a `Stretch` of each stretch that was passed over, by offset; none where it does not go on
     .passed    their lengths by their offsets, for `ch10.packets.packets`
-    .spans     of each stretch the counter of the last packet before it and of the first one after it, or None
+    .spans     of each stretch the instant of the last packet before it and of the first one after it, or None
     .fault     the first fault, or None
     .size      how many bytes were gone over: all, or those before the fault that ended it
-    .clock     the `Clock` of its times, or None; .times, a `TimeLine` of each channel with times
+    .clock     the `Clock` of its times, or None; .times, a `TimeLine` of each channel with times; .sessions, its `Sessions`
     .setup     the first setup text as bytes, or None; .names, what it says of channels: `ch10.tmats.Names`
-    .lows      of each packet that was read the lowest count of its entries; .highs the highest; .places where it begins, after the
-               recording's first byte
+    .lows      of each packet that was read the lowest instant of its entries; .highs the highest; .places where it begins, after
+               the recording's first byte; .of, the number of its session
     """
 
-    def __init__(self, data: Data, begin: int, end: int, goes_on: bool = True, judged: bool = False) -> None:
+    def __init__(self, data: Data, begin: int, end: int, goes_on: bool = True, judged: bool = False,
+                 asked: Asked = NOTHING) -> None:
         self.judged = judged  # by the program: then its sums are right, but for those of opaque packets
         self.rows: List[Row] = []
         self.damage: List[Stretch] = []
@@ -108,17 +131,19 @@ class Survey:
         self.spans: List[Tuple[Optional[int], Optional[int]]] = []
         self.fault: Optional[Fault] = None
         self.setup: Optional[bytes] = None
-        self.lows, self.highs, self.places = array('Q'), array('Q'), array('Q')
+        self.lows, self.highs, self.places, self.of = array('Q'), array('Q'), array('Q'), array('I')
+        self.timing = Timing()
+        self.sessions = self.timing.sessions
+        self.held: List[Tuple[Row, int, int, bool]] = []  # of packets that are of the session of what comes next
         self.states: List[Tuple[int, int, int]] = []  # of each packet that has one its number, its channel and its last state
-        self.times: List[TimeLine] = []
         self.by_key: Dict[Tuple[int, int], Row] = {}
         self.size = self.go(data, begin, end, goes_on)
         if end == begin:
             self.fault = Fault('no packet')
         self.rows = [self.by_key[key] for key in sorted(self.by_key)]
         self.names = Names(self.setup)
-        lines = [line for line in self.times if line.told]
-        self.clock = Clock(lines) if lines else None
+        self.times: List[TimeLine] = list(self.timing.lines.values())
+        self.clock = self.timing.clock(asked, self.names.attributes)
 
     def go(self, data: Data, begin: int, end: int, goes_on: bool) -> int:
         """Goes over the recording, and answers how far it came."""
@@ -139,6 +164,7 @@ class Survey:
                     fault = self.placed(fault, data, at, begin, end)
                 self.fault = self.fault or fault
                 if not goes_on:
+                    self.settle(self.sessions.base)
                     return at - begin
                 if fault.whose:
                     resync.note(*fault.whose[:3])
@@ -147,22 +173,49 @@ class Survey:
                 at, report = following, None
                 continue
             channel, kind, sequence, told = packet.channel, packet.kind, packet.sequence, loss_of(packet)
+            base = self.base_of(packet, before)
+            last = packet.counter + base
             if self.spans and self.spans[-1][1] is None:
-                self.close_spans(packet.counter)
-            row = self.row_of(channel, REPORT_ROW if told else kind, packet.counter)
-            if before.get(channel, sequence) != sequence:
-                row.jumps += 1
+                self.close_spans(last)
+            row = self.row_of(channel, REPORT_ROW if told else kind)
+            is_jump = before.get(channel, sequence) != sequence
+            row.jumps += is_jump
             before[channel] = sequence + 1 & 0xFF
             row.add(packet, report)
             report = told
-            self.note(packet, found, said, row)
+            if kind in COUNTLESS:
+                self.held.append((row, len(self.lows), packet.counter, is_jump))
+            else:
+                row.at(last)
+            self.note(packet, found, said, row, base)
             resync.note(channel, kind, sequence)
-            last = packet.counter
             at += packet.length
             if at - gone >= SPAN:
                 let_go(data, gone, at)
                 gone = at
+        self.settle(self.sessions.base)
         return at - begin
+
+    def base_of(self, packet: Packet, before: Dict[int, int]) -> int:
+        """The instant of count 0 of a packet's session. A recorder that was switched on anew begins its sequence numbers anew."""
+        number = self.sessions.number()
+        base = self.sessions.base_of(packet.channel, packet.kind, packet.counter, packet.sequence, packet.offset)
+        if base is None:
+            return self.sessions.base
+        is_anew = self.sessions.number() > number and number not in self.sessions.wraps
+        if is_anew:
+            before.clear()
+        if self.held:
+            self.settle(base, is_anew)
+        return base
+
+    def settle(self, base: int, is_anew: bool = False) -> None:
+        """Takes note of when those packets were that are of the session of what comes next."""
+        for row, number, counter, is_jump in self.held:
+            row.at(base + counter)
+            row.jumps -= is_jump and is_anew
+            self.of[number] = base >> BITS
+        self.held = []
 
     @staticmethod
     def placed(fault: Fault, data: Data, at: int, begin: int, end: int) -> Fault:
@@ -173,25 +226,22 @@ class Survey:
             return same
         return Fault(fault.what, at - begin, packet.length, (packet.channel, packet.kind, packet.sequence, packet.counter))
 
-    def row_of(self, channel: int, kind: int, counter: int) -> Row:
+    def row_of(self, channel: int, kind: int) -> Row:
         row = self.by_key.get((channel, kind))
         if row is None:
-            row = self.by_key[channel, kind] = Row(channel, kind, counter)
+            row = self.by_key[channel, kind] = Row(channel, kind)
         return row
 
-    def note(self, packet: Packet, found: Tuple[int, int, int], said: Optional[Time], row: Row) -> None:
-        """Takes note of what stands in a packet."""
+    def note(self, packet: Packet, found: Tuple[int, int, int], said: Optional[Time], row: Row, base: int) -> None:
+        """Takes note of what stands in a packet of the session whose count 0 is at this instant."""
         kind, (number, low, high) = packet.kind, found
         if number:
+            low, high = low + base, high + base
             row.add_entries(number, low, high)
         else:
             low, high = NONE_LATER, 0
         if kind == TIME and said is not None:
-            line = next((line for line in self.times if line.channel == packet.channel), None)
-            if line is None:
-                line = TimeLine(packet.channel)
-                self.times.append(line)
-            line.add(packet.counter, said, packet.offset)
+            self.timing.add(packet.channel, packet.counter + base, said, packet.offset, packet.flags)
         elif kind in STATES and number:
             self.states.append((len(self.lows), packet.channel, STATES[kind](packet.body)))
         elif kind == SETUP and packet.word is not None and self.setup is None:
@@ -199,13 +249,23 @@ class Survey:
         self.lows.append(low)
         self.highs.append(high)
         self.places.append(packet.offset)
+        self.of.append(base >> BITS)
+
+    def base_at(self, offset: int) -> int:
+        """The instant of count 0 of the session of a packet that begins there."""
+        if self.sessions.number() == 1:
+            return 0
+        return self.of[max(bisect_right(self.places, offset) - 1, 0)] << BITS
 
     def pass_over(self, fault: Fault, offset: int, length: int, last: Optional[int], before: Dict[int, int]) -> None:
         """Takes note of a stretch."""
         channel = kind = None
         if fault.whose:
             channel, kind, sequence, counter = fault.whose
-            self.row_of(channel, kind, counter).bad += 1
+            row = self.row_of(channel, kind)
+            row.bad += 1
+            if not row.packed:
+                row.at(self.sessions.base + counter)
             before[channel] = sequence + 1 & 0xFF
         if (self.damage and channel is None and self.damage[-1].channel is None
                 and self.damage[-1].offset + self.damage[-1].length == offset):
@@ -216,11 +276,11 @@ class Survey:
         self.passed[offset] = length
         self.spans.append((last, None))
 
-    def close_spans(self, counter: int) -> None:
+    def close_spans(self, instant: int) -> None:
         for place in range(len(self.spans) - 1, -1, -1):
             if self.spans[place][1] is not None:
                 break
-            self.spans[place] = self.spans[place][0], counter
+            self.spans[place] = self.spans[place][0], instant
 
     def drawn(self, channels: Optional[List[int]] = None) -> List[Row]:
         """The rows of all packets but those of setup, index and loss reports."""
@@ -228,9 +288,13 @@ class Survey:
                 and (channels is None or row.channel in channels)]
 
     def span(self) -> Optional[Tuple[int, int]]:
-        """The lowest and the highest count, or None where there is no packet. Those of setup, index and reports matter where there
+        """The first and the last instant, or None where there is no packet. Those of setup, index and reports matter where there
         are no others."""
         return ends_of(self.drawn() or self.rows)
+
+    def ends(self) -> List[Tuple[int, int]]:
+        """The same of each session; sessions between which the counter's bits were full are one."""
+        return session_ends(self.drawn() or self.rows, self.sessions)
 
     def ends_early(self) -> bool:
         """Whether a fault ended it before the recording's end."""
@@ -261,5 +325,23 @@ def ended_fields(survey: 'Survey', size: int) -> dict:
     return {'ended': {'offset': survey.size, 'unread': size - survey.size, 'why': survey.fault.what}}
 
 
-def ends_of(rows: List[Row]) -> Optional[Tuple[int, int]]:
+def ends_of(rows: Sequence[Row]) -> Optional[Tuple[int, int]]:
+    """The first and the last instant of some rows."""
     return (min(row.first() for row in rows), max(row.last() for row in rows)) if rows else None
+
+
+def session_ends(rows: Iterable[Row], sessions: Sessions) -> List[Tuple[int, int]]:
+    """The first and the last instant of each session, by some rows."""
+    found: Dict[int, Tuple[int, int]] = {}
+    for row in rows:
+        for low, high in row.ends():
+            run = sessions.run_of(low >> BITS)
+            least, most = found.get(run, (low, high))
+            found[run] = min(least, low), max(most, high)
+    return [found[run] for run in sorted(found)]
+
+
+def counts_of(ends: Sequence[Tuple[int, int]]) -> Tuple[int, int]:
+    """The lowest and the highest count of some spans of instants."""
+    return (min(min(low & COUNT_BITS, high & COUNT_BITS) for low, high in ends),
+            max(max(low & COUNT_BITS, high & COUNT_BITS) for low, high in ends))

@@ -3,12 +3,12 @@ from __future__ import annotations
 
 from argparse import Namespace
 import json
-from typing import Iterator, List, Optional, Tuple
+from typing import Iterator, List, Optional, Sequence, Tuple
 
-from .clocks import TimeLine
+from .clocks import BITS, TimeLine
 from .inputs import Output, is_recording, listed, shown, the_file
 from .medium import File, bytes_of
-from .standard import Data, Fault
+from .standard import COUNT_BITS, Data, Fault
 from .survey import REPORT_ROW, Row, Survey, name_of, stretch_fields, stretch_text
 from .times import civil
 
@@ -80,13 +80,26 @@ def titles(survey: Survey, size: int, number: Optional[int], file: Optional[File
         head += '; %s of %s passed over' % (said(len(survey.damage), 'stretch', 'es'),
                                             said(sum(stretch.length for stretch in survey.damage), 'byte'))
     lines, span = [head], survey.span()
-    if span and survey.clock:
-        lines.append('from %s to %s, %s seconds' % (
-            survey.clock.text(span[0]) or '-', survey.clock.text(span[1]) or '-', seconds_of(span[1] - span[0])))
-    elif span:
-        lines.append('%s seconds, without a civil time' % seconds_of(span[1] - span[0]))
+    if span:
+        ends = survey.ends()
+        past, many = seconds_of(sum(high - low for low, high in ends)), ' in %d sessions' % len(ends) if len(ends) > 1 else ''
+        if survey.clock:
+            lines.append('from %s to %s, %s seconds%s' % (*(said or '-' for said in survey.clock.ends(ends)), past, many))
+        else:
+            lines.append('%s seconds%s, without a civil time' % (past, many))
+    lines += session_lines(survey)
     lines += [line for times in survey.times for line in clock_lines(times, survey)]
     return lines + [stretch_text(stretch) for stretch in survey.damage]
+
+
+def session_lines(survey: Survey) -> List[str]:
+    """Of a recording in which the counter began anew: each session's place, counts and times."""
+    lines, ends = [], survey.ends()
+    for number, (low, high) in enumerate(ends if len(ends) > 1 else [], 1):
+        first, last = survey.clock.ends([(low, high)]) if survey.clock else (None, None)
+        lines.append('session %d: offset %d, counts %d to %d, from %s to %s' % (
+            number, survey.sessions.starts[low >> BITS], low & COUNT_BITS, high & COUNT_BITS, first or '-', last or '-'))
+    return lines
 
 
 def seconds_of(ticks: int) -> str:
@@ -95,20 +108,24 @@ def seconds_of(ticks: int) -> str:
 
 def clock_lines(times: TimeLine, survey: Survey) -> Iterator[str]:
     """What the times of a channel say of its clock: a line, and one for each jump."""
-    low, high = survey.span()
     drift, jumps, back = times.drift(), times.jumps(), times.steps_back()
     text = 'not known' if drift is None else '%+.1f parts per million, known to %.1f' % drift
-    untold = times.packets - len(times.told)
+    untold = times.packets - len(times.told) - times.invalid
     anew = '; the counter began anew %s' % said(times.wraps(), 'time') if times.wraps() else ''
-    yield 'time on channel %d: %s%s, %s, %s back, %s without one; drift %s%s' % (
-        times.channel, said(times.packets, 'packet'), ', %s no time' % untold if untold else '', said(len(jumps), 'jump'),
-        said(back, 'step'),
-        said(times.without(low, high), 'second'), text, anew)
-    dated = bool(times.told) and times.told[0][1].dated
+    yield 'time on channel %d: %s%s%s, %s, %s back, %s without one; drift %s%s%s' % (
+        times.channel, said(times.packets, 'packet'), ', %s no time' % untold if untold else '',
+        ', %d invalid' % times.invalid if times.invalid else '', said(len(jumps), 'jump'), said(back, 'step'),
+        said(times.without(survey.ends()), 'second'), text, anew, quality_text(times))
     for jump in jumps:
         yield 'time jump on channel %d: offset %d, count %d: %s s, from %s to %s' % (
-            times.channel, jump.offset, jump.count, signed_seconds(jump.by), civil_text(jump.before, dated),
-            civil_text(jump.after, dated))
+            times.channel, jump.offset, jump.instant & COUNT_BITS, signed_seconds(jump.by),
+            civil_text(jump.before, times.is_dated()), civil_text(jump.after, times.is_dated()))
+
+
+def quality_text(times: TimeLine) -> str:
+    """What there is to be known of a channel's times where its clock was not locked throughout, or its counter out of step."""
+    free, out = len(times.told) - times.locked(), times.out()
+    return ('; %d not locked' % free if free else '') + ('; %d with a counter out of step' % out if out else '')
 
 
 def signed_seconds(ticks: int) -> str:
@@ -136,7 +153,7 @@ def tables(survey: Survey) -> List[str]:
                              row.opaque, row.bad))
         if row.packets:
             ends = row.first(), row.last()
-            when.append(front + ends + tuple(survey.clock and survey.clock.text(end, 2) or '-' for end in ends))
+            when.append(front + row.counts() + tuple(survey.clock and survey.clock.text(end, 2) or '-' for end in ends))
     sums = [sum(getattr(row, name) for row in survey.rows)
             for name in ('packets', 'entries', 'bytes', 'losses', 'lost', 'untold', 'jumps', 'opaque')]
     much.append(('all', '', '', *sums[:3], '', sums[3], at_least(*sums[4:6]), *sums[6:], len(survey.damage)))
@@ -169,9 +186,8 @@ def fields(survey: Survey) -> Iterator[dict]:
     """The objects of JSON lines: of each channel and type, of each clock, of each stretch that was passed over."""
     for row in survey.rows:
         yield of_row(row, survey)
-    span = survey.span()
     for times in survey.times:
-        yield {'clock': of_clock(times, span)}
+        yield {'clock': of_clock(times, survey.ends())}
     for stretch in survey.damage:
         yield stretch_fields(stretch)
 
@@ -181,19 +197,19 @@ def of_row(row: Row, survey: Survey) -> dict:
     return {
         'channel': row.channel, 'channel_name': survey.names.channel(row.channel) or None, 'type': name_of(row.kind),
         'packets': row.packets, 'entries': row.entries if row.has_entries() else None,
-        'bytes': row.bytes, 'first': row.first() if has else None, 'last': row.last() if has else None,
+        'bytes': row.bytes, 'first': row.counts()[0] if has else None, 'last': row.counts()[1] if has else None,
         'first_time': clock and has and clock.text(row.first()) or None,
         'last_time': clock and has and clock.text(row.last()) or None, 'rate': row.rate(),
         'losses': row.losses, 'lost': row.lost, 'untold': row.untold, 'jumps': row.jumps, 'opaque': row.opaque, 'bad': row.bad}
 
 
-def of_clock(times: TimeLine, span: Tuple[int, int]) -> dict:
-    drift = times.drift()
-    dated = bool(times.told) and times.told[0][1].dated
+def of_clock(times: TimeLine, ends: Sequence[Tuple[int, int]]) -> dict:
+    drift, dated = times.drift(), times.is_dated()
     return {
         'channel': times.channel, 'packets': times.packets, 'no_time': times.packets - len(times.told),
         'steps_back': times.steps_back(), 'wraps': times.wraps(),
-        'seconds_without': times.without(*span), 'drift_ppm': drift and drift[0], 'drift_known_to': drift and drift[1],
-        'jumps': [{'offset': jump.offset, 'count': jump.count, 'from': civil_text(jump.before, dated),
+        'seconds_without': times.without(ends), 'drift_ppm': drift and drift[0], 'drift_known_to': drift and drift[1],
+        'jumps': [{'offset': jump.offset, 'count': jump.instant & COUNT_BITS, 'from': civil_text(jump.before, dated),
                    'to': civil_text(jump.after, dated),
-                   'seconds': jump.by / 10 ** 7} for jump in times.jumps()]}
+                   'seconds': jump.by / 10 ** 7} for jump in times.jumps()],
+        'invalid': times.invalid, 'locked': times.locked(), 'out_of_step': times.out()}

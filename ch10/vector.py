@@ -20,6 +20,7 @@ from . import walk
 from .inputs import HELD
 from .kinds import KINDS
 from .replay import Ordered, Part
+from .standard import COUNT_BITS
 from .times import DAY, civil
 from .walk import Array
 
@@ -42,7 +43,7 @@ EACH = 4 << 20  # bytes of packets that a part has, or more
 TOGETHER = 40000  # entries whose lines are made at once
 ROOM = bytes(4 * LONGEST)  # after bytes that pieces are parts of
 SECOND = 10 ** 7
-LAST_DAY = {True: 3652059, False: 366}
+LAST_DAY = 3652059  # of the calendar
 LAST = (1 << 63) - 1
 
 
@@ -228,8 +229,8 @@ def padded(octets: Array, more: int) -> Array:
 # ---- entries
 
 class Block:
-    """Entries of one kind, from some packets: of each its count, its channel by its number in the forms, its place in the order,
-    and what was lost before it.
+    """Entries of one kind, from some packets: of each its count (its instant, once its packets' sessions are known), its channel by
+    its number in the forms, its place in the order, and what was lost before it.
 
     Further columns are those of its kind.
     """
@@ -286,8 +287,8 @@ class Vector:
         self.channels: List[int] = []
         self.sources: Dict[int, Any] = {}  # of each kind the bytes that its pieces are parts of
         clock = ordered.survey.clock
-        self.starts: Array = numpy.array(clock.counts if clock else [], numpy.int64)
-        self.ahead: Array = numpy.array(clock.ticks if clock else [], numpy.int64) - self.starts
+        self.starts: Array = numpy.array(clock.starts if clock else [], numpy.int64)
+        self.ahead: Array = numpy.array(clock.aheads if clock else [], numpy.int64)
 
     def lines(self, part: Part) -> Optional[Iterator]:
         """The lines of a part, some at a time, or None where the plain way is to make them."""
@@ -305,6 +306,9 @@ class Vector:
                 block, left = self.kinds[kind].entries(self, kind, groups[kind])
                 plain += left
                 if not left:
+                    bases = numpy.array([self.ordered.base(number) for number, _, _ in groups[kind]], numpy.int64)
+                    if bases.any() and len(block.count):
+                        block.count = block.count + bases[block.of]
                     break
                 gone = {number for number, _, _ in left}
                 groups[kind] = [one for one in groups[kind] if one[0] not in gone]
@@ -370,13 +374,14 @@ class Vector:
         """The lines of some packets, made one by one: their counts, channels, places in the order, and the lines."""
         form, clock, counts, channels, order, lines = self.form, self.ordered.survey.clock, [], [], [], []
         for number, packet, lost in plain:
-            front = form.front(packet.channel)
+            front, base = form.front(packet.channel), self.ordered.base(number)
             for place, (count, tail) in enumerate(form.tails(packet, self.ordered.states.get(number))):
-                if part.low <= count < part.high:
-                    counts.append(count)
+                instant = count + base
+                if part.low <= instant < part.high:
+                    counts.append(instant)
                     channels.append(packet.channel)
                     order.append((number << 32) + place)
-                    lines.append((form.line(front, count, clock.text(count) if clock else None, lost, tail)
+                    lines.append((form.line(front, instant & COUNT_BITS, clock.text(instant) if clock else None, lost, tail)
                                   + '\n').encode('utf-8', 'replace'))
                 lost = 0
         return tuple(numpy.array(some, numpy.int64) for some in (counts, channels, order)) + (lines,)
@@ -401,6 +406,8 @@ class Vector:
         if clock is None:
             return True
         low, high = int(block.count.min()), int(block.count.max())
+        if not clock.is_plain(low, high):
+            return False
         first = max(int(numpy.searchsorted(self.starts, low, 'right')) - 1, 0)
         last = max(int(numpy.searchsorted(self.starts, high, 'right')) - 1, 0)
         if first == last:
@@ -410,14 +417,15 @@ class Vector:
                                                                                      'right') - 1, 0)]
         block.columns['second'] = told // SECOND
         block.columns['part'] = told - block.columns['second'] * SECOND
-        return int(told.min()) >= DAY and int(told.max()) < (LAST_DAY[clock.dated] + 1) * DAY
+        return int(told.min()) >= DAY and int(told.max()) < (LAST_DAY + 1) * DAY
 
     def front(self, block: Block) -> List[Piece]:
         """The pieces from a line's begin to its time."""
         form, clock = self.form, self.ordered.survey.clock
         fronts = self.table(('front',), lambda key: form.front(self.channels[key]).encode('utf-8', 'replace')).pieces(block.channel)
-        least, most = len(str(int(block.count.min()))), len(str(int(block.count.max())))
-        digits = self.decimals.right(block.count, -(-most // 4))
+        count = block.count & COUNT_BITS
+        least, most = len(str(int(count.min()))), len(str(int(count.max())))
+        digits = self.decimals.right(count, -(-most // 4))
         columns, apart = [digits[:, digits.shape[1] - most:]], [fronts]
         if least == most and fronts.lengths is None:
             columns, apart = [fronts.source.take(fronts.starts, 0)[:, :fronts.wide]] + columns, []
@@ -438,7 +446,7 @@ class Vector:
             at += column.shape[1]
         if least == most:
             return apart + [Fixed(rows)]
-        fewer = most - 1 - numpy.searchsorted(10 ** numpy.arange(1, most, dtype=numpy.int64), block.count, 'right')
+        fewer = most - 1 - numpy.searchsorted(10 ** numpy.arange(1, most, dtype=numpy.int64), count, 'right')
         return apart + [Piece(padded(rows.reshape(-1), wide), numpy.arange(0, wide * len(rows), wide) + fewer, wide, wide - fewer)]
 
     def table(self, name: tuple, make: Callable[[int], bytes]) -> Table:

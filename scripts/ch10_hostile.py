@@ -72,7 +72,8 @@ def once_wrong() -> Tuple[object, object]:
 
 
 def counter_anew() -> Tuple[object, object]:
-    """A counter of 48 bits that begins anew is no jump of the clock, and no second is without a time."""
+    """A counter of 48 bits that begins anew is no jump of the clock, no second is without a time, and what comes after it comes
+    last."""
     make, start = Maker(), (1 << 48) - 10 * SECOND
     for second in range(30):
         make.put(1, 0x11, (start + second * SECOND) % (1 << 48), civil_body(MOMENT + datetime.timedelta(seconds=second)))
@@ -82,7 +83,7 @@ def counter_anew() -> Tuple[object, object]:
     return (status, line, times[0], times[-1]), (
         0, 'time on channel 1: 30 packets, 0 jumps, 0 steps back, 0 seconds without one; drift +0.0 parts per million, known to '
            '344.8; the counter began anew 1 time',
-        '12:35:06', '12:35:05')
+        '12:34:56', '12:35:25')
 
 
 def wrong_scripts() -> Tuple[object, object]:

@@ -36,6 +36,7 @@ from ch10 import command, inputs  # noqa: E402
 import ch10_damage  # noqa: E402
 import ch10_hostile  # noqa: E402
 import ch10_meanings  # noqa: E402
+import ch10_times  # noqa: E402
 import ch10_types  # noqa: E402
 import check_cases  # noqa: E402
 import judge_recording  # noqa: E402
@@ -574,7 +575,8 @@ def check():
     trials += [lambda it=it: compare_others(*it) for it in others_recordings()]
     trials += [lambda it=it: compare_verdict(*it) for it in check_cases.verdicts()]
     trials += [lambda it=it: agree(run(it[0], it[1])[::2], it[2:], str(it[0])) for it in calls()] + [compare_shell]
-    trials += [lambda it=it: agree(*it(), it.__name__) for it in ch10_meanings.TRIALS + ch10_hostile.TRIALS + ch10_types.TRIALS]
+    trials += [lambda it=it: agree(*it(), it.__name__) for it in ch10_meanings.TRIALS + ch10_hostile.TRIALS + ch10_types.TRIALS
+               + ch10_times.TRIALS]
     trials += [lambda seed=seed: agree(ch10_damage.each_twentieth(seed), [], 'a bit in each twentieth packet') for seed in range(3)]
     trials += [lambda which=which: agree(ch10_damage.one_damaged(1, which)[1], [], 'damage') for which in range(20)]
     for trial in trials:

@@ -127,7 +127,7 @@ def check_facts(folder: str, dsn: str, made: str) -> None:
         agree(find.verdict_text(facts), done.stdout.decode().strip(), 'the verdict on ' + path)
         survey = Survey(data, 0, len(data))
         agree([(one.offset, one.length) for one in survey.damage], damage_of(dsn, facts['sha256']), 'damaged stretches of ' + path)
-        rows = [(row.channel, row.packets, row.entries if row.has_entries() else None, row.bytes, row.first(), row.last(),
+        rows = [(row.channel, row.packets, row.entries if row.has_entries() else None, row.bytes, *row.counts(),
                  row.losses, row.lost, row.untold,
                  row.jumps, row.opaque, row.bad, survey.names.channel(row.channel) or None) for row in survey.rows]
         keys = ('channel', 'packets', 'entries', 'bytes', 'first_count', 'last_count', 'losses', 'lost', 'untold', 'jumps',
