@@ -1,4 +1,4 @@
-/* Counts the bytes that a program asks for, for scripts/bench.py --memory:
+/* Counts the bytes that a program asks for, for scripts/measure/bench.py --memory:
  *
  *     cc -O2 -shared -fPIC -o count_malloc.so count_malloc.c
  *     LD_PRELOAD=./count_malloc.so PROGRAM

@@ -1,4 +1,4 @@
-/* The first fault of a file, as a cursor on it is answered: scripts/run_rows.py compares it with the answers of rows.
+/* The first fault of a file, as a cursor on it is answered: scripts/rows/run_rows.py compares it with the answers of rows.
  *
  *     first_fault < IMAGE
  *

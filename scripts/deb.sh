@@ -2,9 +2,8 @@
 # Makes a Debian package of r10, by what scripts/install.sh installs, and tries it. If r10d is among it, the package makes its user,
 # r10, and does not start it.
 #
-#     scripts/deb.sh FOLDER            # makes FOLDER/r10_VERSION_ARCHITECTURE.deb, and prints its name
-#     scripts/deb.sh try PACKAGE       # unpacks it into a root of its own, which has a C library and nothing else, and runs r10
-#                                        there
+#     scripts/deb.sh FOLDER         # makes FOLDER/r10_VERSION_ARCHITECTURE.deb, and prints its name
+#     scripts/deb.sh try PACKAGE    # unpacks it into a root of its own, which has a C library and nothing else, and runs r10 there
 #
 # `try` wants root, for chroot, or leave to make a namespace (unshare); without either a line says NOT TRIED.
 set -eu
@@ -169,7 +168,7 @@ try_package() {
 
 case ${1:-} in
 -h | --help)
-    sed -n '2,10s/^# \{0,1\}//p' "${BASH_SOURCE[0]}"
+    sed -n '2,/^[^#]/s/^# \{0,1\}//p' "${BASH_SOURCE[0]}"
     ;;
 try)
     [ -f "${2:-}" ] || give_up 2 "which package? scripts/deb.sh try PACKAGE"

@@ -1,31 +1,34 @@
 #!/usr/bin/env bash
 # The recorder as a library for programs in C, C++ and Rust: ffi/r10.h says what it is.
 #
-#     scripts/ffi.sh build             # makes crates/r10_ffi/out/libr10_ffi.a, proved, where it is not there or a source has
-#                                        changed
-#     scripts/ffi.sh build --shared    # and of it, beside it, libr10.a and libr10.so, which show the names of r10.h and no others
-#     scripts/ffi.sh install PREFIX [DESTDIR]   # puts headers, the kept library (static and shared) and r10.pc below
-#                                                 DESTDIR/PREFIX: scripts/install.sh calls it
-#     scripts/ffi.sh examples FOLDER   # compiles ffi/example.c and ffi/example.rs over it, into FOLDER/example_c and
-#                                        FOLDER/example_rs
-#     scripts/ffi.sh random CALLS [SEED]   # random calls under the address sanitizer, a tenth of them under valgrind, and scripts
-#                                            of 1,000 beside `r10 sim`
-#     scripts/ffi.sh check             # runs both, ffi/calls.c, which calls each function, also as C++, ffi/flight.c, ffi/disk.c,
-#                                        ffi/commits.c, ffi/accounts.c, ffi/refused.c, ffi/media.c, ffi/parts.c, ffi/memory.c and
-#                                        ffi/ports.c, and compares what they print with ffi/*.expected; ffi/port_load.c, for its
-#                                        sums; runs the rows
-#     scripts/ffi.sh kept              # prints where the library is: the proved one if it is there, else one that is not proved
-#     scripts/ffi.sh proved            # prints where the proved library is; status 1 if it is not there, or a source has changed
-#     scripts/ffi.sh behind-ci         # `rt ci`; after it `check` over its libraries, an installation of what was proved, the
-#                                        service, and sessions: the gate
+#     scripts/ffi.sh build                       # makes crates/r10_ffi/out/libr10_ffi.a, proved, where it is not there or a source
+#                                                # has changed
+#     scripts/ffi.sh build --shared              # and of it, beside it, libr10.a and libr10.so, which show the names of r10.h and
+#                                                # no others
+#     scripts/ffi.sh install PREFIX [DESTDIR]    # puts headers, the kept library (static and shared) and r10.pc below
+#                                                # DESTDIR/PREFIX: scripts/install.sh calls it
+#     scripts/ffi.sh examples FOLDER             # compiles ffi/example.c and ffi/example.rs over it, into FOLDER/example_c and
+#                                                # FOLDER/example_rs
+#     scripts/ffi.sh random CALLS [SEED]         # random calls under the address sanitizer, a tenth of them under valgrind, and
+#                                                # scripts of 1,000 beside `r10 sim`
+#     scripts/ffi.sh check                       # runs both, ffi/calls.c, which calls each function, also as C++, ffi/flight.c,
+#                                                # ffi/disk.c, ffi/commits.c, ffi/accounts.c, ffi/refused.c, ffi/media.c,
+#                                                # ffi/parts.c, ffi/memory.c and ffi/ports.c, and compares what they print with
+#                                                # ffi/*.expected; ffi/port_load.c, for its sums; runs the rows
+#     scripts/ffi.sh kept                        # prints where the library is: the proved one if it is there, else one that is not
+#                                                # proved
+#     scripts/ffi.sh proved                      # prints where the proved library is; status 1 if it is not there, or a source has
+#                                                # changed
+#     scripts/ffi.sh behind-ci                   # `rt ci`; after it `check` over its libraries, an installation of what was proved,
+#                                                # the service, and sessions: the gate
 #
 # With --quick as the word after it, `build`, `examples` and `check` take a library that is not proved: it is made once, in some
-# three minutes, and kept (scripts/quick_build.py). `build` prints where the library is.
+# three minutes, and kept (scripts/build/quick_build.py). `build` prints where the library is.
 #
-# Without `rt ci` before it, scripts/build.py proves what is not proved, side by side. It wants a C compiler, `cc`; for the program
-# in C++ `g++`, and for the Rust crates `cargo`, which needs no network. If one of the last two is not there, a line says what was
-# not tried. `check` fails without `cc`; `behind-ci` says so in a line, and goes on. With R10_FFI_LIBRARY=FILE another static
-# library is taken, and none is made: for trials.
+# Without `rt ci` before it, scripts/build/build.py proves what is not proved, side by side. It wants a C compiler, `cc`; for the
+# program in C++ `g++`, and for the Rust crates `cargo`, which needs no network. If one of the last two is not there, a line says
+# what was not tried. `check` fails without `cc`; `behind-ci` says so in a line, and goes on. With R10_FFI_LIBRARY=FILE another
+# static library is taken, and none is made: for trials.
 set -u
 
 top=$(cd "$(dirname "$(readlink -f "${BASH_SOURCE[0]}")")/.." && pwd)
@@ -40,8 +43,8 @@ give_up() {
 }
 
 rt=$(command -v rt) || give_up "there is no rt to build or to prove with: install the toolchain, and put its folder bin on the PATH"
-# shellcheck source=scripts/wants.sh
-. "$top/scripts/wants.sh"
+# shellcheck source=scripts/build/wants.sh
+. "$top/scripts/build/wants.sh"
 kit=$(dirname "$(dirname "$(readlink -f "$rt")")")
 quick=
 if [ "${2:-}" = --quick ]; then
@@ -70,7 +73,7 @@ build() {
     [ -z "${R10_FFI_LIBRARY:-}" ] || return 0
     want_python ffi
     if [ -n "$quick" ]; then
-        library=$("$top/scripts/quick_build.py" --library) || exit
+        library=$("$top/scripts/build/quick_build.py" --library) || exit
         return
     fi
     now=$(sum)
@@ -96,7 +99,7 @@ sys.exit(crate.build_static([]))
 EOF
     else
         # (what it says of a crate that is not proved is said at once)
-        "$top/scripts/build.py" --crate r10_ffi >"$crate/out/lib.log"
+        "$top/scripts/build/build.py" --crate r10_ffi >"$crate/out/lib.log"
     fi || {
         [ $? = 3 ] && [ "${1:-}" = over-ci ] && return 3
         tail -n 20 "$crate/out/lib.log" >&2
@@ -199,7 +202,7 @@ rows() {
             [ -n "${R10_PROGRAM:-}" ] || echo "ffi: NOT TRIED: there is no ${build##*/} to run the rows through"
             continue
         }
-        "$top/scripts/run_rows.py" "$build" --first-fault "$room/first_fault" >"$room/rows" 2>&1 || {
+        "$top/scripts/rows/run_rows.py" "$build" --first-fault "$room/first_fault" >"$room/rows" 2>&1 || {
             cat "$room/rows" >&2
             give_up "what ${build##*/} prints is not rows/answers"
         }
@@ -242,9 +245,9 @@ check() {
         } >"$room/c.said" || give_up "example_c: status $?"
         without_operations <"$room/c.said" >"$room/c.out"
         compare example_c.expected "$room/c.out"
-        "$top/scripts/judge_image.py" files <"$room/medium" >"$room/files.out"
+        "$top/scripts/tools/judge_image.py" files <"$room/medium" >"$room/files.out"
         compare example_files.expected "$room/files.out"
-        "$top/scripts/judge_image.py" check <"$room/medium" >"$room/verdicts.out"
+        "$top/scripts/tools/judge_image.py" check <"$room/medium" >"$room/verdicts.out"
         compare example_verdicts.expected "$room/verdicts.out"
         "$room/calls" >"$room/calls.out" || give_up "calls: status $?"
         compare calls.expected "$room/calls.out"
@@ -253,7 +256,7 @@ check() {
         c_example disk.c "$room/disk"
         "$room/disk" "$room/disk.medium" >"$room/disk.out" || give_up "disk: status $?"
         compare disk.expected "$room/disk.out"
-        "$top/scripts/disk_log.py" 2 "$room/logged" "$room/example_c" "$room/logged" 0 1000 100 ||
+        "$top/scripts/trials/disk_log.py" 2 "$room/logged" "$room/example_c" "$room/logged" 0 1000 100 ||
             give_up "example_c does not sync what it writes in the right places"
         c_example commits.c "$room/commits"
         "$room/commits" >"$room/commits.out" || give_up "commits: status $?"
@@ -300,9 +303,9 @@ check() {
             "$room/example_rs" 1000 100 "$room/medium_rs" >"$room/rs.out" || give_up "example_rs over a file: status $?"
             { grep -v '^the disk' "$top/ffi/example_rs.expected" | diff - "$room/rs.out"; } >&2 ||
                 give_up "what was printed over a file is not ffi/example_rs.expected"
-            "$top/scripts/disk_log.py" 2 "$room/logged_rs" "$room/example_rs" 1000 100 "$room/logged_rs" ||
+            "$top/scripts/trials/disk_log.py" 2 "$room/logged_rs" "$room/example_rs" 1000 100 "$room/logged_rs" ||
                 give_up "example_rs does not sync what it writes in the right places"
-            "$top/scripts/judge_image.py" check <"$room/medium_rs" >"$room/verdicts_rs.out"
+            "$top/scripts/tools/judge_image.py" check <"$room/medium_rs" >"$room/verdicts_rs.out"
             [ "$(cat "$room/verdicts_rs.out")" = "FLT1 strict" ] || give_up "what example_rs leaves is not strict"
             echo "ffi: the program in Rust prints what it is to"
         fi
@@ -327,8 +330,8 @@ installed() {
         echo "ffi: NOT TRIED: an installation: rt ci left no program or library"
         return
     fi
-    "$top/scripts/flight.sh" check "$program" || return 1
-    R10_BUILDS=$room/builds "$top/scripts/quick_build.py" --proved "$program" || return 1
+    "$top/scripts/rows/flight.sh" check "$program" || return 1
+    R10_BUILDS=$room/builds "$top/scripts/build/quick_build.py" --proved "$program" || return 1
     over_builds install "installation and package of what was proved" &&
         over_builds program "readers and writers that fail, a long script, and a large medium"
 }
@@ -361,7 +364,7 @@ make_meanwhile() {
 # are sessions of the program that do not end, or whose accounts do not add up.
 behind_ci() {
     local status last spare made service
-    spare=$("$top/scripts/provers.py" --beside 3000000000)
+    spare=$("$top/scripts/build/provers.py" --beside 3000000000)
     (cd "$top" && exec rt ci) | make_meanwhile | but_the_last "$room/last"
     status=${PIPESTATUS[0]}
     last=$(cat "$room/last")
@@ -379,7 +382,7 @@ behind_ci() {
         wait "$service" || status=1
         cat "$room/service"
         installed || status=1
-        "$top/scripts/hammer.py" --gate || status=1
+        "$top/scripts/trials/hammer.py" --gate || status=1
         [ "$status" = 0 ] || last=$(sed 's/^\([0-9]* passed, \)[0-9]* failed/\11 failed/' "$room/last")
     fi
     printf '%s\n' "$last"
@@ -438,7 +441,7 @@ behind-ci)
     behind_ci
     ;;
 *)
-    sed -n '2,28s/^# \{0,1\}//p' "${BASH_SOURCE[0]}" >&2
+    sed -n '2,/^[^#]/s/^# \{0,1\}//p' "${BASH_SOURCE[0]}" >&2
     exit 2
     ;;
 esac

@@ -22,7 +22,7 @@ give_up() {
 
 case ${1:-} in
 -h | --help)
-    sed -n '2,11s/^# \{0,1\}//p' "${BASH_SOURCE[0]}"
+    sed -n '2,/^[^#]/s/^# \{0,1\}//p' "${BASH_SOURCE[0]}"
     exit
     ;;
 esac
@@ -73,11 +73,11 @@ fi
 
 may_write
 version=$(cat "$top/VERSION")
-# shellcheck source=scripts/wants.sh
-. "$top/scripts/wants.sh"
+# shellcheck source=scripts/build/wants.sh
+. "$top/scripts/build/wants.sh"
 want_python install
 want_commands install cc ld ar nm objcopy
-program=$("$top/scripts/quick_build.py") || exit 3
+program=$("$top/scripts/build/quick_build.py") || exit 3
 case $program in
 */proved-*) ;;
 *) echo "(the program that is installed is not proved: scripts/build.sh makes the proved one)" >&2 ;;
@@ -105,7 +105,7 @@ ln -s ../share/r10/scripts/ch10.py "$whole$prefix/bin/ch10"
 # (nothing is run out of that folder: it may lie where nothing can be)
 service=()
 [ ! -e "$whole$prefix/bin/r10d" ] || service=("$top/out/recorder/target/release")
-"$top/scripts/manual.py" "$program" "$top/scripts/ch10.py" "$made/manual" "${service[@]}" || exit 3
+"$top/scripts/tools/manual.py" "$program" "$top/scripts/ch10.py" "$made/manual" "${service[@]}" || exit 3
 cp -r "$made/manual/"man? "$share/man"
 cp "$made/manual/bash/"* "$share/bash-completion/completions"
 cp "$made/manual/zsh/"* "$share/zsh/site-functions"

@@ -1,25 +1,27 @@
 #!/usr/bin/env bash
 # The recorder as a service, r10d and r10ctl (docs/RECORDER.md): builds it, and tries it.
 #
-#     scripts/recorder.sh build [--quick]   # builds both over the library, and prints the folder that they are in
-#     scripts/recorder.sh ready             # whether they can be built here; if not, a line says why, and the status is 1
-#     scripts/recorder.sh install PREFIX [DESTDIR]   # over the library below DESTDIR/PREFIX: puts both there, the unit for systemd,
-#                                           # its user, and an example of settings; or says in a line why not (install.sh calls it)
-#     scripts/recorder.sh check [NAME..]    # what the gate runs: tests of its parts, and recordings through the running service, in
-#                                           # under a minute; with names, as full-medium, those recordings alone
-#     scripts/recorder.sh long [WORDS..]    # 200 kills, 1,000 power cuts, failures at each operation, a flood:
-#                                           # recorder/tests/long.py says more
-#     scripts/recorder.sh soak HOURS [RATE]       # records for so long, and draws memory and acknowledged messages
+#     scripts/recorder.sh build [--quick]             # builds both over the library, and prints the folder that they are in
+#     scripts/recorder.sh ready                       # whether they can be built here; if not, a line says why, and the status is 1
+#     scripts/recorder.sh install PREFIX [DESTDIR]    # over the library below DESTDIR/PREFIX: puts both there, the unit for
+#                                                     # systemd, its user, and an example of settings; or says in a line why not
+#                                                     # (install.sh calls it)
+#     scripts/recorder.sh check [NAME..]              # what the gate runs: tests of its parts, and recordings through the running
+#                                                     # service, in under a minute; with names, as full-medium, those recordings
+#                                                     # alone
+#     scripts/recorder.sh long [WORDS..]              # 200 kills, 1,000 power cuts, failures at each operation, a flood:
+#                                                     # recorder/tests/long.py says more
+#     scripts/recorder.sh soak HOURS [RATE]           # records for so long, and draws memory and acknowledged messages
 #
-# Crates come from Debian's packages where those are there (scripts/packages.sh names them), so no
+# Crates come from Debian's packages where those are there (scripts/build/packages.sh names them), so no
 # network is needed; else from the registry, as cargo is set up. With --quick the library is the one without proofs. `check` takes
 # the library that is there, says in a line what it cannot try, and fails of nothing that is only missing.
 set -u
 
 top=$(cd "$(dirname "$(readlink -f "${BASH_SOURCE[0]}")")/.." && pwd)
-# shellcheck source=scripts/wants.sh
-. "$top/scripts/wants.sh"
-PACKAGES=$("$top/scripts/packages.sh" service)
+# shellcheck source=scripts/build/wants.sh
+. "$top/scripts/build/wants.sh"
+PACKAGES=$("$top/scripts/build/packages.sh" service)
 readonly PACKAGES
 readonly REGISTRY=/usr/share/cargo/registry
 
@@ -138,7 +140,7 @@ long | soak)
     exec "$top/recorder/tests/$1.py" "$top/out/recorder/target/release" "${@:2}"
     ;;
 *)
-    sed -n '2,17s/^# \{0,1\}//p' "${BASH_SOURCE[0]}" >&2
+    sed -n '2,/^[^#]/s/^# \{0,1\}//p' "${BASH_SOURCE[0]}" >&2
     exit 2
     ;;
 esac

@@ -8,7 +8,7 @@
 A clause speaks of definitions, and these of others. The page has each definition that a clause names, with a sum over its text and
 the texts of all that it stands on, near and far. So whoever changes a promise, or a word that it stands on, changes a line of the
 page, and the gate fails until the page is made anew. Comments do not count, nor does how lines are broken.
-What a sum covers `scripts/reads.py` says: definitions, types of the code with what contracts see of them, traits with their
+What a sum covers `scripts/proofs/reads.py` says: definitions, types of the code with what contracts see of them, traits with their
 contracts. Of the toolchain's definitions the names count, with the module that each is from.
 """
 from __future__ import annotations
@@ -20,10 +20,10 @@ from pathlib import Path
 from typing import Iterator, NamedTuple
 
 sys.dont_write_bytecode = True
-sys.path[:0] = [str(Path(__file__).resolve().parent), str(Path(__file__).resolve().parent.parent)]
+
 from reads import Fault, Item, Tree, clauses_of, without_comments  # noqa: E402
 
-TOP = Path(__file__).resolve().parent.parent.parent
+TOP = Path(__file__).resolve().parents[2]
 PAGE = TOP / 'docs' / 'PROMISES.md'
 HEADING = '## What is promised'
 NAME = r'`[\w:]+`'
@@ -215,7 +215,7 @@ def page_of(tree: Tree, readme: str) -> str:
         'Here is the contract of each, whole, without comments.',
         'Below each contract stand the definitions that its clauses name. *Sum* is one over the text of a definition and of all',
         'that it stands on, near and far. *Stands on* counts these, itself among them.',
-        '`scripts/reads.py NAME` prints them in reading order.',
+        '`scripts/proofs/reads.py NAME` prints them in reading order.',
         '',
     ]
     sums = Sums(tree)

@@ -11,7 +11,7 @@ if [ $# = 0 ]; then
         kit.sh | all.sh) ;;
         *) printf '%q %q\n' "$here/all.sh" "$(basename "$test")" ;;
         esac
-    done | "$here/../side_by_side.sh"
+    done | "$here/../build/side_by_side.sh"
     exit
 fi
 status=0

@@ -112,12 +112,12 @@ mkdir -p "$top/crates/r10_bench/src"
 printf '# a bench\n' >"$top/crates/r10_bench/src/lib.rt"
 printf 'r10_bench staticlib: r10_low\n' >>"$top/crates.txt"
 : >"$kit/proofs"
-"$top/scripts/build.py" 1 --crate r10_bench >/dev/null 2>&1
+"$top/scripts/build/build.py" 1 --crate r10_bench >/dev/null 2>&1
 check "a program is made of a crate that measures" is "$(cat "$kit/proofs") $("$top/crates/r10_bench/out/r10_bench")" \
     "run r10_bench proved"
 check "and the crate stays a library" is "$(ls "$top/crates/r10_bench/src") $(tail -n 1 "$top/crates.txt")" \
     "lib.rt r10_bench staticlib: r10_low"
-"$top/scripts/quick_bench.py" "$room/bench" >/dev/null 2>&1
+"$top/scripts/measure/quick_bench.py" "$room/bench" >/dev/null 2>&1
 check "so it is without a proof" is "$(sed -n '2,$p' "$room/bench")" "$(printf '%s\n' '# a bench' \
     'fn main(rt: HostRuntime) -> Result<ExitCode, BenchFault> {' '    measure(&rt)' '}')"
 mkdir "$room/no"

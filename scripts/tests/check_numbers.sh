@@ -1,10 +1,9 @@
 #!/usr/bin/env bash
-# Tests of scripts/check_numbers.py, over this tree and over small changes of it. A few seconds; status 1 where one fails.
+# Tests of scripts/lint/check_numbers.py, over this tree and over small changes of it. A few seconds; status 1 where one fails.
 set -u
 # shellcheck disable=SC2016,SC2317 source=scripts/tests/kit.sh
 . "$(dirname "$(readlink -f "${BASH_SOURCE[0]}")")/kit.sh"
-mkdir -p "$room/scripts"
-cp "$top/scripts/check_numbers.py" "$room/scripts"
+take_scripts "$room" lint/check_numbers.py
 anew() {
     rm -rf "$room/crates"
     for crate in r10_packet r10_setup r10_b1553 r10_body r10_index; do
@@ -13,7 +12,7 @@ anew() {
     done
 }
 says() {
-    said=$("$room/scripts/check_numbers.py")
+    said=$("$room/scripts/lint/check_numbers.py")
     status=$?
     [ "$status" = "$1" ] && [[ $said == *"$2"* ]] || { echo "    status $status: $said"; false; }
 }
@@ -22,7 +21,7 @@ with() {
     printf '%b\n' "$2" >>"$room/crates/$1"
 }
 
-check "this tree: each limit stands once in code and once in definitions" "$top/scripts/check_numbers.py"
+check "this tree: each limit stands once in code and once in definitions" "$top/scripts/lint/check_numbers.py"
 anew
 check "a few crates of it" says 0 " 0 places too many"
 with r10_index/src/root.rt '\nfn most() -> usize {\n    100\n}'
@@ -55,6 +54,6 @@ check "a limit that lost its name" says 1 "ENTRIES_PER_NODE is None in crates/r1
 anew
 sed -i 's/^type_time = 0x11/type_time = 0x12/' "$room/crates/r10_packet/specs/Types.antt"
 check "a data type that differs between code and definitions" says 1 "TYPE_TIME is 0x11 in crates/r10_packet/src/types.rt"
-check "other words are refused" test "$("$room/scripts/check_numbers.py" --all 2>/dev/null; echo $?)" = 2
+check "other words are refused" test "$("$room/scripts/lint/check_numbers.py" --all 2>/dev/null; echo $?)" = 2
 # shellcheck disable=SC2154
 exit "$failed"

@@ -38,7 +38,7 @@ for folder in "a f\xc3\xb6lder" "a f\xf6lder" "it's (a) \$folder"; do
         run env -u HOME PATH="$with" $locale "$at/r10" b
         check "the second call says nothing" is "$said$errors" "first: b"
         # shellcheck disable=SC2086
-        run env PATH="$with" $locale "$at/scripts/quick_build.py"
+        run env PATH="$with" $locale "$at/scripts/build/quick_build.py"
         check "it says where the build is" test -x "$said"
     done
     git init -q "$at"
@@ -101,8 +101,8 @@ for path in sys.argv[1:]:
             sys.exit('%s:%d: %s' % (path, number, line.strip()))
 PY
 check "what a user runs is Python 3.7" python3 "$room/grammar.py" "$sources"/ch10/*.py \
-    "$sources"/scripts/{ch10,quick_build,build,rt_once,tour,play_cases,check_cases,made_kinds,as_filter}.py \
-    "$sources"/scripts/{judge_recording,judge_image,read_chapter10,manual}.py
+    "$sources"/scripts/ch10.py "$sources"/scripts/tools/*.py "$sources"/scripts/build/{quick_build,build,rt_once}.py \
+    "$sources"/scripts/rows/{play_cases,check_cases,made_kinds}.py
 
 check "what Python keeps beside them is no change of the repository" grep -qx '__pycache__/' "$sources/.gitignore"
 
@@ -112,7 +112,7 @@ import pathlib, sys
 names = getattr(sys, 'stdlib_module_names', ())
 sys.exit(', '.join(it.name for it in pathlib.Path(sys.argv[1]).glob('*.py') if it.stem in names) or 0)
 PY
-for folder in scripts recorder/tests; do
+for folder in scripts $(cd "$sources" && printf "%s " scripts/*/) recorder/tests; do
     check "no script of $folder has the name of a module of Python" python3 "$room/names.py" "$sources/$folder"
 done
 
@@ -140,12 +140,12 @@ fi
 # ---- outputs that take nothing, of the scripts
 
 rm -rf "$at/out"
-PATH=$with "$at/scripts/quick_build.py" >/dev/full 2>"$room/errors"
+PATH=$with "$at/scripts/build/quick_build.py" >/dev/full 2>"$room/errors"
 status=$? errors=$(tail -n 1 "$room/errors")
-one_line "scripts/quick_build.py onto a full disk" 3 "cannot write: No space left on device"
-PATH=$with "$at/scripts/quick_build.py" >&- 2>"$room/errors"
+one_line "scripts/build/quick_build.py onto a full disk" 3 "cannot write: No space left on device"
+PATH=$with "$at/scripts/build/quick_build.py" >&- 2>"$room/errors"
 status=$? errors=$(cat "$room/errors")
-one_line "scripts/quick_build.py without standard output" 3 "cannot write: standard output is closed"
+one_line "scripts/build/quick_build.py without standard output" 3 "cannot write: standard output is closed"
 rm -rf "$at/out"
 PATH=$with "$at/r10" a >"$room/said" 2>/dev/full
 check "where standard error takes nothing, it builds all the same" is "$? $(cat "$room/said")" "0 first: a"
@@ -159,7 +159,7 @@ check "scripts/build.sh, where nobody reads, ends without a word" is "$(cat "$ro
 
 # ---- the program and the filters, over the build that is kept
 
-program=${1:-$("$sources/scripts/quick_build.py" --current)} || {
+program=${1:-$("$sources/scripts/build/quick_build.py" --current)} || {
     echo "NOT TRIED: the program (no build of it is kept)"
     exit "$failed"
 }
@@ -227,7 +227,7 @@ done
 # Of a judge a status 1 is a judgement, and nothing else is one.
 for judge in judge_recording.py "judge_image.py files" read_chapter10.py; do
     read -ra words <<<"$judge"
-    words[0]=$sources/scripts/${words[0]}
+    words[0]=$sources/scripts/tools/${words[0]}
     "${words[@]}" <"$room/medium.img" >/dev/full 2>"$room/errors"
     status=$? errors=$(cat "$room/errors")
     one_line "$judge onto a full disk" 3 "No space left on device"
@@ -272,19 +272,19 @@ PY
 done
 for wrong in "play --file x" "play --file -1" "play --file" "play --chan 5" "mount x"; do
     # shellcheck disable=SC2086
-    on "$room/medium.img" "$sources/scripts/judge_image.py" $wrong
+    on "$room/medium.img" "$sources/scripts/tools/judge_image.py" $wrong
     one_line "judge_image.py $wrong" 2 "judge_image: "
 done
-on "$room/medium.img" "$sources/scripts/read_chapter10.py" --file 9
+on "$room/medium.img" "$sources/scripts/tools/read_chapter10.py" --file 9
 one_line "read_chapter10.py of a file that is not there" 1 "the image has no file 9; it has 1"
-"$sources/scripts/tour.py" "$program" 2>"$room/errors" | head -n 1 >/dev/null
+"$sources/scripts/tools/tour.py" "$program" 2>"$room/errors" | head -n 1 >/dev/null
 check "a tour that nobody reads ends without a word" is "$(cat "$room/errors")" ""
-"$sources/scripts/tour.py" "$program" >/dev/full 2>"$room/errors"
+"$sources/scripts/tools/tour.py" "$program" >/dev/full 2>"$room/errors"
 status=$? errors=$(cat "$room/errors")
 one_line "a tour onto a full disk" 3 "cannot write: No space left on device"
 printf '#!/bin/sh\necho >"%s"\nexec sleep 60\n' "$room/began" >"$room/slow"
 chmod +x "$room/slow"
-status=$(python3 - "$sources/scripts/tour.py" "$room/slow" "$room/began" 2>"$room/errors" <<'PY'
+status=$(python3 - "$sources/scripts/tools/tour.py" "$room/slow" "$room/began" 2>"$room/errors" <<'PY'
 import os, signal, subprocess, sys, time
 signal.signal(signal.SIGINT, signal.SIG_DFL)
 child = subprocess.Popen(sys.argv[1:3], stdout=subprocess.DEVNULL, start_new_session=True)

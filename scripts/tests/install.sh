@@ -3,8 +3,8 @@
 set -u
 # shellcheck disable=SC2016,SC2317 source=scripts/tests/kit.sh
 . "$(dirname "$(readlink -f "${BASH_SOURCE[0]}")")/kit.sh"
-program=$("$top/scripts/quick_build.py" --current) && { "$top/scripts/ffi.sh" proved ||
-    "$top/scripts/quick_build.py" --library --current; } >/dev/null || {
+program=$("$top/scripts/build/quick_build.py" --current) && { "$top/scripts/ffi.sh" proved ||
+    "$top/scripts/build/quick_build.py" --library --current; } >/dev/null || {
     echo "NOT TRIED: an installation (no build of the program and of the library is kept)"
     exit 0
 }

@@ -1,5 +1,5 @@
 #!/usr/bin/env bash
-# Tests of scripts/packages.sh with stand-ins for dpkg-query, apt-get and id. A second; status 1 where one fails.
+# Tests of scripts/build/packages.sh with stand-ins for dpkg-query, apt-get and id. A second; status 1 where one fails.
 set -u
 # shellcheck disable=SC2016,SC2317 source=scripts/tests/kit.sh
 . "$(dirname "$(readlink -f "${BASH_SOURCE[0]}")")/kit.sh"
@@ -18,7 +18,7 @@ IT
 printf '#!/usr/bin/env bash\ncat "${0%%/*}/../user"\n' >"$room/bin/id"
 ln -s "$(command -v cat)" "$room/bin/cat"
 chmod +x "$room/bin"/*
-packages() { PATH="$room/bin" "$BASH" "$top/scripts/packages.sh" "$@" 2>&1; }
+packages() { PATH="$room/bin" "$BASH" "$top/scripts/build/packages.sh" "$@" 2>&1; }
 
 echo 0 >"$room/user"
 : >"$room/lacks"

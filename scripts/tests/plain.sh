@@ -1,11 +1,11 @@
 #!/usr/bin/env bash
-# Tests of scripts/plain.py and scripts/check_names.py, over this tree and over small changes of it. Some ten seconds; status 1
-# where one fails.
+# Tests of scripts/lint/plain.py and scripts/lint/check_names.py, over this tree and over small changes of it. Some ten seconds;
+# status 1 where one fails.
 set -u
 # shellcheck disable=SC2016,SC2317 source=scripts/tests/kit.sh
 . "$(dirname "$(readlink -f "${BASH_SOURCE[0]}")")/kit.sh"
-mkdir -p "$room/scripts" "$room/docs"
-cp "$top/scripts/plain.py" "$top/scripts/check_names.py" "$room/scripts"
+mkdir -p "$room/docs"
+take_scripts "$room" lint/plain.py lint/check_names.py
 anew() {
     rm -rf "$room/crates"
     mkdir -p "$room/crates/r10_medium"
@@ -13,7 +13,7 @@ anew() {
     echo 'A document.' >"$room/README.md"
 }
 answers() {
-    said=$("$room/scripts/$1" 2>&1)
+    said=$("$room/scripts/lint/$1" 2>&1)
     status=$?
     [ "$status" = "$2" ] && [[ $said == *"$3"* ]] || { echo "    status $status: $said"; false; }
 }
@@ -22,7 +22,7 @@ with() {
     printf '%b\n' "$2" >>"$room/$1"
 }
 
-check "the comments and documents of this tree are plain" "$top/scripts/plain.py"
+check "the comments and documents of this tree are plain" "$top/scripts/lint/plain.py"
 anew
 check "a crate of it and a document" answers plain.py 0 ""
 with crates/r10_medium/src/memory.rt '/// The block behind it.\nfn next() {}'
@@ -36,9 +36,9 @@ check "names of code are not looked at" answers plain.py 0 ""
 with README.md "\n$(printf 'word %.0s' {1..26})."
 check "a document with a sentence of 26 words" answers plain.py 1 "26 words"
 
-check "each name of a type has one meaning in this tree, and no line is long" "$top/scripts/check_names.py"
+check "each name of a type has one meaning in this tree, and no line is long" "$top/scripts/lint/check_names.py"
 anew
-sed -i '/^ALLOWED = {/,/^}/c\ALLOWED: dict[str, str] = {}' "$room/scripts/check_names.py"
+sed -i '/^ALLOWED = {/,/^}/c\ALLOWED: dict[str, str] = {}' "$room/scripts/lint/check_names.py"
 check "a crate of it" answers check_names.py 0 "0 findings"
 with crates/r10_medium/src/memory.rt 'struct Crashing {}'
 check "a second type of one name" answers check_names.py 1 "Crashing has 2 meanings"

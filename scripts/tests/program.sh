@@ -5,7 +5,7 @@ set -u
 # shellcheck disable=SC2016,SC2317 source=scripts/tests/kit.sh
 . "$(dirname "$(readlink -f "${BASH_SOURCE[0]}")")/kit.sh"
 export LC_ALL=C
-r10=$("$top/scripts/quick_build.py" --current) || {
+r10=$("$top/scripts/build/quick_build.py" --current) || {
     echo "NOT TRIED: readers and writers that fail (no build of the program is kept)"
     exit 0
 }

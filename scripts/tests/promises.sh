@@ -4,8 +4,8 @@ set -u
 # shellcheck disable=SC2016,SC2317 source=scripts/tests/kit.sh
 . "$(dirname "$(readlink -f "${BASH_SOURCE[0]}")")/kit.sh"
 low="$room/crates/r10_low" high="$room/crates/r10_high"
-mkdir -p "$room/scripts/proofs" "$room/docs" "$low/src" "$low/specs" "$high/src"
-find "$top/scripts" \( -name promises.py -o -name reads.py \) -exec cp {} "$room/scripts/proofs" \;
+mkdir -p "$room/docs" "$low/src" "$low/specs" "$high/src"
+take_scripts "$room" proofs/promises.py proofs/reads.py
 cat >"$low/specs/Counts.antt" <<'ANTT'
 use Rattle.std.specs.Prelude.{ℕ, ◌<◌}
 

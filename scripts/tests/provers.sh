@@ -1,9 +1,9 @@
 #!/usr/bin/env bash
-# Tests of scripts/provers.py over made files of a system. A second; status 1 where one fails.
+# Tests of scripts/build/provers.py over made files of a system. A second; status 1 where one fails.
 set -u
 # shellcheck disable=SC2317 source=scripts/tests/kit.sh
 . "$(dirname "$(readlink -f "${BASH_SOURCE[0]}")")/kit.sh"
-provers() { "${@:2}" "$top/scripts/provers.py" --root "$room/$1"; }
+provers() { "${@:2}" "$top/scripts/build/provers.py" --root "$room/$1"; }
 # machine NAME KIB: a system with so much free memory, and no limit of a group
 machine() {
     mkdir -p "$room/$1/proc" "$room/$1/sys/fs/cgroup"
@@ -31,7 +31,7 @@ check "a group's time of one processor" is "$(provers group)" 1
 printf 'max 100000\n' >"$room/group/sys/fs/cgroup/cpu.max"
 check "a group with all time" is "$(provers group)" "$all"
 machine beside 10000000
-besides() { taskset -c 0 "$top/scripts/provers.py" --root "$room/$1" --beside "$2"; }
+besides() { taskset -c 0 "$top/scripts/build/provers.py" --root "$room/$1" --beside "$2"; }
 check "fewer beside other work" is "$(besides beside 3000000000)" 1
 check "none beside work that leaves no room" is "$(besides beside 7000000000)" 0
 check "none where the other work does not fit" test "$(besides least 3000000000)" -lt 1

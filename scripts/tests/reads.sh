@@ -1,12 +1,12 @@
 #!/usr/bin/env bash
-# Tests of scripts/reads.py, over a small tree of two crates that is made here, and of what it finds for the theorem. Some seconds;
-# status 1 where one fails.
+# Tests of scripts/proofs/reads.py, over a small tree of two crates that is made here, and of what it finds for the theorem. Some
+# seconds; status 1 where one fails.
 set -u
 # shellcheck disable=SC2016,SC2317 source=scripts/tests/kit.sh
 . "$(dirname "$(readlink -f "${BASH_SOURCE[0]}")")/kit.sh"
 low="$room/crates/r10_low" high="$room/crates/r10_high"
-mkdir -p "$room/scripts" "$room/docs" "$low/src" "$low/specs" "$high/src" "$high/specs"
-cp "$top/scripts/reads.py" "$room/scripts"
+mkdir -p "$room/docs" "$low/src" "$low/specs" "$high/src" "$high/specs"
+take_scripts "$room" proofs/reads.py
 cat >"$low/src/count.rt" <<'RT'
 ghost use Rattle.r10_low.specs.Counts.{IsCount};
 
@@ -111,12 +111,12 @@ pub fn record_all(
 }
 RT
 says() {
-    said=$("$room/scripts/reads.py" "${@:3}" 2>&1)
+    said=$("$room/scripts/proofs/reads.py" "${@:3}" 2>&1)
     status=$?
     [ "$status" = "$1" ] && [ "$said" = "$2" ] || { echo "    status $status: $said"; false; }
 }
 has() {
-    said=$("$room/scripts/reads.py" "${@:3}" 2>&1)
+    said=$("$room/scripts/proofs/reads.py" "${@:3}" 2>&1)
     status=$?
     [ "$status" = "$1" ] && [[ $said == *"$2"* ]] || { echo "    status $status: $said"; false; }
 }
@@ -165,16 +165,16 @@ record_all: 0 definitions in 0 files of 0 crates, 0 lines; and 0 of the toolchai
 check "a name of nothing" says 1 "reads: there is no public function, type or definition Nothing" Nothing
 check "a clause that is not there" says 1 \
     "reads: Machine::record_all has no clause last; it has requires, runs, ends" Machine::record_all.last
-check "other words are refused" has 2 "scripts/reads.py NAME" --all
+check "other words are refused" has 2 "scripts/proofs/reads.py NAME" --all
 cp "$low/specs/Counts.antt" "$high/specs/Counts.antt"
 check "a name of two crates" has 1 "IsCount is 2 things; with their crates: r10_high::IsCount (" IsCount
 check "and with its crate" has 0 "crates/r10_low/specs/Counts.antt:5: IsCount" r10_low::IsCount --names
 check "no page" has 1 "docs/THEOREM.md is not what" --check
-"$room/scripts/reads.py" --page
+"$room/scripts/proofs/reads.py" --page
 check "the page as it is written" says 0 "" --check
 sed -i 's/^-- a step$/-- one step/' "$high/specs/Steps.antt"
 check "a page that is older than a definition" has 1 "docs/THEOREM.md is not what" --check
-"$room/scripts/reads.py" --page
+"$room/scripts/proofs/reads.py" --page
 sed -i '1i -- A comment over all.' "$high/specs/Steps.antt"
 check "lines that moved leave the page" says 0 "" --check
 # shellcheck disable=SC2154

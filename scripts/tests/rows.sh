@@ -1,10 +1,10 @@
 #!/usr/bin/env bash
-# Tests of scripts/run_rows.py over a program that only repeats its words and its input. In seconds. Status 1 where one fails.
+# Tests of scripts/rows/run_rows.py over a program that only repeats its words and its input. In seconds. Status 1 where one fails.
 set -u
 # shellcheck disable=SC2016,SC2317 source=scripts/tests/kit.sh
 . "$(dirname "$(readlink -f "${BASH_SOURCE[0]}")")/kit.sh"
-mkdir "$room/scripts" "$room/rows"
-cp "$top/scripts/run_rows.py" "$room/scripts" # (which finds its rows beside it)
+mkdir "$room/rows"
+take_scripts "$room" rows/run_rows.py # (which finds its rows by its own place)
 
 # The last word is the status; a second program says how long the image is, with status 1.
 printf '#!/bin/sh\nprintf "%%s\\n" "$*"\ncat\nfor last; do :; done\nexit "$last"\n' >"$room/program"
@@ -39,7 +39,7 @@ judge 2
 1
 2560
 ANSWERS
-run() { PYTHONPATH=$top/scripts "$room/scripts/run_rows.py" "$@" 2>&1; }
+run() { PYTHONPATH=$top/scripts/rows "$room/scripts/rows/run_rows.py" "$@" 2>&1; }
 # What it prints, and its status.
 said() { run "$@"; echo "status $?"; }
 

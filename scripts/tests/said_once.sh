@@ -1,13 +1,13 @@
 #!/usr/bin/env bash
-# Tests of scripts/said_once.py over a small tree of two crates. A second; status 1 where one fails.
+# Tests of scripts/proofs/said_once.py over a small tree of two crates. A second; status 1 where one fails.
 set -u
 # shellcheck disable=SC2016,SC2317 source=scripts/tests/kit.sh
 . "$(dirname "$(readlink -f "${BASH_SOURCE[0]}")")/kit.sh"
 low="$room/crates/r10_low" high="$room/crates/r10_high"
 anew() {
     rm -rf "$room/crates" "$room/scripts"
-    mkdir -p "$room/scripts" "$low/src" "$low/proofs" "$high/src" "$high/proofs/calls/f"
-    cp "$top/scripts/said_once.py" "$top/scripts/reads.py" "$room/scripts"
+    mkdir -p "$low/src" "$low/proofs" "$high/src" "$high/proofs/calls/f"
+    take_scripts "$room" proofs/said_once.py proofs/reads.py
     most 0
     printf 'r10_low:\nr10_high: r10_low\nr10_side: r10_low\n' >"$room/crates.txt"
     printf 'Laws: `a_law`.\n' >"$low/README.md"
@@ -17,9 +17,9 @@ anew() {
     printf 'use Rattle.r10_low.proofs.Same.{itself as same}\n\npub returns : goal.returns\nreturns c = same c.n\n' \
         >"$high/proofs/calls/f/Answers.antt"
 }
-most() { sed -i '/^MOST/s/"copies": [0-9]*/"copies": '"$1"'/' "$room/scripts/said_once.py"; }
+most() { sed -i '/^MOST/s/"copies": [0-9]*/"copies": '"$1"'/' "$room/scripts/proofs/said_once.py"; }
 says() {
-    said=$("$room/scripts/said_once.py" --check)
+    said=$("$room/scripts/proofs/said_once.py" --check)
     status=$?
     [ "$status" = "$1" ] && [[ $said == *"$2"* ]] || { echo "    status $status: $said"; false; }
 }
@@ -34,7 +34,7 @@ check "a statement that stands twice, under other names" says 1 \
     r10_low/proofs/Same.antt itself, also r10_low/proofs/Same.antt also"
 most 1
 check "as much as may be" says 0 "said_once: 5 lemmas, 1 too many and 0 without a use; 0 idle laws"
-check "nothing of it is of another crate" test "$("$room/scripts/said_once.py" r10_high | grep -c .)" = 1
+check "nothing of it is of another crate" test "$("$room/scripts/proofs/said_once.py" r10_high | grep -c .)" = 1
 anew
 printf 'also : (other : ℕ) → other ≡ other\nalso other = refl\n\nlast : 2 ≡ 2\nlast = also 2\n' >"$high/proofs/More.antt"
 check "in two crates: it can stay in the lower one" says 1 "
@@ -68,5 +68,5 @@ check "a law that a page of docs names" says 0 "0 idle laws"
 rm -rf "$room/docs"
 printf 'pub fn f() {\n    a_law();\n    g();\n}\n' >"$high/src/lib.rt"
 check "a law that a function calls" says 0 "0 idle laws"
-check "other words are refused" test "$("$room/scripts/said_once.py" --all 2>/dev/null; echo $?)" = 2
+check "other words are refused" test "$("$room/scripts/proofs/said_once.py" --all 2>/dev/null; echo $?)" = 2
 exit "$failed"

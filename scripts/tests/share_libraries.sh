@@ -1,5 +1,5 @@
 #!/usr/bin/env bash
-# Tests of scripts/share_libraries.py over two checkouts of one crate, with a stand-in for the tool. Status 1 where one fails.
+# Tests of scripts/build/share_libraries.py over two checkouts of one crate, with a stand-in for the tool. Status 1 where one fails.
 set -u
 # shellcheck disable=SC2317 source=scripts/tests/kit.sh
 . "$(dirname "$(readlink -f "${BASH_SOURCE[0]}")")/kit.sh"
@@ -36,7 +36,7 @@ for tree in one other; do
     echo low >"$room/$tree/crates/r10_low/src/lib.rt"
 done
 made=$room/other/crates/r10_low/out/rlib/r10_low.rlib given=$room/one/crates/r10_low/out/rlib
-share() { "$sources/scripts/share_libraries.py" "$room/one" "$room/other"; }
+share() { "$sources/scripts/build/share_libraries.py" "$room/one" "$room/other"; }
 
 check "a library that is not there is not given" is "$(share)" "0 libraries given"
 mkdir -p "$made"

@@ -1,6 +1,6 @@
 #!/usr/bin/env bash
-# Tests of scripts/slips.py and scripts/mutants.py over a small tree of two crates, with a stand-in for the prover. Some seconds;
-# status 1 where one fails.
+# Tests of scripts/proofs/slips.py and scripts/proofs/mutants.py over a small tree of two crates, with a stand-in for the prover.
+# Some seconds; status 1 where one fails.
 set -u
 # shellcheck disable=SC2016,SC2317 source=scripts/tests/kit.sh
 . "$(dirname "$(readlink -f "${BASH_SOURCE[0]}")")/kit.sh"
@@ -24,8 +24,8 @@ RT
 printf 'def crates_below(top):\n    return []\n\n\nclass Crate:\n    def stamp(self):\n        return ""\n' >"$room/kit/rtlib.py"
 chmod +x "$room/kit/rt"
 
-mkdir -p "$tree/scripts" "$tree/docs" "$low/src" "$low/specs" "$high/src" "$high/slips" "$high/must-fail"
-cp "$top"/scripts/{slips,mutants,wrong_bodies,rt_once,share_libraries}.py "$tree/scripts"
+mkdir -p "$tree/docs" "$low/src" "$low/specs" "$high/src" "$high/slips" "$high/must-fail"
+take_scripts "$tree" proofs/{slips,mutants,wrong_bodies}.py build/{rt_once,share_libraries}.py
 sed '/^Made by/,/^## /{/^|/d}; s/^| `[0-9a-f]\{8\}`.*//' "$top/docs/SLIPS.md" >"$tree/docs/SLIPS.md"
 printf 'r10_low:\nr10_high: r10_low\n' >"$tree/crates.txt"
 printf '__pycache__/\n' >"$tree/.gitignore"
@@ -39,23 +39,23 @@ printf 'file: src/lib.rt\nold: < four\nnew: < four + 0\nold: < five\nnew: wrong 
     >"$high/slips/b.edit"
 commit() { git -C "$tree" add -A && git -C "$tree" commit -qm "$1"; }
 git init -q "$tree"
-touch "$tree/scripts/slips.txt" "$tree/scripts/mutants.txt"
+touch "$tree/scripts/proofs/slips.txt" "$tree/scripts/proofs/mutants.txt"
 commit first
 
 slips() {
     : >"$room/kit/calls"
-    said=$("$tree/scripts/slips.py" --lanes 1 "$@" 2>&1)
+    said=$("$tree/scripts/proofs/slips.py" --lanes 1 "$@" 2>&1)
     status=$?
 }
 ends() { [ "$status" = "$1" ] && [[ $said == *"$2"* ]] || { echo "    status $status: $said"; false; }; }
-verdict() { grep -c " $1 [0-9]* [0-9a-f]* 20[0-9T:-]* $2" "$tree/scripts/slips.txt"; }
-key() { grep " $1 .* $2: " "$tree/scripts/slips.txt" | head -1 | cut -d ' ' -f 3; }
+verdict() { grep -c " $1 [0-9]* [0-9a-f]* 20[0-9T:-]* $2" "$tree/scripts/proofs/slips.txt"; }
+key() { grep " $1 .* $2: " "$tree/scripts/proofs/slips.txt" | head -1 | cut -d ' ' -f 3; }
 column() { grep '^| `r10_high`' "$tree/docs/SLIPS.md" | head -1 | cut -d '|' -f "$1" | tr -d ' '; }
 
 slips --together
 check "what shares a check is tried, and what has to be tried alone is left" ends 1 "4 tried, 2 left"
 check "it is tried later" is "$(verdict passed '')" 0
-rm "$tree/scripts/slips.txt" && touch "$tree/scripts/slips.txt"
+rm "$tree/scripts/proofs/slips.txt" && touch "$tree/scripts/proofs/slips.txt"
 slips --list
 check "all are listed, with what is known" ends 0 "r10_high src/lib.rt b (never tried): < four -> < four + 0"
 check "how many" ends 0 "6 slips"
@@ -69,13 +69,13 @@ check "a note names what is let through" is "$(verdict passed 'four: < four -> <
 check "the crate itself, a round, the same without what is no body, and two alone" is \
     "$(sed 's/.*--jobs 1//; s/ --only//g' "$room/kit/calls" | tr '\n' ';')" \
     " five four one three two; five four one three two; five four one two; four; five;"
-check "lines are sorted" is "$(LC_ALL=C sort "$tree/scripts/slips.txt")" "$(cat "$tree/scripts/slips.txt")"
+check "lines are sorted" is "$(LC_ALL=C sort "$tree/scripts/proofs/slips.txt")" "$(cat "$tree/scripts/proofs/slips.txt")"
 slips
 check "what has a verdict is not tried again" ends 0 "0 tried, 0 left"
 check "nor is anything checked" is "$(wc -l <"$room/kit/calls")" 0
 
 slips --check
-check "a page that has no table" ends 1 'docs/SLIPS.md, "Slips", is not what scripts/slips.py --table writes'
+check "a page that has no table" ends 1 'docs/SLIPS.md, "Slips", is not what scripts/proofs/slips.py --table writes'
 slips --table
 check "the table is written" ends 0 ""
 check "in all, refused, by names, let through, not compiled" is "$(for n in 3 4 5 7 9; do column $n; done | tr '\n' ' ')" \
@@ -115,12 +115,12 @@ check "the stale ones are tried again" ends 1 "6 tried, 0 left"
 slips --table
 check "nothing is stale" is "$(column 10) $(column 11) $(column 12)" "  "
 
-line=$(grep -m 1 ' refused ' "$tree/scripts/slips.txt")
-sed 's/ refused / limit /; s/ 20[0-9]*-/ 2099-/' <<<"$line" >>"$tree/scripts/slips.txt"
+line=$(grep -m 1 ' refused ' "$tree/scripts/proofs/slips.txt")
+sed 's/ refused / limit /; s/ 20[0-9]*-/ 2099-/' <<<"$line" >>"$tree/scripts/proofs/slips.txt"
 slips --check
-check "two files that were joined" ends 1 "scripts/slips.txt is not sorted, or has two lines of one change"
+check "two files that were joined" ends 1 "scripts/proofs/slips.txt is not sorted, or has two lines of one change"
 slips --table
-check "the later line holds" is "$(wc -l <"$tree/scripts/slips.txt") $(column 6)" "7 1"
+check "the later line holds" is "$(wc -l <"$tree/scripts/proofs/slips.txt") $(column 6)" "7 1"
 printf 'file: src/lib.rt\n' >"$high/slips/c.edit"
 printf 'old: < %s\nnew: %s\n' one nowhere two 'wrong two' four 'wrong four' >>"$high/slips/c.edit"
 commit nowhere
@@ -131,17 +131,17 @@ commit none
 slips --table
 sed -i '/wrong one/d; /^old: < one/d' "$high/slips/b.edit"
 slips --check
-check "a line of no slip" ends 1 "1 lines of scripts/slips.txt are of no slip"
+check "a line of no slip" ends 1 "1 lines of scripts/proofs/slips.txt are of no slip"
 slips --table
-check "it goes" is "$(wc -l <"$tree/scripts/slips.txt")" 6
-echo "r10_high a b" >>"$tree/scripts/slips.txt"
+check "it goes" is "$(wc -l <"$tree/scripts/proofs/slips.txt")" 6
+echo "r10_high a b" >>"$tree/scripts/proofs/slips.txt"
 slips --check
 check "what is no line" ends 1 "this is no line of results: r10_high a b"
-git -C "$tree" checkout -q scripts/slips.txt
+git -C "$tree" checkout -q scripts/proofs/slips.txt
 
 mutants() {
     : >"$room/kit/calls"
-    said=$("$tree/scripts/mutants.py" --lanes 1 --count 8 "$@" 2>&1)
+    said=$("$tree/scripts/proofs/mutants.py" --lanes 1 --count 8 "$@" 2>&1)
     status=$?
 }
 commit tests
@@ -155,22 +155,22 @@ check "a change leaves those of other functions as they are" is \
     "$(grep -v ' two:\|mutants' <<<"$drawn")" "$(grep -v ' two:\|mutants' <<<"$said")"
 mutants
 check "all are let through" ends 1 "0 of 8 refused"
-check "and stand in the results" is "$(grep -c ' passed ' "$tree/scripts/mutants.txt")" 8
+check "and stand in the results" is "$(grep -c ' passed ' "$tree/scripts/proofs/mutants.txt")" 8
 mutants
 check "none is tried again" is "$(wc -l <"$room/kit/calls")" 0
 mutants --check
-check "they want a table and an explanation" ends 1 '"Mutants", is not what scripts/mutants.py --table writes'
+check "they want a table and an explanation" ends 1 '"Mutants", is not what scripts/proofs/mutants.py --table writes'
 mutants --table
 check "the table is written" is "$(grep -c '^| `r10_high` | 7 | | | | 7 ' "$tree/docs/SLIPS.md")" 1
 sed -i 's/+ 1 < five/five/' "$high/src/lib.rt"
 mutants --check
 check "that others would be drawn of another body fails no gate" is "$(grep -c 'is not what' <<<"$said")" 0
-kept=$(wc -l <"$tree/scripts/mutants.txt")
+kept=$(wc -l <"$tree/scripts/proofs/mutants.txt")
 mutants --table
-check "a change that no body has any more goes" is "$(($(wc -l <"$tree/scripts/mutants.txt") < kept)) $(grep -c ' five:' \
-    "$tree/scripts/mutants.txt")" "1 0"
+check "a change that no body has any more goes" is "$(($(wc -l <"$tree/scripts/proofs/mutants.txt") < kept)) $(grep -c ' five:' \
+    "$tree/scripts/proofs/mutants.txt")" "1 0"
 
-named=$(cd "$tree/scripts" && python3 -B -c '
+named=$(cd "$tree/scripts/proofs" && python3 -B -c '
 import wrong_bodies
 texts = {"src/kept.rt": "pub struct Kept<M> {\n}\n",
          "src/reading.rt": "impl<M> Kept<M> {\n    fn read(&self) -> u8 {\n        0\n    }\n}\n"}
@@ -178,7 +178,7 @@ homes = wrong_bodies.homes_of(texts)
 print(*[it.said() for it in wrong_bodies.functions_of("src/reading.rt", texts["src/reading.rt"], homes)])')
 check "a function has the module of its type in its name, whatever file it stands in" is "$named" "kept::Kept::read"
 
-given=$(cd "$tree/scripts" && python3 -B -c '
+given=$(cd "$tree/scripts/proofs" && python3 -B -c '
 import wrong_bodies
 texts = {"src/kept.rt": "pub struct Kept<M> {\n}\n",
          "src/reading.rt": "impl<M: Medium<u8>> Kept<Block, M> {\n    fn read(&self) -> u8 {\n        0\n    }\n}\n\n"
@@ -188,7 +188,7 @@ print(*[it.said() for it in wrong_bodies.functions_of("src/reading.rt", texts["s
 check "one for some arguments of its type has them there, and the module of its file" is "$given" \
     "reading::Kept+Block+M::read kept::Kept::find"
 
-found=$(cd "$tree/scripts" && python3 -B -c '
+found=$(cd "$tree/scripts/proofs" && python3 -B -c '
 import wrong_bodies
 text = "const WORDS: &str =\n    \"one of: {,\\\n    \\\"two\";\n\nfn read() -> u8 {\n    0\n}\n"
 print(*[it.said() + " " + str(text.count("\n", 0, it.start) + 1) for it in wrong_bodies.functions_of("src/lib.rt", text, {})])')

@@ -1,13 +1,13 @@
 #!/usr/bin/env bash
-# Tests of scripts/surface.py over a small tree of two crates. A second; status 1 where one fails.
+# Tests of scripts/proofs/surface.py over a small tree of two crates. A second; status 1 where one fails.
 set -u
 # shellcheck disable=SC2016,SC2317 source=scripts/tests/kit.sh
 . "$(dirname "$(readlink -f "${BASH_SOURCE[0]}")")/kit.sh"
 src="$room/crates/r10_low/src" page="$room/docs/surface.txt"
 anew() {
     rm -rf "$room/crates" "$room/scripts" "$room/docs"
-    mkdir -p "$room/scripts" "$room/docs" "$src" "$room/crates/r10_high/src" "$room/crates/r10_low_tests/src"
-    cp "$top/scripts/surface.py" "$top/scripts/conditions.py" "$room/scripts"
+    mkdir -p "$room/docs" "$src" "$room/crates/r10_high/src" "$room/crates/r10_low_tests/src"
+    take_scripts "$room" proofs/surface.py proofs/conditions.py
     printf 'r10_low:\nr10_high: r10_low\nr10_low_tests staticlib: r10_low\n' >"$room/crates.txt"
     cat >"$src/lib.rt" <<'RT'
 mod lane;
@@ -80,10 +80,10 @@ RT
     printf 'pub fn deep() {}\n' >"$src/hidden.rt"
     printf 'pub use r10_low::{Lane, LaneFault};\n\npub fn high() {}\n' >"$room/crates/r10_high/src/lib.rt"
     printf 'pub fn test() {}\n' >"$room/crates/r10_low_tests/src/lib.rt"
-    "$room/scripts/surface.py"
+    "$room/scripts/proofs/surface.py"
 }
 says() {
-    said=$("$room/scripts/surface.py" --check 2>&1)
+    said=$("$room/scripts/proofs/surface.py" --check 2>&1)
     status=$?
     [ "$status" = "$1" ] && [[ $said == *"$2"* ]] || { echo "    status $status: $said"; false; }
 }
@@ -132,9 +132,9 @@ check "a call that is shown no more" says 1 'surface: -fn open_lane'
 anew
 sed -i 's/{Lane, LaneFault}/Lane/' "$room/crates/r10_high/src/lib.rt"
 check "a name that is handed on no more" says 1 'surface: -use LaneFault of r10_low'
-"$room/scripts/surface.py"
+"$room/scripts/proofs/surface.py"
 check "it is written anew" says 0 ""
 rm "$page"
 check "without a page" says 1 'surface: docs/surface.txt is not what the crates show'
-check "other words are refused" test "$("$room/scripts/surface.py" --all 2>/dev/null; echo $?)" = 2
+check "other words are refused" test "$("$room/scripts/proofs/surface.py" --all 2>/dev/null; echo $?)" = 2
 exit "$failed"

@@ -4,12 +4,12 @@
 set -u
 # shellcheck disable=SC2016,SC2317 source=scripts/tests/kit.sh
 . "$(dirname "$(readlink -f "${BASH_SOURCE[0]}")")/kit.sh"
-program=${1:-$("$top/scripts/quick_build.py" --current)} || {
+program=${1:-$("$top/scripts/build/quick_build.py" --current)} || {
     echo "NOT TRIED: the program's words (no build of the program is kept)"
     exit 0
 }
 
-check "each row is answered as it stands there" "$top/scripts/run_rows.py" "$program"
+check "each row is answered as it stands there" "$top/scripts/rows/run_rows.py" "$program"
 
 # The lines that help shows run as they stand, in the folder of the sources; what they write goes to a copy of it.
 mkdir "$room/bin" "$room/sources"

@@ -1,5 +1,5 @@
 """Times in recordings that are written from chapter 11 (`chapter11`), one fact a recording, and what every command has to say of
-them. `scripts/ch10_trials.py check` runs them: each function of TRIALS gives what was found and what is wanted."""
+them. `scripts/trials/ch10_trials.py check` runs them: each function of TRIALS gives what was found and what is wanted."""
 import csv
 import io
 import json
@@ -35,7 +35,8 @@ def times(words: Sequence[str], data: bytes) -> List[str]:
 def by_ways(data: bytes) -> Dict[str, List[Tuple[object, object]]]:
     """The times and values of the entries of channel 5 by each command that writes entries."""
     found: Dict[str, List[Tuple[object, object]]] = {'csv': list(rows(['--channel', '5'], data, 'time', 'text'))}
-    found['raw'] = [(time, bytes.fromhex(value).decode()) for time, value in rows(['--channel', '5', '--raw'], data, 'time', 'value')]
+    raw = rows(['--channel', '5', '--raw'], data, 'time', 'value')
+    found['raw'] = [(time, bytes.fromhex(value).decode()) for time, value in raw]
     lines = map(json.loads, run(['json', '--channel', '5'], data)[1].splitlines())
     found['json'] = [(row['time'] or '', row['text']) for row in lines if 'text' in row]
     with tempfile.TemporaryDirectory() as folder:
@@ -104,7 +105,7 @@ def counter_back() -> Found:
 
 
 def counter_back_ends() -> Found:
-    """Summary, database, catalogue and report agree on the first and the last time of two sessions, and no sequence number jumps."""
+    """Summary, database, catalogue and report agree on the first and last time of two sessions, and no sequence number jumps."""
     ends = '2024-05-17 09:00:00.0000000', '2024-05-17 11:00:05.5000000'
     said = run(['summary'], two_flights())[1].decode().splitlines()
     return (from_to(two_flights()), [line for line in said if line.startswith('session ')], said[1].split(', ')[1],
@@ -193,8 +194,9 @@ def leap_second() -> Found:
     data = ticking(LEAP)
     said = run(['summary'], data)[1].decode().splitlines()
     return (times([], data), said[2]), (
-        ['2016-12-31 23:59:59.8000000', '2016-12-31 23:59:60.2000000', '2016-12-31 23:59:60.8000000', '2017-01-01 00:00:00.2000000',
-         '2017-01-01 00:00:00.8000000', '2017-01-01 00:00:01.2000000', '2017-01-01 00:00:01.8000000', '2017-01-01 00:00:02.2000000'],
+        ['2016-12-31 23:59:59.8000000', '2016-12-31 23:59:60.2000000', '2016-12-31 23:59:60.8000000',
+         '2017-01-01 00:00:00.2000000', '2017-01-01 00:00:00.8000000', '2017-01-01 00:00:01.2000000',
+         '2017-01-01 00:00:01.8000000', '2017-01-01 00:00:02.2000000'],
         'time on channel 1: 4 packets, 0 jumps, 0 steps back, 0 seconds without one; drift not known')
 
 

@@ -1,15 +1,13 @@
 """Packets of each data type of IRIG 106-17, chapter 11, made from the standard's text, and what the filters have to say of them.
 
-The makers take nothing from the filters: numbers are put together bit by bit here. `scripts/ch10_trials.py check` runs the trials.
-Each function of TRIALS gives what was found and what is wanted.
+The makers take nothing from the filters: numbers are put together bit by bit here. `scripts/trials/ch10_trials.py check` runs
+the trials. Each function of TRIALS gives what was found and what is wanted.
 """
 import csv
 import io
 import json
 import pathlib
 import sqlite3
-import struct
-import sys
 import tempfile
 from typing import Callable, Dict, Iterable, List, Optional, Sequence, Tuple
 
@@ -71,7 +69,7 @@ def opened(setup: bytes = b'G\\106:17;') -> List[bytes]:
 # ---- UART (11.2.15)
 
 def uart_entry(text: bytes, parity: int = 0, sub: int = 0, stamp: Optional[int] = None) -> bytes:
-    """An entry: its stamp, where it has one, then length, subchannel and parity error, the bytes, and one more to an even number."""
+    """An entry: its stamp, where it has one, then length, subchannel and parity error, the bytes, and one to make them even."""
     front = b'' if stamp is None else word(stamp, 8)
     return front + word(len(text), 2) + word(parity << 15 | sub, 2) + text + bytes(len(text) & 1)
 
@@ -112,7 +110,8 @@ def uart_without_stamps_cut() -> Found:
     for body in (whole[:-1], whole[:-6] + whole[-6:-4], word(4, 2)):
         data = b''.join(opened() + [packet(5, 0x50, 2000, word(0, 4) + body), packet(5, 0x50, 2001, word(0, 4) + whole, 1)])
         status, _, line = run(['csv', '--keep-going'], data)
-        found.append((status, cells(['--keep-going', '--channel', '5'], data, 'value'), line.count('less than its entries in a body')))
+        found.append((status, cells(['--keep-going', '--channel', '5'], data, 'value'),
+                      line.count('less than its entries in a body')))
     return found, [(1, [('4142',), ('4344',)], 1)] * 3
 
 
@@ -179,8 +178,9 @@ def discretes_at_the_top() -> Found:
         packet(10, 0x29, 2030, discretes(0, 1, [(2030, 0x80000001)])),
         packet(11, 0x29, 2040, discretes(1, 1, [(2040, 0x7FFFFFFF), (2041, 0x80000000)]))])
     return cells(['--kind', 'discrete'], data, 'value', 'bits', 'changed'), [
-        ('80000000', '10000000', ''), ('01000000', '00000001', '+0 -7'), ('03000000', '00000011', '+1'), ('03ffffff', '00000011', ''),
-        ('00000002', '00000010', '-0'), ('80000001', '1' + 30 * '0' + '1', ''), ('7fffffff', '0', ''), ('80000000', '1', '+0')]
+        ('80000000', '10000000', ''), ('01000000', '00000001', '+0 -7'), ('03000000', '00000011', '+1'),
+        ('03ffffff', '00000011', ''), ('00000002', '00000010', '-0'), ('80000001', '1' + 30 * '0' + '1', ''),
+        ('7fffffff', '0', ''), ('80000000', '1', '+0')]
 
 
 def discretes_at_the_top_in_a_database() -> Found:
@@ -198,7 +198,8 @@ def discretes_at_the_top_in_a_database() -> Found:
     for _, states in rows:
         bits = '{:032b}'.format(states)[:8]
         changed = '' if before is None else ' '.join(
-            '%s%d' % ('+' if now == '1' else '-', place) for place, (was, now) in enumerate(zip(before[::-1], bits[::-1])) if was != now)
+            '%s%d' % ('+' if now == '1' else '-', place)
+            for place, (was, now) in enumerate(zip(before[::-1], bits[::-1])) if was != now)
         wanted.append((bits, changed))
         before = bits
     return stored, wanted

@@ -80,8 +80,8 @@ fn measure_all<R: Print + CpuClock>(rt: &R, alloc: Global, number: u32) -> Resul
     Ok(())
 }
 
-/// Measures what the command line asks for, and prints it. `scripts/build.py` makes a program of this crate, whose `main` is this
-/// call: so the gate proves it, and builds none.
+/// Measures what the command line asks for, and prints it. `scripts/build/build.py` makes a program of this crate, whose `main` is
+/// this call: so the gate proves it, and builds none.
 pub fn measure<R: Env + AllocGlobal + Print + CpuClock>(rt: &R) -> Result<ExitCode, BenchFault> {
     let alloc = rt.alloc();
     match read_words(rt)? {

@@ -1,0 +1,47 @@
+#!/usr/bin/env bash
+# The packages of Debian that the gate wants beside the toolchain, a C compiler, Python and cargo.
+#
+#     scripts/build/packages.sh             # a line for each that is not installed
+#     scripts/build/packages.sh service     # those of the service's crates, in one line
+#     scripts/build/packages.sh install     # installs what is not installed, by apt-get, as root; a minute, with a network
+#
+# The gate calls `install` where CI is set, since a machine of its own may be new. What can't be installed is NOT TRIED there.
+# Status 1, and a line, where something could not be installed.
+set -u
+
+readonly SERVICE="librust-clap-dev librust-nix-dev librust-sd-notify-dev librust-serde-dev librust-serde-derive-dev \
+librust-serde-json-dev librust-signal-hook-dev librust-time-dev librust-toml-dev"
+readonly LINTERS="clang-format pyflakes3 shellcheck"
+readonly TRIALS="pkg-config postgresql valgrind zsh"
+
+missing() {
+    local it
+    for it in $LINTERS $TRIALS $SERVICE; do
+        [ "$(dpkg-query -W -f '${Status}' "$it" 2>/dev/null)" = "install ok installed" ] || echo "$it"
+    done
+}
+
+case ${1:-} in
+"") missing ;;
+service) echo "$SERVICE" ;;
+install)
+    mapfile -t wanted < <(missing)
+    [ "${#wanted[@]}" -gt 0 ] || exit 0
+    if ! command -v apt-get >/dev/null || [ "$(id -u)" != 0 ]; then
+        echo "packages: not installed, as there is no apt-get or no root here: ${wanted[*]}" >&2
+        exit 1
+    fi
+    log=$(mktemp) && trap 'rm -f "$log"' EXIT || exit 1
+    if { timeout 120 apt-get -qq update && DEBIAN_FRONTEND=noninteractive timeout 400 apt-get -qq -y --no-install-recommends \
+        install "${wanted[@]}"; } >"$log" 2>&1 </dev/null; then
+        echo "packages: installed ${wanted[*]}"
+    else
+        echo "packages: not installed: ${wanted[*]}: $(grep -v '^$' "$log" | tail -n 1)" >&2
+        exit 1
+    fi
+    ;;
+*)
+    sed -n '/^#     scripts/s/^#     //p' "$0" >&2
+    exit 2
+    ;;
+esac

@@ -1,0 +1,66 @@
+#!/usr/bin/env bash
+# Looks over the scripts of this repository with the linters that are there, and says in a line which is not.
+#
+#     scripts/lint/lint.sh
+#
+# Every shell script has to parse, and every Python script to compile; and what begins as a command does has the run bit. Then the
+# Python scripts are looked at by pyflakes (or by ruff, by the same rules), and those of the shell by shellcheck: Debian's packages
+# are pyflakes3 and shellcheck. Sources in C and Rust have the form that clang-format and rustfmt give them, by ffi/.clang-format
+# and the rustfmt.toml of each folder. No line of the filters, of the scripts or of the service's tests is longer than 132 columns.
+# Status 1 where one of them finds something.
+set -u
+cd "$(dirname "${BASH_SOURCE[0]}")/../.." || exit 1
+
+readonly shells=(r10 .ci/run scripts/*.sh scripts/*/*.sh recorder/tests/*.sh)
+readonly pythons=(scripts/*.py scripts/*/*.py ch10/*.py recorder/tests/*.py)
+readonly sources=(ffi/*.[ch] scripts/*/*.c bench/*.c recorder/tests/*.c)
+bad=0
+
+for script in "${shells[@]}"; do
+    bash -n "$script" || bad=1
+done
+for script in "${pythons[@]}"; do
+    python3 -c 'import sys; compile(open(sys.argv[1], encoding="utf-8").read(), sys.argv[1], "exec")' "$script" || bad=1
+    [ "$(head -c 2 "$script")" != '#!' ] || [ -x "$script" ] ||
+        { echo "$script: it begins as a command does, and has no run bit"; bad=1; }
+done
+
+python3 - ch10/* scripts/* scripts/*/* recorder/tests/* <<'EOF' || bad=1
+import pathlib, sys
+
+MOST = 132
+long = ["%s:%d: %d columns, more than %d" % (path, number, len(line), MOST)
+        for path in map(pathlib.Path, sys.argv[1:]) if path.is_file()
+        for number, line in enumerate(path.read_text(encoding="utf-8").split("\n"), 1) if len(line) > MOST]
+print("".join(line + "\n" for line in long), end="")
+sys.exit(bool(long))
+EOF
+
+if command -v pyflakes3 >/dev/null; then
+    pyflakes3 "${pythons[@]}" || bad=1
+elif command -v ruff >/dev/null; then
+    ruff check --quiet --isolated --select F "${pythons[@]}" || bad=1
+else
+    echo "lint: NOT TRIED: there is no pyflakes3 and no ruff for the Python scripts"
+fi
+if command -v shellcheck >/dev/null; then
+    shellcheck --severity=warning "${shells[@]}" || bad=1
+else
+    echo "lint: NOT TRIED: there is no shellcheck for the shell scripts"
+fi
+
+if command -v clang-format >/dev/null; then
+    clang-format --style=file:ffi/.clang-format --dry-run --Werror "${sources[@]}" || bad=1
+else
+    echo "lint: NOT TRIED: there is no clang-format for the sources in C"
+fi
+if command -v rustfmt >/dev/null && command -v cargo >/dev/null; then
+    for folder in ffi/rust bench recorder; do
+        (cd "$folder" && cargo fmt --check) || bad=1
+    done
+else
+    echo "lint: NOT TRIED: there is no rustfmt for the sources in Rust"
+fi
+
+[ "$bad" = 0 ] && echo "lint: ${#pythons[@]} Python scripts and ${#shells[@]} of the shell"
+exit "$bad"
