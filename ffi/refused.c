@@ -8,7 +8,8 @@
 #include "r10.h"
 
 #define CHANNEL "[[channel]]\nid = 3\nkind = \"uart\"\ncapacity = 8\ncheck = 16\nbytes = 4096\nnumber = 100\n"
-#define TOP "blocks = 64\ndirectory = 2\nvolume = \"VOL\"\nnodes = 100\ntime = 1\nevent = 2\n"
+#define REST "nodes = 100\ntime = 1\nevent = 2\n"
+#define TOP "blocks = 64\ndirectory = 2\nvolume = \"VOL\"\n" REST
 
 static const char script[] = TOP CHANNEL;
 static unsigned char memory[64 * 512];
@@ -33,6 +34,21 @@ static void check(const char *what, const char *text, size_t room) {
         }
 }
 
+/* A volume has 32 letters at most. A script with one more is none, and no directory is written. */
+static void volumes(void) {
+    static const char most[] = "VVVVVVVVVVVVVVVVVVVVVVVVVVVVVVVV";
+    for (int more = 0; more < 2; more++) {
+        char text[400];
+        const char *last = more ? "V" : "";
+        snprintf(text, sizeof text, "blocks = 64\ndirectory = 2\nvolume = \"%s%s\"\n" REST CHANNEL, most, last);
+        memset(memory, 0x55, sizeof memory);
+        check(more ? "a volume of 33 letters" : "a volume of 32 letters", text, 200);
+        uint32_t answer = r10_format((r10_region){memory, 64}, 64, text, strlen(text), &recorder);
+        printf("  format: %u, block 1 begins with %02x, byte 47 is %02x\n", answer, memory[512], memory[512 + 47]);
+        r10_close(&recorder);
+    }
+}
+
 static void scripts(void) {
     check("a script", script, 200);
     check("a script, no room", script, 0);
@@ -44,6 +60,7 @@ static void scripts(void) {
     check("no channel", TOP, 200);
     check("room for 10 bytes", TOP CHANNEL "colour = 1\n", 10);
     check("no room", TOP CHANNEL "colour = 1\n", 0);
+    volumes();
 }
 
 /* ---- directories and files */

@@ -208,6 +208,11 @@ rows() {
         }
         echo "ffi: rows through ${build##*/}: $(tail -n 1 "$room/rows")"
     done
+    "$top/scripts/rows/play_cases.py" compare "$program" >"$room/compared" || {
+        cat "$room/compared" >&2
+        give_up "r10 play and the reader of the standard print other entries"
+    }
+    echo "ffi: r10 play beside the reader of the standard: $(tail -n 1 "$room/compared")"
 }
 
 random() {
@@ -383,6 +388,7 @@ behind_ci() {
         cat "$room/service"
         installed || status=1
         "$top/scripts/trials/hammer.py" --gate || status=1
+        "$top/scripts/trials/refuse_memory.py" || status=1
         [ "$status" = 0 ] || last=$(sed 's/^\([0-9]* passed, \)[0-9]* failed/\11 failed/' "$room/last")
     fi
     printf '%s\n' "$last"

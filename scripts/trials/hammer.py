@@ -14,6 +14,7 @@ wakes yield by chance, --only runs one script alone.
 
 The second form refuses threads: of a session of 8 feeds and 8 readers, and of the scripts 0 to 11, each thread alone, each and all
 behind it, and all; and then it limits memory (ulimit -v) and, where it may run as another user, the number of threads (ulimit -u).
+Where all are refused, the workers run one after another, and the readers begin when the writer has ended: they read all the same.
 
 The third form has a feed pause for 20 ms behind each of 150 messages, and asks that the session, whose writer then has nothing to
 do, takes less than a hundredth of a processor.
