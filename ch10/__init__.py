@@ -1,4 +1,4 @@
-"""Filters over recordings of IRIG 106-17, chapter 10, by any recorder. Python 3.7 and newer; nothing beside it has to be installed.
+"""Filters over recordings of IRIG 106-17, chapter 10, by any recorder. Python 3.7 and newer, with numpy.
 
 `scripts/ch10.py` starts it, or `python3 -m ch10` in the folder above. The modules, each standing on those above it:
 
@@ -9,18 +9,19 @@
     clocks       the one model of time: sessions of the counter, what time channels say, and the clock that gives each instant its
                  civil time
     buses        what the words of buses mean
-    stamps, kind_..    what reads entries of one length or with a length in them; and, a module a kind, how its entries are read,
-                       what they mean, and their rows
+    arrays       numpy, read where it is first asked for
     packets      the packets of a recording: headers, checksums, bodies as bytes
-    bodies       what stands in a packet's body: its entries
+    columns, kind_..    the one form in which entries are read, columns of those of many packets; and, a module a kind, where its
+                       entries stand, what they mean, and their rows
+    bodies       what stands in packets' bodies: their entries
     tmats        the setup text: attributes, names of channels and buses
     survey       one pass over a recording: what each channel has, what was passed over, its clocks and setup text
     replay       the entries of a recording in order, in parts that stand for themselves
     fields       the columns of entries
     recording    the interface for other programs: files, packets and typed entries of an input
     inputs       what a call reads and writes
-    parallel, vector    lines by several processes, and by numpy; walk, which stands on packets and bodies, finds entries by numpy
-    vector_..    what of lines by numpy is of one kind
+    parallel, vector    lines by several processes, and lines of columns; walk finds how many entries each packet has
+    traffic      what the buses carried
     table, lines, picture, cuts, database, script    the commands
     command      the words of a call
 

@@ -36,47 +36,6 @@ def command_1553(command: Optional[int]) -> tuple:
     return rt, 'T' if command >> 10 & 1 else 'R', sa, None if is_mode else low or 32, low if is_mode else None
 
 
-def layout_1553(command: int, number: int, is_between: bool) -> Tuple[Optional[int], Optional[int], Optional[int]]:
-    """Where, of so many words from a command word on, the second command word and the status words stand, as far as they are
-    there."""
-    rt, sends, sa, low = command >> 11, command >> 10 & 1, command >> 5 & 31, command & 31
-    size = low or 32
-    if is_between and number > 1:  # receive, transmit, status, data, status
-        return 1, 2 if number > 2 else None, 3 + size if number > 3 + size and rt != 31 else None
-    if sa in (0, 31):
-        size = low >> 4  # one data word, or none
-    if rt == 31:  # to all: no terminal answers
-        return None, None, None
-    if sends:
-        return None, 1 if number > 1 else None, None
-    return None, 1 + size if number > 1 + size else None, None
-
-
-def flags_1553(first: Optional[int], second: Optional[int]) -> str:
-    """The flags of the status words by name."""
-    return flags_of(((first or 0) | (second or 0)) & 0x7FF)
-
-
-@lru_cache(maxsize=1 << 11)
-def flags_of(bits: int) -> str:
-    return named(bits, FLAGS_1553)
-
-
-def message_1553(status: int, words: list) -> tuple:
-    """A message as columns: bus, errors, RT, T/R, SA, WC, mode code, RT and SA of a second command, status words, their flags, data
-    words."""
-    bus, errors = block_1553(status)
-    if not words:
-        return (bus, errors) + (None,) * 9 + ('', [])
-    second, first_status, second_status = layout_1553(words[0], len(words), bool(status & RT_TO_RT))
-    places = {0, second, first_status, second_status}
-    one = None if first_status is None else words[first_status]
-    two = None if second_status is None else words[second_status]
-    other = command_1553(None if second is None else words[second])
-    return (bus, errors) + command_1553(words[0]) + (other[0], other[2], one, two, flags_1553(one, two),
-                                                     [word for place, word in enumerate(words) if place not in places])
-
-
 # ---- ARINC 429
 
 ODD = b'\0'  # of each number of 16 bits whether an odd number of them is set
@@ -88,16 +47,9 @@ TURNED = bytes(int('{:08b}'.format(value)[::-1], 2) for value in range(256))
 ERRORS_429 = tuple(named(bits, ((2, 'format error'), (1, 'parity error'), (0, 'even parity'))) for bits in range(8))
 
 
-def errors_429(head: int, word: int) -> str:
-    """What the header says of a word's reception, and whether the word has the odd parity that the bus asks for."""
-    return ERRORS_429[head >> 21 & 6 | 1 ^ ODD[word & 0xFFFF] ^ ODD[word >> 16]]
-
-
-def word_429(word: int, turned: bool = False) -> tuple:
-    """A word as columns: label in octal, SDI, the 19 bits of data, SSM, parity bit. The label is bits 7 to 0, or these in the other
-    order."""
-    label = word & 0xFF
-    return '%03o' % (TURNED[label] if turned else label), word >> 8 & 3, word >> 10 & 0x7FFFF, word >> 29 & 3, word >> 31
+def label_of(label: int, is_turned: bool = False) -> str:
+    """A label in octal digits: bits 7 to 0 of a word, or these in the other order."""
+    return '%03o' % (TURNED[label] if is_turned else label)
 
 
 # ---- discretes and text

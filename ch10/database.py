@@ -5,9 +5,11 @@ from __future__ import annotations
 from argparse import Namespace
 import os
 import sqlite3
-from typing import Dict, Iterator, List, Optional, Sequence, Tuple
+from typing import Iterator, List, Optional, Sequence, Tuple
 
+from .bodies import MEANT, by_kind, read
 from .clocks import TimeLine
+from .columns import NONE, rows_of
 from .fields import Reader
 from .inputs import Output, is_recording, listed, shown, the_file
 from .kinds import KINDS, REAL, TEXT, WHOLE
@@ -167,23 +169,27 @@ def told(lost: int) -> Optional[int]:
 
 
 def add_part(base: Database, number: int, ordered: Ordered, part: Part, reader: Reader) -> None:
-    """Adds the entries of a part, by their counts."""
-    clock = ordered.survey.clock
-    held: Dict[str, List[Tuple[int, tuple]]] = {name: [] for name in TABLES.values()}
-    losses: List[tuple] = []
-    for place, packet, lost, _ in ordered.packets(part):
-        name = reader.names.channel(packet.channel) or None
-        rows = held.get(TABLES.get(packet.kind, ''))
-        first, count_0 = True, ordered.base(place)
-        for count, values in reader.entries(packet, ordered.states.get(place)):
-            instant = count + count_0
-            if part.low <= instant < part.high:
-                when = clock.text(instant) if clock else None
-                rows.append((instant, (number, packet.channel, name, instant & COUNT_BITS, when, told(lost), *values)))
-                if packet.flags & 0x10 and first:
-                    losses.append((number, packet.channel, name_of(packet.kind), instant & COUNT_BITS, when, told(lost)))
-            lost, first = 0, False
-    for name, rows in held.items():
+    """Adds the entries of a part, by their instants."""
+    clock, found = ordered.survey.clock, list(ordered.packets(part))
+    losses: List[Tuple[int, tuple]] = []
+    for kind, places in by_kind([packet for _, packet, _, _ in found]).items():
+        some = [found[place] for place in places]
+        states = [ordered.states.get(place) for place, _, _, _ in some]
+        block, many = read([packet for _, packet, _, _ in some], reader.numbering, [NONE if one is None else one for one in states])
+        values, counts, at = rows_of(MEANT[kind](block, reader)), block.count.tolist(), 0
+        rows: List[Tuple[int, tuple]] = []
+        for (place, packet, lost, _), own in zip(some, many.tolist()):
+            name, count_0, first = reader.names.channel(packet.channel) or None, ordered.base(place), True
+            for count in counts[at:at + own]:
+                instant, what = count + count_0, next(values)
+                if part.low <= instant < part.high:
+                    when = clock.text(instant) if clock else None
+                    rows.append((instant, (number, packet.channel, name, instant & COUNT_BITS, when, told(lost), *what)))
+                    if packet.flags & 0x10 and first:
+                        losses.append((place, (number, packet.channel, name_of(kind), instant & COUNT_BITS, when, told(lost))))
+                lost, first = 0, False
+            at += own
         rows.sort(key=lambda pair: (pair[0], pair[1][1]))
-        base.add(name, [row for _, row in rows])
-    base.add('losses', losses)
+        base.add(TABLES[kind], [row for _, row in rows])
+    losses.sort(key=lambda one: one[0])
+    base.add('losses', [row for _, row in losses])

@@ -5,10 +5,12 @@ from __future__ import annotations
 import struct
 from typing import Any, Callable, Dict, Iterable, Iterator, List, NamedTuple, Optional, Sequence, Set, Tuple
 
+from .arrays import numpy
+from .bodies import OWN, before_of, by_kind, in_some, read
 from .clocks import Clock
-from .kinds import KINDS, by_type
+from .columns import Group, Numbering, columns_of
+from .kinds import KINDS
 from .packets import UNTOLD, Packet, loss_of, lost_before
-from .stamps import Kept
 from .store_schema import COMMON, MOST_NUMBER
 
 DAY = 864000000000  # in units of 100 ns, as times are counted here
@@ -18,19 +20,14 @@ FIXED = {'BIGINT': ('q', 8), 'INTEGER': ('i', 4), 'SMALLINT': ('h', 2), 'BOOLEAN
          '{text}3': ('3s', 3)}
 
 
-# ---- reading; each row is the count and the table's own columns, some of which stand together in a tuple that is made once
-# for each value
-
-ROWS, STATES = by_type('rows'), by_type('last_state')
+# ---- reading; columns that stand together are one of tuples, each made once for each value
 
 
 class Table(NamedTuple):
-    """A kind of entries: its table's name and own columns, what reads a packet into rows of them, and how many columns stand
-    together at the end of a row."""
+    """A kind of entries: its table's name and own columns, and how many columns stand together at the end of a row."""
 
     name: str
     columns: Sequence[Tuple[str, str]]
-    read: Callable[[Packet, Dict[int, int]], List[Tuple]]
     together: Sequence[int] = ()
 
     @property
@@ -38,7 +35,21 @@ class Table(NamedTuple):
         return [name for name, _ in COMMON] + [name for name, _ in self.columns]
 
 
-TABLES = {kind.type: Table(kind.table, kind.own, ROWS[kind.type], kind.together) for kind in KINDS}
+TABLES = {kind.type: Table(kind.table, kind.own, kind.together) for kind in KINDS}
+
+
+class Kept(dict):
+    """Values by a key, each made once; begun anew where there are very many."""
+
+    def __init__(self, make: Callable[[Any], Any]) -> None:
+        dict.__init__(self)
+        self.make = make
+
+    def __missing__(self, key: Any) -> Any:
+        if len(self) > 1 << 16:
+            self.clear()
+        self[key] = made = self.make(key)
+        return made
 
 
 def flat(columns: Sequence[Sequence[Any]]) -> Iterator[Sequence[Any]]:
@@ -48,14 +59,6 @@ def flat(columns: Sequence[Sequence[Any]]) -> Iterator[Sequence[Any]]:
             yield from zip(*column)
         else:
             yield column
-
-
-def rows_of(packet: Packet, report: Optional[Tuple[int, int]], states: Dict[int, int]) -> Tuple[List[Tuple], Optional[int]]:
-    """The rows of a packet, and how many messages were lost before the first of them: None where it is not known how many."""
-    if packet.word is None or packet.kind not in TABLES:
-        return [], 0
-    lost = lost_before(packet, report)
-    return TABLES[packet.kind].read(packet, states), None if lost == UNTOLD else lost
 
 
 # ---- PostgreSQL's binary form
@@ -169,7 +172,7 @@ def days_of(counts: Sequence[int], clock: Clock) -> Set[int]:
 
 
 class Reader:
-    """Goes over packets and gives the rows of those channels that are wanted, a packet's at a time, as columns.
+    """Goes over packets and gives the rows of those channels that are wanted, those of some packets at a time, as columns.
 
     `layout` has what is known of the recording: `base` gives the instant of count 0 of the session of a packet that begins at a
     place, and `session` what tells the session.
@@ -178,32 +181,61 @@ class Reader:
     def __init__(self, number: int, wanted: Any, report: Optional[Tuple[int, int]], states: Dict[int, int], layout: Any) -> None:
         self.number, self.wanted, self.report, self.states = number, wanted, report, states
         self.base, self.session = layout.base, layout.session
+        self.numbering = Numbering()
 
     def columns(self, packets: Iterable[Packet],
                 times: Callable[[Sequence[int]], Sequence[Any]]) -> Iterator[Tuple[int, List[Sequence[Any]]]]:
-        """The data type and the columns of each packet that has rows."""
-        following, session = None, None
-        for packet in packets:
-            if self.session(packet.offset) != session:
-                if session is not None:
-                    self.states.clear()  # which are of the session before
-                session = self.session(packet.offset)
-            if following is not None and packet.offset != following:
-                self.report = None  # it stood before something that was passed over
-            if (packet.channel, packet.kind) in self.wanted:
-                found, lost = rows_of(packet, self.report, self.states)
-                if found:
-                    own = list(zip(*found))
-                    size = len(found)
-                    first = lost and min(lost, MOST_NUMBER)
-                    base = self.base(packet.offset)
-                    instants = [count + base for count in own[0]] if base else own[0]
-                    yield packet.kind, [(self.number,) * size, own[0], times(instants), [first] + [0] * (size - 1),
-                                        (packet.channel,) * size] + own[1:]
-            elif packet.kind in STATES and packet.word is not None:
-                ROWS[packet.kind](packet, self.states)  # which takes note of the last one
-            self.report = loss_of(packet)
-            following = packet.offset + packet.length
+        """The data type and the columns of those packets that have rows."""
+        following = session = None
+        for held in in_some(packets):
+            losses: List[int] = []
+            begin = 0
+            for at, packet in enumerate(held):
+                if self.session(packet.offset) != session:
+                    yield from self.some(held[begin:at], losses[begin:], times)
+                    begin = at
+                    if session is not None:
+                        self.states.clear()  # which are of the session before
+                    session = self.session(packet.offset)
+                if following is not None and packet.offset != following:
+                    self.report = None  # it stood before something that was passed over
+                losses.append(lost_before(packet, self.report))
+                self.report = loss_of(packet)
+                following = packet.offset + packet.length
+            yield from self.some(held[begin:], losses[begin:], times)
+
+    def some(self, packets: List[Packet], losses: List[int],
+             times: Callable[[Sequence[int]], Sequence[Any]]) -> Iterator[Tuple[int, List[Sequence[Any]]]]:
+        """The same of some packets, before each of which so many messages were lost."""
+        for kind, places in by_kind(packets).items():
+            before = before_of([packets[place] for place in places], self.states)
+            held = [at for at, place in enumerate(places) if (packets[place].channel, kind) in self.wanted]
+            if not held:
+                continue
+            some = [packets[places[at]] for at in held]
+            block, number = read(some, self.numbering, before and [before[at] for at in held])
+            if not len(block):
+                continue
+            lost: List[Optional[int]] = [0] * len(block)
+            at = 0
+            for place, many in zip(held, number.tolist()):
+                gone = losses[places[place]]
+                if many and gone:
+                    lost[at] = None if gone == UNTOLD else min(gone, MOST_NUMBER)
+                at += many
+            counts = instants = block.count.tolist()
+            bases = numpy.array([self.base(packet.offset) for packet in some], numpy.int64)
+            if bases.any():
+                instants = (block.count + bases[block.of]).tolist()
+            channels = [self.numbering.channels[one] for one in block.channel.tolist()]
+            front = [(self.number,) * len(counts), counts, times(instants), lost, channels]
+            yield kind, front + own_columns(kind, OWN[kind](block))
+
+
+def own_columns(kind: int, groups: Sequence[Group]) -> List[Sequence[Any]]:
+    """The columns of a kind's table: those by themselves, then those that stand together, as tuples."""
+    first = len(groups) - len(TABLES[kind].together)
+    return list(columns_of(groups[:first])) + [group.values() for group in groups[first:]]
 
 
 def packed(reader: Reader, packets: Iterable[Packet], clock: Optional[Clock]) -> Dict[int, Tuple[int, bytes]]:

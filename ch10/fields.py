@@ -7,14 +7,15 @@ from __future__ import annotations
 
 from typing import Dict, Iterator, Optional, Tuple
 
-from .kinds import KINDS, by_type
+from .bodies import MEANT, read
+from .columns import NONE, Numbering, rows_of
+from .kinds import KINDS
 from .packets import Packet
 from .tmats import Names
 
 FRONT = ('channel', 'name', 'count', 'time', 'lost', 'type')
 SHARED = ('value', 'text', 'sub', 'bus', 'bus_name', 'errors')
 COLUMNS = tuple(dict.fromkeys(FRONT + SHARED + tuple(column for kind in KINDS for column in kind.column_names)))
-READERS = by_type('meanings')
 
 
 class Reader:
@@ -27,6 +28,7 @@ class Reader:
     def __init__(self, names: Names, turned: bool = False) -> None:
         self.names, self.turned = names, turned
         self.buses: Dict[Tuple[int, Optional[int]], Optional[str]] = {}
+        self.numbering = Numbering()
 
     def bus_name(self, channel: int, number: Optional[int]) -> Optional[str]:
         """The name of a bus, if the setup text has one."""
@@ -37,6 +39,7 @@ class Reader:
 
     def entries(self, packet: Packet, before: Optional[int] = None) -> Iterator[Tuple[int, tuple]]:
         """The entries of a packet: of each its count and the columns of its kind."""
-        if packet.word is None or packet.kind not in READERS:
+        if packet.word is None or packet.kind not in MEANT:
             return iter(())
-        return READERS[packet.kind](self, packet, before)
+        block, _ = read([packet], self.numbering, [NONE if before is None else before])
+        return zip(block.count.tolist(), rows_of(MEANT[packet.kind](block, self)))

@@ -1,134 +1,154 @@
-"""MIL-STD-1553 (chapter 11, data type 0x19, format 1): messages of words of 16 bits, after a stamp, a block status word, gap times
-and their length in bytes."""
+"""MIL-STD-1553 (IRIG 106-17, 11.2.4, data type 0x19, format 1): messages of words of 16 bits, after a stamp, a block status word,
+gap times and their length in bytes."""
 from __future__ import annotations
 
-import struct
-import sys
-from array import array
-from typing import Any, Dict, Iterator, List, Optional, Tuple, TYPE_CHECKING
+from functools import lru_cache
+from typing import Any, Dict, List, Tuple
 
-from .buses import RT_TO_RT, block_1553, command_1553, layout_1553, message_1553
-from .stamps import Entries, Kept, Rows, counts_of
-from .standard import COUNT_BITS, Fault, need
+from .arrays import Array, numpy
+from .buses import FLAGS_1553, RT_TO_RT, block_1553, command_1553, named
+from .columns import Batch, Blobs, Block, Coded, Group, Hexed, Octets, Places, of_own_size
 
-if TYPE_CHECKING:
-    from .packets import Packet
-
-SHAPE = 14, 12, False
+LESS = 'less than its entries in a body'
 NUMBER = 0xFFFFFF
-BUS_ENTRY = struct.Struct('<QHHH')  # stamp, block status, gap times, length
-LENGTH_IN_BUS = struct.Struct('<Q4xH')
+LAST = (1 << 63) - 1
+NO_WORD = 1 << 16
 
 
-def read(body: bytes, word: int, counter: int) -> Entries:
-    found: Entries = []
-    at, end = 4, len(body)
-    turned = array('H', body[:end & -2])
-    turned.byteswap()
-    even, odd = turned.tobytes(), None
-    for _ in range(word & NUMBER):
-        if at + 14 > end:
-            raise Fault('less than an entry in a body', at)
-        stamp, status, gap, size = BUS_ENTRY.unpack_from(body, at)
-        if at + 14 + size > end:
-            raise Fault('less than an entry in a body', at)
-        if at & 1 and odd is None:
-            turned = array('H', body[1:1 + (end - 1 & -2)])
-            turned.byteswap()
-            odd = b'-' + turned.tobytes()
-        words = (odd if at & 1 else even)[at + 14:at + 14 + (size & -2)]
-        found.append((stamp & COUNT_BITS, ('%04x' % status, '%04x' % gap, words.hex() or '-')))
-        at += 14 + size
+def find(batch: Batch) -> Places:
+    found = of_own_size(batch, 14, 12, False, batch.words & NUMBER)
+    batch.kept['is even'] = not (found[0] & 1).any()
     return found
 
 
-def counts(body: bytes, word: int, counter: int) -> List[int]:
-    found: List[int] = []
-    at, end = 4, len(body)
-    add, unpack = found.append, LENGTH_IN_BUS.unpack_from
-    try:
-        for _ in range(word & NUMBER):
-            stamp, size = unpack(body, at)
-            add(stamp)
-            at += 14 + size
-    except struct.error:
-        at = end + 1
-    need(at <= end, 0, 'less than its entries in a body')
-    return counts_of(found)
+def count(batch: Batch, at: Array, of: Array) -> Array:
+    return batch.stamps(at, of)
 
 
 def number_in(data: Any, at: int, size: int, word: int) -> int:
     return word & NUMBER
 
 
-# ---- with what they mean
+# ---- words with the high byte first
 
-def meanings(reader: Any, packet: Packet, before: Optional[int]) -> Iterator[Tuple[int, tuple]]:
-    name = reader.bus_name(packet.channel, None)
-    for count, status, gap, words in messages(packet):
-        found = message_1553(status, words)
-        first, second = found[9], found[10]
-        yield count, (struct.pack('>%dH' % len(found[12]), *found[12]).hex(), found[0], name, *found[1:9],
-                      first if first is None else '%04x' % first,
-                      second if second is None else '%04x' % second, found[11], (gap & 0xFF) / 10, (gap >> 8) / 10)
+def turned(batch: Batch, at: int) -> bytes:
+    """The bytes from a place on, each two of them turned."""
+    octets = batch.octets[at:]
+    return octets[:len(octets) & -2].view('<u2').byteswap().tobytes()
 
 
-def messages(packet: Packet) -> Iterator[Tuple[int, int, int, list]]:
-    """The messages of a packet: count, block status, gap times and words."""
-    at, body, end = 4, packet.body, len(packet.body)
-    for _ in range(packet.word & NUMBER):
-        if at + 14 > end:
-            raise Fault('less than an entry in a body', at)
-        stamp, status, gap, size = BUS_ENTRY.unpack_from(body, at)
-        if at + 14 + size > end:
-            raise Fault('less than an entry in a body', at)
-        yield stamp & COUNT_BITS, status, gap, list(struct.unpack_from('<%dH' % (size // 2), body, at + 14))
-        at += 14 + size
+def both(batch: Batch) -> bytes:
+    """The bytes with each two turned: from the first one on, then from the second one on, as words stand at odd places too."""
+    return batch.held('turned', lambda: turned(batch, 0) + (b'' if batch.kept['is even'] else turned(batch, 1)))
 
 
-# ---- as rows
-
-def block_of(both: int) -> Tuple:
-    """Of gap times and block status the bus, the errors by name, the status, and the gaps in microseconds."""
-    bus, errors = block_1553(both & 0xFFFF)
-    return bus, errors or None, both & 0xFFFF, (both >> 16 & 0xFF) / 10, (both >> 24) / 10
+def places_in(batch: Batch, at: Array) -> Array:
+    """Where in `both` the bytes from these places on are."""
+    return at + (at & 1) * ((len(batch.octets) & -2) - 1)
 
 
-COMMANDS = Kept(command_1553)
-SECONDS = Kept(lambda word: (command_1553(word)[0], command_1553(word)[2]))
-BLOCKS = Kept(block_of)
-PLACES = Kept(lambda key: layout_1553(key[0], key[1], key[2] != 0))
-STATUSES = Kept(lambda both: both)
-NO_COMMAND, NO_SECOND, NO_STATUS = command_1553(None), (None, None), (None, None)
+# ---- what the words are
+
+def layout(command: Array, number: Array, status: Array) -> Tuple[Array, Array, Array]:
+    """Where, of so many words from a command word on, the second command word and the status words stand, or -1."""
+    places, lasts = by_command()
+    one, second, two = places[command], numpy.full(len(command), -1), numpy.full(len(command), -1)
+    one[one >= number] = -1
+    between = numpy.flatnonzero((status & RT_TO_RT != 0) & (number > 1))
+    if len(between):
+        number, last = number[between], lasts[command[between]]
+        second[between] = 1
+        one[between] = numpy.where(number > 2, 2, -1)
+        two[between] = numpy.where(number > last, last, -1)
+    return second, one, two
 
 
-def rows(packet: Packet, states: Dict[int, int]) -> Rows:
-    body, at, rows, turned = packet.body, 4, [], [turned_from(packet.body, 0), None]
-    unpack, add = BUS_ENTRY.unpack_from, rows.append
-    for _ in range(packet.word & NUMBER):
-        stamp, status, gap, size = unpack(body, at)
-        if at & 1 and turned[1] is None:
-            turned[1] = b'-' + turned_from(body, 1)
-        words = turned[at & 1][at + 14:at + 14 + (size & -2)]
-        at += 14 + size
-        if words:
-            command = words[0] << 8 | words[1]
-            second, first_status, second_status = PLACES[command, len(words) >> 1, status & RT_TO_RT]
-            add((stamp & COUNT_BITS, COMMANDS[command], NO_SECOND if second is None else SECONDS[word_at(words, second)],
-                 NO_STATUS if first_status is None else STATUSES[word_at(words, first_status), word_at(words, second_status)],
-                 BLOCKS[gap << 16 | status], words))
-        else:
-            add((stamp & COUNT_BITS, NO_COMMAND, NO_SECOND, NO_STATUS, BLOCKS[gap << 16 | status], b''))
-    return rows
+@lru_cache(maxsize=None)
+def by_command() -> Tuple[Array, Array]:
+    """By the command word where the status word stands, and where the second one of a message between terminals does; `LAST` where
+    no terminal answers."""
+    every = numpy.arange(1 << 16)
+    rt, sends, sa, low = every >> 11, every >> 10 & 1, every >> 5 & 31, every & 31
+    size = numpy.where(low == 0, 32, low)
+    one = numpy.where(sends == 1, 1, 1 + numpy.where((sa == 0) | (sa == 31), low >> 4, size))
+    return numpy.where(rt == 31, LAST, one), numpy.where(rt == 31, LAST, 3 + size)
 
 
-def word_at(words: bytes, place: Optional[int]) -> Optional[int]:
-    return None if place is None else words[2 * place] << 8 | words[2 * place + 1]
+class Words:
+    """Of each message how many words it has, its command word, the places of the other words of its frame or -1, and these words or
+    NO_WORD."""
+
+    def __init__(self, block: Block) -> None:
+        self.status, self.gap = block.numbers(8, 2), block.numbers(10, 2)
+        self.number = block.numbers(12, 2) >> 1
+        self.at, self.batch = block.at + 14, block.batch
+        self.has = self.number > 0
+        self.command = self.word(numpy.where(self.has, 0, -1))
+        self.places = layout(self.command * self.has, self.number, self.status)
+        self.other, self.one, self.two = map(self.word, self.places)
+
+    def word(self, place: Array) -> Array:
+        found, some = numpy.full(len(place), NO_WORD), numpy.flatnonzero(place >= 0)
+        found[some] = self.batch.numbers(self.at[some] + 2 * place[some], 2)
+        return found
+
+    def data(self) -> Octets:
+        """The data words: those that are no command word and no status word. They are one stretch, or two with a status word
+        between."""
+        number, (second, one, two) = self.number, self.places
+        first = 1 + (one == 1)
+        between = second == 1
+        first[between] = 2 + (number[between] > 2)
+        hole = numpy.where(two >= 0, two, numpy.where(one >= first, one, number))
+        many, rest = hole - first * self.has, numpy.maximum(number - hole - 1, 0)
+        start, source = places_in(self.batch, self.at), self.batch.hexed('hex of words', lambda: both(self.batch))
+        return Octets(source, 2 * start + 4 * first, 4 * many, 2 * start + 4 * (hole + 1), 4 * rest)
 
 
-def turned_from(body: bytes, at: int) -> bytes:
-    """The words of a body from a place on, the high byte first."""
-    turned = array('H', body[at:at + (len(body) - at & -2)])
-    if sys.byteorder == 'little':
-        turned.byteswap()
-    return turned.tobytes()
+def raw(block: Block) -> Dict[str, Group]:
+    source = block.batch.hexed('hex of words', lambda: both(block.batch))
+    size = block.numbers(12, 2) & -2
+    return {'status': Hexed(block.numbers(8, 2), 4), 'gap': Hexed(block.numbers(10, 2), 4),
+            'words': Octets(source, 2 * places_in(block.batch, block.at + 14), 2 * size)}
+
+
+def digits(word: int) -> Any:
+    return None if word == NO_WORD else '%04x' % word
+
+
+def meant(block: Block, reader: Any) -> List[Group]:
+    words = Words(block)
+    is_mode = (words.command >> 5 & 31 == 0) | (words.command >> 5 & 31 == 31)
+    flags = words.one % NO_WORD | words.two % NO_WORD
+
+    def bus(key: int) -> tuple:
+        side, errors = block_1553((key & 0x7FF) << 3)
+        return side, reader.bus_name(reader.numbering.channels[key >> 11], None), errors
+
+    return [
+        words.data(), Coded(block.channel << 11 | words.status >> 3 & 0x7FF, bus, 3),
+        Coded(words.command >> 5, lambda key: command_1553(key << 5)[:3] if key < 2048 else (None, None, None), 3),
+        Coded(numpy.where(words.has, words.command & 31 | is_mode.astype(numpy.int64) << 5, 64),
+              lambda key: command_1553((1 - (key >> 5)) << 5 | key & 31)[3:] if key < 64 else (None, None), 2),
+        Coded(numpy.where(words.other < NO_WORD, words.other >> 6 & 0x3E0 | words.other >> 5 & 31, 1024),
+              lambda key: (key >> 5, key & 31) if key < 1024 else (None, None), 2),
+        Coded(words.one, digits), Coded(words.two, digits),
+        Coded(flags & 0x7FF, lambda key: named(key, FLAGS_1553)),
+        Coded(words.gap, lambda key: ((key & 0xFF) / 10, (key >> 8) / 10), 2)]
+
+
+def own(block: Block) -> List[Group]:
+    words = Words(block)
+
+    def status(pair: int) -> tuple:
+        first, second = pair >> 17, pair & 0x1FFFF
+        return None if first == NO_WORD else first, None if second == NO_WORD else second
+
+    def frame(pair: int) -> tuple:
+        bus, errors = block_1553(pair & 0xFFFF)
+        return bus, errors or None, pair & 0xFFFF, (pair >> 16 & 0xFF) / 10, (pair >> 24) / 10
+
+    return [Coded(words.command, lambda word: command_1553(None if word == NO_WORD else word), 5),
+            Coded(words.other, lambda word: command_1553(None if word == NO_WORD else word)[0:3:2], 2),
+            Coded(words.one << 17 | words.two, status, 2), Coded(words.gap << 16 | words.status, frame, 5),
+            Blobs(both(block.batch), places_in(block.batch, words.at), 2 * words.number)]

@@ -1,73 +1,64 @@
-"""ARINC 429 (chapter 11, data type 0x38, format 0): words of 32 bits, each after a header with the time since the one before."""
+"""ARINC 429 (IRIG 106-17, 11.2.10, data type 0x38, format 0): words of 32 bits, each after a header with the time since the one
+before."""
 from __future__ import annotations
 
-import struct
-from typing import Any, Dict, Iterator, List, Optional, Tuple, TYPE_CHECKING
+from typing import Any, Dict, List
 
-from .buses import errors_429, word_429
-from .stamps import Entries, Kept, Rows, whole
+from .arrays import Array, numpy
+from .buses import ERRORS_429, ODD, label_of
+from .columns import Batch, Block, Coded, Group, Hexed, Number, Places, of_one_size
 
-if TYPE_CHECKING:
-    from .packets import Packet
-
+LESS = 'less than its entries in a body'
 NUMBER = 0xFFFF
 GAP = 0xFFFFF  # of a header: the time since the word before, or in the first of a packet since its counter
 
 
-def read(body: bytes, word: int, counter: int) -> Entries:
-    found: Entries = []
-    count = counter
-    for head, data in struct.iter_unpack('<II', whole(body, 8, word & NUMBER)):
-        count += head & GAP
-        found.append((count, (head >> 24, head >> 23 & 1, head >> 22 & 1, head >> 21 & 1, '%08x' % data)))
-    return found
+def find(batch: Batch) -> Places:
+    return of_one_size(batch, 8, batch.words & NUMBER)
 
 
-def counts(body: bytes, word: int, counter: int) -> List[int]:
-    count, found = counter, []
-    for head in struct.unpack('<%dI' % (2 * (word & NUMBER)), whole(body, 8, word & NUMBER))[::2]:
-        count += head & GAP
-        found.append(count)
-    return found
+def count(batch: Batch, at: Array, of: Array) -> Array:
+    if not len(at):
+        return at
+    gaps = batch.numbers(at, 4) & GAP
+    steps = numpy.cumsum(gaps)
+    first = numpy.flatnonzero(numpy.concatenate(([True], of[1:] != of[:-1])))
+    base = numpy.zeros(len(batch.counters), numpy.int64)
+    base[of[first]] = batch.counters[of[first]] - steps[first] + gaps[first]
+    return base[of] + steps
 
 
 def number_in(data: Any, at: int, size: int, word: int) -> int:
     return word & NUMBER
 
 
-def meanings(reader: Any, packet: Packet, before: Optional[int]) -> Iterator[Tuple[int, tuple]]:
-    count = packet.counter
-    for head, word in struct.iter_unpack('<II', whole(packet.body, 8, packet.word & NUMBER)):
-        count += head & GAP
-        yield count, ('%08x' % word, head >> 24, reader.bus_name(packet.channel, head >> 24), errors_429(head, word),
-                      *word_429(word, reader.turned),
-                      head >> 21 & 1)
+def raw(block: Block) -> Dict[str, Group]:
+    head = block.numbers(0, 4)
+    return {'bus': Number(head >> 24), 'format': Number(head >> 23 & 1), 'parity': Number(head >> 22 & 1),
+            'high': Number(head >> 21 & 1), 'data': Hexed(block.numbers(4, 4), 8)}
 
 
-def row_of(key: int) -> Tuple:
-    """Of the three bits of a header and a word: what stands in the word, and what is wrong."""
-    head, word = key >> 32 << 21, key & 0xFFFFFFFF
-    label, sdi, data, ssm, parity = word_429(word)
-    return word, data, head >> 24, sdi, ssm, parity, head >> 21 & 1 == 1, label, errors_429(head, word) or None
+def errors(head: Array, word: Array) -> Array:
+    """The errors of words, as the places in ERRORS_429: what the headers say of their reception, and whether they have even
+    parity."""
+    odd = numpy.frombuffer(ODD, numpy.uint8)
+    return (head >> 22 & 3) << 1 | 1 ^ (odd[word & 0xFFFF] ^ odd[word >> 16]).astype(numpy.int64)
 
 
-WORDS = Kept(row_of)
+def meant(block: Block, reader: Any) -> List[Group]:
+    head, word = block.numbers(0, 4), block.numbers(4, 4)
+
+    def bus(key: int) -> tuple:
+        number = key >> 3 & 0xFF
+        return number, reader.bus_name(reader.numbering.channels[key >> 11], number), ERRORS_429[key & 7]
+
+    return [Hexed(word, 8), Coded(block.channel << 11 | (head >> 24) << 3 | errors(head, word), bus, 3),
+            Coded(word & 0x3FF, lambda key: (label_of(key & 0xFF, reader.turned), key >> 8), 2), Number(word >> 10 & 0x7FFFF),
+            Coded((word >> 29) << 1 | head >> 21 & 1, lambda key: (key >> 1 & 3, key >> 3, key & 1), 3)]
 
 
-def rows(packet: Packet, states: Dict[int, int]) -> Rows:
-    count, rows = packet.counter, []
-    for head, word in struct.iter_unpack('<II', whole(packet.body, 8, packet.word & NUMBER)):
-        count += head & GAP
-        rows.append((count, *WORDS[head >> 21 << 32 | word]))
-    return rows
-
-
-def ahead(octets: Any, begin: int, some: List[tuple]) -> Dict[int, Tuple[int, int, int]]:
-    import numpy  # which is there where this is called
-    known: Dict[int, Tuple[int, int, int]] = {}
-    for at, body, behind, word, counter in some:
-        number = word & NUMBER
-        if number and body + 4 + 8 * number <= behind:
-            gaps = numpy.frombuffer(octets, '<u4', 2 * number, body + 4 - begin)[::2] & GAP
-            known[at] = number, counter + int(gaps[0]), counter + int(gaps.sum(dtype=numpy.int64))
-    return known
+def own(block: Block) -> List[Group]:
+    head, word = block.numbers(0, 4), block.numbers(4, 4)
+    return [Number(word), Number(word >> 10 & 0x7FFFF), Number(head >> 24), Number(word >> 8 & 3), Number(word >> 29 & 3),
+            Number(word >> 31), Number(head >> 21 & 1 == 1), Coded(word & 0xFF, lambda label: label_of(label, False)),
+            Coded(errors(head, word), lambda bits: ERRORS_429[bits] or None)]

@@ -6,25 +6,32 @@ else at the bottom; number 0 is the lowest of them in both.
 """
 from __future__ import annotations
 
-import struct
-from typing import Any, Dict, Iterator, List, Optional, Tuple, TYPE_CHECKING
+from typing import Any, Dict, List, Optional, Tuple
 
-from .buses import bits_of, changed_bits
-from .stamps import Entries, Rows, counts_of
-from .standard import COUNT_BITS, little, need
+from .arrays import Array, numpy
+from .columns import NONE, Batch, Bits, Block, Changed, Each, Group, Hexed, Number, Places, of_one_size
+from .standard import COUNT_BITS, little
 
-if TYPE_CHECKING:
-    from .packets import Packet
+LESS = 'less than an entry in a body'
 
 
-def read(body: bytes, word: int, counter: int) -> Entries:
-    need((len(body) - 4) % 12 == 0, 0, 'less than an entry in a body')
-    return [(stamp & COUNT_BITS, ('%08x' % states,)) for stamp, states in struct.iter_unpack('<QI', body[4:])]
+def number_of(word: Any) -> Any:
+    """How many discretes a channel has."""
+    return (word >> 3 & 31) + 32 * (word >> 3 & 31 == 0)
 
 
-def counts(body: bytes, word: int, counter: int) -> List[int]:
-    need((len(body) - 4) % 12 == 0, 0, 'less than an entry in a body')
-    return counts_of([stamp for stamp, in struct.iter_unpack('<Q4x', body[4:])])
+def up(word: Any) -> Any:
+    """How many bits above the bottom number 0 stands."""
+    return (32 - number_of(word)) * (word >> 1 & 1)
+
+
+def find(batch: Batch) -> Places:
+    size = batch.ends - batch.starts
+    return of_one_size(batch, 12, size // 12, size % 12)
+
+
+def count(batch: Batch, at: Array, of: Array) -> Array:
+    return batch.stamps(at, of)
 
 
 def number_in(data: Any, at: int, size: int, word: int) -> int:
@@ -40,31 +47,28 @@ def last_state(body: bytes) -> Optional[int]:
     return little(body, len(body) - 4, 4) >> up(little(body, 0, 4)) if len(body) > 4 else None
 
 
-def number_of(word: int) -> int:
-    """How many discretes a channel has."""
-    return word >> 3 & 31 or 32
+def states_of(block: Block) -> Tuple[Array, Array]:
+    """The states of each entry, and those before, or NONE, which it is told by its place, for an entry before may be left out."""
+    above = up(block.words)
+    states, before = block.numbers(8, 4) >> above, numpy.full(len(block), NONE)
+    is_first = block.at == block.batch.starts[block.of]
+    before[~is_first] = block.batch.numbers(block.at[~is_first] - 4, 4) >> above[~is_first]
+    if block.batch.before is not None:
+        before[is_first] = block.batch.before[block.of[is_first]]
+    return states, before
 
 
-def up(word: int) -> int:
-    """How many bits above the bottom number 0 stands."""
-    return 32 - number_of(word) if word & 2 else 0
+def raw(block: Block) -> Dict[str, Group]:
+    return {'states': Hexed(block.numbers(8, 4), 8)}
 
 
-def meanings(reader: Any, packet: Packet, before: Optional[int]) -> Iterator[Tuple[int, tuple]]:
-    number, above = number_of(packet.word), up(packet.word)
-    for stamp, value in struct.iter_unpack('<QI', packet.body[4:]):
-        states = value >> above
-        yield stamp & COUNT_BITS, ('%08x' % value, bits_of(states, number), changed_bits(before, states, number))
-        before = states
+def meant(block: Block, reader: Any) -> List[Group]:
+    states, before = states_of(block)
+    bits = number_of(block.words)
+    return [Hexed(block.numbers(8, 4), 8), Bits(states, bits), Changed(states, before, bits)]
 
 
-def rows(packet: Packet, states: Dict[int, int]) -> Rows:
-    """Takes note of the last states too."""
-    rows, before, above = [], states.get(packet.channel), up(packet.word)
-    for stamp, value in struct.iter_unpack('<QI', packet.body[4:]):
-        value >>= above
-        rows.append((stamp & COUNT_BITS, value, None if before is None else value ^ before))
-        before = value
-    if before is not None:
-        states[packet.channel] = before
-    return rows
+def own(block: Block) -> List[Group]:
+    states, before = states_of(block)
+    changed = [None if was == NONE else was ^ now for was, now in zip(before.tolist(), states.tolist())]
+    return [Number(states), Each(changed)]

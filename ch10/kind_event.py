@@ -1,15 +1,13 @@
-"""Events (chapter 11, data type 0x02): a stamp, then number and occurrence. Other recorders may have a data header of 8 bytes
-between them, as bit 31 of the word says."""
+"""Events (IRIG 106-17, 11.2.7.3, data type 0x02): a stamp, then number and occurrence. Other recorders may have a data header of 8
+bytes between them, as bit 31 of the word says."""
 from __future__ import annotations
 
-from typing import Any, Dict, Iterator, List, Optional, Tuple, TYPE_CHECKING
+from typing import Any, Dict, List
 
-from .stamps import Entries, Rows, whole
-from .standard import little
+from .arrays import Array, numpy
+from .columns import Batch, Block, Group, Number, Places, of_one_size
 
-if TYPE_CHECKING:
-    from .packets import Packet
-
+LESS = 'less than its entries in a body'
 NUMBER = 0xFFF
 
 
@@ -17,24 +15,30 @@ def is_other_form(word: int, size: int) -> bool:
     return word >> 31 != 0 and size < 4 + 20 * (word & NUMBER)
 
 
-def read(body: bytes, word: int, counter: int) -> Entries:
-    step = 20 if word >> 31 else 12
-    places = whole(body, step, word & NUMBER)
-    marks = [(little(places, at, 6), little(places, at + step - 4, 4)) for at in range(0, len(places), step)]
-    return [(count, (mark & 0xFFF, mark >> 12 & 0xFFFF)) for count, mark in marks]
+def find(batch: Batch) -> Places:
+    return of_one_size(batch, numpy.where(batch.words >> 31 != 0, 20, 12), batch.words & NUMBER)
 
 
-def counts(body: bytes, word: int, counter: int) -> List[int]:
-    return [count for count, _ in read(body, word, counter)]
+def count(batch: Batch, at: Array, of: Array) -> Array:
+    return batch.stamps(at, of)
 
 
 def number_in(data: Any, at: int, size: int, word: int) -> int:
     return 1
 
 
-def meanings(reader: Any, packet: Packet, before: Optional[int]) -> Iterator[Tuple[int, tuple]]:
-    return iter(read(packet.body, packet.word, packet.counter))
+def marks(block: Block) -> List[Group]:
+    mark = block.numbers(numpy.where(block.words >> 31 != 0, 16, 8), 4)
+    return [Number(mark & 0xFFF), Number(mark >> 12 & 0xFFFF)]
 
 
-def rows(packet: Packet, states: Dict[int, int]) -> Rows:
-    return [(count, *values) for count, values in read(packet.body, packet.word, packet.counter)]
+def raw(block: Block) -> Dict[str, Group]:
+    return dict(zip(('number', 'occurrence'), marks(block)))
+
+
+def meant(block: Block, reader: Any) -> List[Group]:
+    return marks(block)
+
+
+def own(block: Block) -> List[Group]:
+    return marks(block)

@@ -1,34 +1,44 @@
-"""Times (chapter 11, data type 0x11, format 1): of a packet its counter, and the civil time of that."""
+"""Times (IRIG 106-17, 11.2.3, data type 0x11, format 1): of a packet its counter, and the civil time of that."""
 from __future__ import annotations
 
-from typing import Any, Dict, Iterator, List, Optional, Tuple, TYPE_CHECKING
+from typing import Any, Dict, List
 
-from .stamps import Entries, Rows
+from .arrays import Array, numpy
+from .columns import Batch, Block, Each, Group, Places
 from .times import time
 
-if TYPE_CHECKING:
-    from .packets import Packet
+LESS = 'less than a time in a body'
 
 
 def is_other_form(word: int, size: int) -> bool:
     return not word & 0x200 and size < 10
 
 
-def read(body: bytes, word: int, counter: int) -> Entries:
-    return [(counter, (time(body, word).said,))]
+def find(batch: Batch) -> Places:
+    bad = batch.ends - batch.starts < numpy.where(batch.words & 0x200 != 0, 8, 6)
+    return batch.starts[~bad], (~bad).astype(numpy.int64), bad
 
 
-def counts(body: bytes, word: int, counter: int) -> List[int]:
-    return [count for count, _ in read(body, word, counter)]
+def count(batch: Batch, at: Array, of: Array) -> Array:
+    return batch.counters[of]
 
 
 def number_in(data: Any, at: int, size: int, word: int) -> int:
     return 1
 
 
-def meanings(reader: Any, packet: Packet, before: Optional[int]) -> Iterator[Tuple[int, tuple]]:
-    return iter(read(packet.body, packet.word, packet.counter))
+def civil(block: Block) -> Group:
+    data = block.batch.octets
+    return Each([time(data[at - 4:at + 8].tobytes(), word).said for at, word in zip(block.at.tolist(), block.words.tolist())])
 
 
-def rows(packet: Packet, states: Dict[int, int]) -> Rows:
-    return [(count, *values) for count, values in read(packet.body, packet.word, packet.counter)]
+def raw(block: Block) -> Dict[str, Group]:
+    return {'civil': civil(block)}
+
+
+def meant(block: Block, reader: Any) -> List[Group]:
+    return [civil(block)]
+
+
+def own(block: Block) -> List[Group]:
+    return [civil(block)]

@@ -5,63 +5,25 @@ the packet's counter, which is all that is known of its time.
 """
 from __future__ import annotations
 
-import struct
-from typing import Any, Dict, Iterator, List, Optional, Tuple, TYPE_CHECKING
+from typing import Any, Dict, List, Tuple, Union
 
-from .buses import text_of
-from .stamps import Entries, Rows, stamped, stamps_of
-from .standard import Fault, digits, need
+from .arrays import Array, numpy
+from .columns import Batch, Block, Coded, Group, Number, Places, Printed, blobs_of, octets_of, of_own_size
 
-if TYPE_CHECKING:
-    from .packets import Packet
-
-SHAPE = 12, 8, True
-NUMBER = None
+LESS = 'less than its entries in a body'
 
 
-HEAD = struct.Struct('<I')
+def find(batch: Batch) -> Places:
+    stamped = batch.words >> 31 != 0
+    if stamped.all():
+        return of_own_size(batch, 12, 8, True, None)
+    return of_own_size(batch, numpy.where(stamped, 12, 4), numpy.where(stamped, 8, 0), True, None)
 
 
-def is_alone(word: int) -> bool:
-    """Whether entries have no stamps, so that they are found packet by packet."""
-    return not word >> 31
-
-
-def parts_of(body: bytes, word: int, counter: int) -> List[Tuple[int, int, bytes]]:
-    """The entries of a body: count, header and bytes."""
-    return stamped(body, None) if word >> 31 else unstamped(body, counter)
-
-
-def unstamped(body: bytes, counter: int) -> List[Tuple[int, int, bytes]]:
-    """The same of a body whose entries have no stamps."""
-    found: List[Tuple[int, int, bytes]] = []
-    at, end = 4, len(body)
-    while at < end:
-        if at + 4 > end:
-            raise Fault('less than an entry in a body', at)
-        head, = HEAD.unpack_from(body, at)
-        size = head & 0xFFFF
-        if at + 4 + size > end:
-            raise Fault('less than an entry in a body', at)
-        found.append((counter, head, body[at + 4:at + 4 + size]))
-        at += 4 + size + (size & 1)
-    return found
-
-
-def read(body: bytes, word: int, counter: int) -> Entries:
-    return [(count, (head >> 31, head >> 16 & 0x3FFF, digits(data))) for count, head, data in parts_of(body, word, counter)]
-
-
-def counts(body: bytes, word: int, counter: int) -> List[int]:
-    if word >> 31:
-        return stamps_of(body, None)
-    at, end, number = 4, len(body), 0
-    while at < end:
-        size = int.from_bytes(body[at:at + 2], 'little')
-        need(at + 4 + size <= end, 0, 'less than its entries in a body')
-        at += 4 + size + (size & 1)
-        number += 1
-    return [counter] * number
+def count(batch: Batch, at: Array, of: Array) -> Array:
+    stamped = batch.words[of] >> 31 != 0
+    return batch.stamps(at, of) if stamped.all() else numpy.where(stamped, batch.stamps(numpy.where(stamped, at, 0), of),
+                                                                  batch.counters[of])
 
 
 def number_in(data: Any, at: int, size: int, word: int) -> int:
@@ -72,16 +34,30 @@ def number_in(data: Any, at: int, size: int, word: int) -> int:
     return number
 
 
-def meanings(reader: Any, packet: Packet, before: Optional[int]) -> Iterator[Tuple[int, tuple]]:
-    for count, head, data in parts_of(packet.body, packet.word, packet.counter):
-        yield count, (data.hex(), text_of(data), head >> 16 & 0x3FFF, 'parity error' if head >> 31 else '')
+def head_of(block: Block) -> Tuple[Array, Union[int, Array]]:
+    """The header of each entry, and how many bytes after its begin the entry's own stand."""
+    stamped = block.words >> 31 != 0
+    if stamped.all():
+        return block.numbers(8, 4), 12
+    return block.numbers(numpy.where(stamped, 8, 0), 4), numpy.where(stamped, 12, 4)
 
 
-def rows(packet: Packet, states: Dict[int, int]) -> Rows:
-    return [(count, head >> 16 & 0x3FFF, 'parity error' if head >> 31 else None, bytes(data))
-            for count, head, data in parts_of(packet.body, packet.word, packet.counter)]
+def raw(block: Block) -> Dict[str, Group]:
+    head, front = head_of(block)
+    return {'parity': Number(head >> 31), 'sub': Number(head >> 16 & 0x3FFF), 'bytes': octets_of(block, front, head & 0xFFFF)}
 
 
-def errors(high: int) -> str:
-    """The errors that the high half of a header says, for lines that are made by numpy."""
-    return 'parity error' if high >> 15 else ''
+def error(parity: int) -> str:
+    return 'parity error' if parity else ''
+
+
+def meant(block: Block, reader: Any) -> List[Group]:
+    head, front = head_of(block)
+    return [octets_of(block, front, head & 0xFFFF), Printed(block, front, head & 0xFFFF),
+            Coded(head >> 16, lambda high: (high & 0x3FFF, error(high >> 15)), 2)]
+
+
+def own(block: Block) -> List[Group]:
+    head, front = head_of(block)
+    return [Number(head >> 16 & 0x3FFF), Coded(head >> 31, lambda parity: error(parity) or None),
+            blobs_of(block, front, head & 0xFFFF)]

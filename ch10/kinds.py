@@ -1,26 +1,22 @@
 """The kinds of entries, a row each: their names, columns and tables, and the modules that read them.
 
 A row has what is known without reading an entry, so that a call which reads none begins sooner. A kind's entries are read by its
-module, by functions of these names. A body is a packet's bytes after its header, without filler and checksum; it begins with its
-word, of 32 bits. Counts are in units of 100 ns.
+module, as columns of the entries of many packets (`ch10.columns`), by functions of these names. A body is a packet's bytes after
+its headers, without filler and checksum; it begins with its word, of 32 bits. Counts are in units of 100 ns.
 
-    read(body, word, counter)          of each entry its count, and the values of its keys
-    counts(body, word, counter)        the counts alone, which is faster
+    find(batch)              the places of the entries of some bodies, how many each has, and which have less than they say
+    count(batch, at, of)     the counts of the entries at these places, each of a packet by its number in the batch
+    raw(block)               of entries, the values of their keys, as groups by the keys' names
+    meant(block, reader)     their columns with what they mean, as groups in the columns' order; `reader` is a `ch10.fields.Reader`
+    own(block)               the columns of their table in the same way; several that stand together are one group
     number_in(data, at, size, word)    how many entries a body of a strict recording has, of so many bytes from a place on
-    meanings(reader, packet, before)   of each entry its count, and its columns with what they mean; `reader` is a
-                                       `ch10.fields.Reader`, and `before` what `last_state` gave of the channel's packet before
-    rows(packet, states)               of each entry its count, and the columns of its table; several that stand together are a
-                                       tuple; `states` has what `last_state` gave of each channel's packet before
+    LESS                     what is said of a body that has less than its entries
 
 and, where the kind asks for it, by these:
 
     is_other_form(word, size)    whether the word of a body of so many bytes selects a form that is not read here
     last_count(body)             the count of the last entry, where it is found sooner than all of them
     last_state(body)             what has to be known of a packet before the channel's next one; None where it has no entry
-    ahead(octets, begin, some)   number, lowest and highest count of the entries of many packets, by numpy: see `ch10.walk`
-    SHAPE, NUMBER                where entries have their lengths, and which bits of the word have their number: see `ch10.walk`
-
-By numpy lines are made by a module of its own (`ch10.vector` says what it has). Without one a kind's lines are made entry by entry.
 """
 from __future__ import annotations
 
@@ -48,14 +44,11 @@ class Kind:
     .tmats     how a setup text (chapter 9) describes its channels, or None: `data_type`, the channel data type; `format_name`, the
                attribute of the format; `format`, the one that r10 writes; `group`, of what a channel carries, or None: S, messages,
                or B, buses, with their `bus_type`
-    .vector    what makes its lines by numpy, a module of this package, or None
     """
 
     def __init__(self, data_type: int, name: str, module: str, keys: Columns, columns: Columns, own: Columns,
-                 together: Sequence[int] = (), step: int = 2, tmats: Optional[Dict[str, Any]] = None,
-                 vector: Optional[str] = None) -> None:
-        self.type, self.name, self.module, self.together, self.step = data_type, name, module, together, step
-        self.tmats, self.vector = tmats, vector
+                 together: Sequence[int] = (), step: int = 2, tmats: Optional[Dict[str, Any]] = None) -> None:
+        self.type, self.name, self.module, self.together, self.step, self.tmats = data_type, name, module, together, step, tmats
         self.keys, self.columns, self.own = tuple(keys.items()), tuple(columns.items()), tuple(own.items())
         self.column_names = tuple(columns)
         self.table = 'entry_' + name  # in a database of many recordings
@@ -72,31 +65,29 @@ KINDS = (
          own={'rt': 'SMALLINT', 'tr': '{text}', 'sa': 'SMALLINT', 'wc': 'SMALLINT', 'mode': 'SMALLINT',
               'rt2': 'SMALLINT', 'sa2': 'SMALLINT', 'status1': 'INTEGER', 'status2': 'INTEGER', 'bus': '{text}',
               'errors': '{text}', 'block_status': 'INTEGER', 'gap1': 'REAL', 'gap2': 'REAL', 'words': '{bytes}'},
-         together=(5, 2, 2, 5, 1), tmats=dict(data_type='1553IN', format_name='BTF', format=1, group='B', bus_type='1553'),
-         vector='vector_1553'),
+         together=(5, 2, 2, 5, 1), tmats=dict(data_type='1553IN', format_name='BTF', format=1, group='B', bus_type='1553')),
     Kind(ARINC, 'arinc', 'kind_arinc',
          keys={'bus': WHOLE, 'format': TRUTH, 'parity': TRUTH, 'high': TRUTH, 'data': VALUE},
          columns={'value': TEXT, 'bus': WHOLE, 'bus_name': TEXT, 'errors': TEXT, 'label': TEXT, 'sdi': WHOLE,
                   'data': WHOLE, 'ssm': WHOLE, 'parity': WHOLE, 'high': TRUTH},
          own={'word': 'BIGINT', 'data': 'INTEGER', 'bus': 'SMALLINT', 'sdi': 'SMALLINT', 'ssm': 'SMALLINT',
               'parity': 'SMALLINT', 'high': 'BOOLEAN', 'label': '{text}3', 'errors': '{text}'},
-         together=(1,), tmats=dict(data_type='429IN', format_name='ABTF', format=0, group='B', bus_type='A429'),
-         vector='vector_arinc'),
+         together=(1,), tmats=dict(data_type='429IN', format_name='ABTF', format=0, group='B', bus_type='A429')),
     Kind(UART, 'uart', 'kind_uart',
          keys={'parity': TRUTH, 'sub': WHOLE, 'bytes': VALUE},
          columns={'value': TEXT, 'text': TEXT, 'sub': WHOLE, 'errors': TEXT},
          own={'sub': 'SMALLINT', 'errors': '{text}', 'value': '{bytes}'},
-         together=(1, 1), tmats=dict(data_type='UARTIN', format_name='UTF', format=0, group='S'), vector='vector_text'),
+         together=(1, 1), tmats=dict(data_type='UARTIN', format_name='UTF', format=0, group='S')),
     Kind(MESSAGE, 'message', 'kind_message',
          keys={'data_error': TRUTH, 'format': TRUTH, 'sub': WHOLE, 'bytes': VALUE},
          columns={'value': TEXT, 'text': TEXT, 'sub': WHOLE, 'errors': TEXT},
          own={'sub': 'SMALLINT', 'errors': '{text}', 'value': '{bytes}'},
-         together=(1, 1), tmats=dict(data_type='MSGIN', format_name='MTF', format=0, group='S'), vector='vector_text'),
+         together=(1, 1), tmats=dict(data_type='MSGIN', format_name='MTF', format=0, group='S')),
     Kind(DISCRETE, 'discrete', 'kind_discrete',
          keys={'states': VALUE},
          columns={'value': TEXT, 'bits': TEXT, 'changed': TEXT},
          own={'states': 'BIGINT', 'changed': 'BIGINT'},
-         tmats=dict(data_type='DISIN', format_name='DTF', format=1, group=None), vector='vector_discrete'),
+         tmats=dict(data_type='DISIN', format_name='DTF', format=1, group=None)),
     Kind(TIME, 'time', 'kind_time',
          keys={'civil': VALUE},
          columns={'value': TEXT},

@@ -7,7 +7,7 @@ from bisect import bisect_right
 from contextlib import closing, contextmanager
 from typing import Any, Callable, Dict, FrozenSet, Iterable, Iterator, List, NamedTuple, Optional, Sequence, Set, Tuple
 
-from .bodies import counts
+from .bodies import counted
 from .catalogue import TAKEN_OUT, Mark, added, now, opened, title, unread
 from .clocks import BITS, NOTHING, Asked, Timing
 from .entry_rows import END, FRONT, TABLES, Reader, days_of, flat, packed
@@ -179,14 +179,12 @@ def days_in(held: Held, wanted: Set[Tuple[int, int]]) -> Optional[List[List[int]
     clock = held.layout.clock
     if clock is None or not clock.dated:
         return []
-    for packet in held.packets():
-        if (packet.channel, packet.kind) in wanted:
-            there = counts(packet)
-            if there:
-                base = held.layout.base(packet.offset)
-                found.update((packet.kind, day) for day in days_of([base + count for count in there], clock))
-                if len(found) > MOST_DAYS:
-                    return None
+    for packet, there in counted(packet for packet in held.packets() if (packet.channel, packet.kind) in wanted):
+        if there:
+            base = held.layout.base(packet.offset)
+            found.update((packet.kind, day) for day in days_of([base + count for count in there], clock))
+            if len(found) > MOST_DAYS:
+                return None
     return sorted(map(list, found))
 
 

@@ -55,7 +55,7 @@ def packet_at(data: Data, at: int, begin: int, end: int, judged: bool = True, op
         second = bytes(data[at + 24:at + front])
         if judged and not is_second(second):
             raise Fault('a wrong checksum of the secondary header', here, length, whose)
-    if not flags & 0x40 and fits and (kind in KNOWN or kind == LOSS and size == 20
+    if not is_of_another_clock(flags) and fits and (kind in KNOWN or kind == LOSS and size == 20
                                       and data[at + front:at + front + 8] == REPORT):
         if size < 4:
             raise Fault('a body without its word', here, length, whose)
@@ -77,6 +77,12 @@ def front_of(flags: int) -> int:
     """How many bytes stand before a packet's body: its header, and the secondary header that bit 7 of its flags says
     (IRIG 106-17, 11.2.1.2)."""
     return 24 + SECOND if flags & 0x80 else 24
+
+
+def is_of_another_clock(flags: int) -> bool:
+    """Whether stamps are times that cannot be counted: of the format of a secondary header (bit 6) that is not there, or that is
+    reserved."""
+    return flags & 0x40 != 0 and (not flags & 0x80 or flags & 0x0C == 0x0C)
 
 
 def is_second(second: bytes) -> bool:

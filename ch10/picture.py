@@ -5,7 +5,7 @@ from argparse import Namespace
 from typing import Callable, Dict, Iterable, Iterator, List, Optional, Set, Tuple
 from xml.sax.saxutils import escape
 
-from .bodies import counts
+from .bodies import counted
 from .clocks import BITS, Axis
 from .inputs import Output, one_part
 from .packets import UNTOLD, loss_of, lost_before, packets
@@ -257,13 +257,13 @@ def marks(data: Data, begin: int, survey: Survey, sources: Dict[Key, Row], by_pa
     """Of each packet that is drawn its channel and type, its instants, the instant of a loss and how many messages were lost, or
     None twice."""
     report, behind = None, 0
-    for number, packet in enumerate(packets(data, begin, begin + survey.size, False, survey.passed)):
+    for number, (packet, found) in enumerate(counted(packets(data, begin, begin + survey.size, False, survey.passed))):
         key = packet.channel, packet.kind
         if packet.offset != behind:
             report = None
         behind = packet.offset + packet.length
         if key in sources:
-            found, base = [packet.counter] if key in by_packets else counts(packet), survey.of[number] << BITS
+            found, base = [packet.counter] if key in by_packets else found, survey.of[number] << BITS
             if base:
                 found = [count + base for count in found]
             if packet.flags & 0x10:

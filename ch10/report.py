@@ -4,26 +4,22 @@ from __future__ import annotations
 
 import os
 import re
-import struct
 from collections import Counter
 from html import escape
 from typing import Any, Dict, Iterable, List, NamedTuple, Optional, Sequence, Tuple
 
-from .buses import ERRORS_1553, command_1553, word_429
+from .buses import label_of
 from .catalogue import ENDINGS, Input, image_tasks, inputs_of, line_of, opened, title, unread
 from .facts import facts_of, nothing_in, program_of, verdict_of_image
 from .find import lost_text, verdict_text
 from .inputs import Output, is_recording
-from .kind_1553 import BUS_ENTRY
-from .kinds import ARINC, BUS
-from .packets import packets
 from .picture import Picture, marks
-from .stamps import whole
 from .standard import Fault, Wrong
 from .survey import Survey, ends_of, name_of
 from .table import clock_lines, said
 from .timeline import timeline
 from .tmats import tree
+from .traffic import buses_of
 
 STYLE = """
 :root { color-scheme: light; --line: #c3c8cf; --ink: #1b1f24; --soft: #4a5159; --link: #0b4f9c; }
@@ -102,50 +98,13 @@ def size_text(size: int) -> str:
 
 # ---- what the buses carried
 
-def buses_of(data: Any, begin: int, end: int,
-             survey: Survey) -> Tuple[Dict[Tuple, Counter], Dict[Tuple, Counter], Dict[Tuple, Counter]]:
-    """Of 1553 channels the messages by RT, direction and subaddress, and the errors by RT and direction; of ARINC 429 channels the
-    words by label."""
-    commands: Dict[int, Counter] = {}
-    labels: Dict[Tuple, Counter] = {}
-    for packet in packets(data, begin, begin + survey.size, False, survey.passed):
-        if packet.word is None:
-            continue
-        if packet.kind == BUS:
-            commands.setdefault(packet.channel, Counter()).update(bus_keys(packet))
-        elif packet.kind == ARINC:
-            for head, word in struct.iter_unpack('<II', whole(packet.body, 8, packet.word & 0xFFFF)):
-                labels.setdefault((packet.channel, head >> 24), Counter())[word & 0xFF] += 1
-    messages: Dict[Tuple, Counter] = {}
-    errors: Dict[Tuple, Counter] = {}
-    for channel, counted in commands.items():
-        for (command, status), number in counted.items():
-            rt, direction, sa, _, _ = command_1553(command)
-            key = channel, -1 if rt is None else rt, direction
-            messages.setdefault(key, Counter())[sa] += number
-            for bit, name in ERRORS_1553:
-                if status >> bit & 1:
-                    errors.setdefault(key, Counter())[name] += number
-    return messages, errors, labels
-
-
-def bus_keys(packet: Any) -> List[Tuple[Optional[int], int]]:
-    """Of each message of a packet its command word and its error bits."""
-    body, at, found = packet.body, 4, []
-    for _ in range(packet.word & 0xFFFFFF):
-        _, status, _, size = BUS_ENTRY.unpack_from(body, at)
-        found.append((body[at + 14] | body[at + 15] << 8 if size > 1 else None, status & 0x1638))
-        at += 14 + size
-    return found
-
-
 def counted_text(counted: Counter, names: Any) -> str:
     return ', '.join('%s: %s' % (names(key), '{:,}'.format(number))
                      for key, number in sorted(counted.items(), key=lambda pair: (pair[0] is None, pair[0])))
 
 
 def bus_parts(data: Any, begin: int, end: int, survey: Survey) -> List[str]:
-    messages, errors, labels = buses_of(data, begin, end, survey)
+    messages, errors, labels = buses_of(data, begin, survey)
     made: List[str] = []
     if messages:
         rows = [(channel, survey.names.channel(channel) or '-', 'none' if rt < 0 else rt,
@@ -160,7 +119,7 @@ def bus_parts(data: Any, begin: int, end: int, survey: Survey) -> List[str]:
             ('name', 'direction', 'errors', 'by subaddress'))
     if labels:
         rows = [(channel, survey.names.channel(channel) or '-', bus, size_text(sum(counted.values())),
-                 ('wrap', escape(counted_text(counted, lambda label: word_429(label)[0]))))
+                 ('wrap', escape(counted_text(counted, label_of))))
                 for (channel, bus), counted in sorted(labels.items())]
         made += ['<h3>ARINC 429 by label</h3>'] + table('Words of each bus, by label in octal',
                                                         ('channel', 'name', 'bus', 'words', 'by label'), rows,

@@ -149,7 +149,7 @@ class Survey:
         """Goes over the recording, and answers how far it came."""
         at, resync, report, last, gone = begin, Resync(data, begin, end), None, None, begin
         before: Dict[int, int] = {}
-        ahead = walk.Ahead(data, end) if walk.is_ready(end - begin) else walk.Alone()
+        ahead = walk.Ahead(data, end)
         while at < end:
             try:
                 packet = packet_at(data, at, begin, end, not self.judged, goes_on, ahead.is_summed(at))

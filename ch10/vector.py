@@ -1,47 +1,28 @@
-"""Lines of entries made by numpy where it is installed: the same bytes as `ch10.lines` makes without it, many entries at a time.
+"""Lines of entries, many at a time, made of their columns (`ch10.columns`).
 
 A line is a row of pieces. The lines of some entries are given their places in one array of bytes first; then each piece of all of
 them is written, from left to right, but for the fronts of lines, which are written last. So a piece may be written with some bytes
-too many. What is rare is left to the plain way: types with few entries, and bodies of very long messages.
-
-What is of one kind is in a module of its own (`ch10.kinds` names it), which is read where numpy is there. It has these functions:
-
-    entries(vector, kind, packets)   the entries of some packets, a `Block`, and those packets that are left to the plain way;
-                                     of each packet its number, itself, and what was lost before it
-    pieces(vector, kind, block)      the pieces of the lines of such a block, from what was lost on
+too many.
 """
 from __future__ import annotations
 
-from binascii import hexlify
-from importlib import import_module
-from typing import Any, Callable, Dict, Iterator, List, Optional, Tuple, Union, TYPE_CHECKING
+from typing import Any, Callable, Dict, Iterator, List, Optional, Union, TYPE_CHECKING
 
-from . import walk
+from .arrays import Array, numpy
+from .bodies import read
+from .columns import (LONGEST, NONE, ROOM, Bits, Block, Changed, Coded, Each, Hexed, Number, Numbering, Octets, Printed,
+                      wide_view)
+from .buses import changed_bits
 from .inputs import HELD
-from .kinds import KINDS
 from .replay import Ordered, Part
 from .standard import COUNT_BITS
-from .times import DAY, civil
-from .walk import Array
+from .times import DAY, Range, civil
 
 if TYPE_CHECKING:
-    from .lines import Meant
+    from .lines import Form
 
-numpy: Any = None  # as in `ch10.walk`
-
-
-def is_ready(size: int) -> bool:
-    """Whether numpy is there, and a recording of so many bytes is to be read by it."""
-    global numpy
-    found = walk.is_ready(size)
-    numpy = walk.numpy
-    return found
-
-
-LONGEST = 512  # bytes of a text that are taken together; longer ones go the plain way
 EACH = 4 << 20  # bytes of packets that a part has, or more
 TOGETHER = 40000  # entries whose lines are made at once
-ROOM = bytes(4 * LONGEST)  # after bytes that pieces are parts of
 SECOND = 10 ** 7
 LAST_DAY = 3652059  # of the calendar
 LAST = (1 << 63) - 1
@@ -50,6 +31,7 @@ LAST = (1 << 63) - 1
 # ---- pieces
 
 EVERY = slice(None)
+MOST_TOGETHER = 2 * LONGEST  # bytes of a piece that is written together with others
 VOIDS: Dict[int, Any] = {}  # types of so many bytes
 
 
@@ -75,7 +57,7 @@ class Sheet:
     def put(self, at: Array, wide: int, items: Array) -> None:
         view = self.views.get(wide)
         if view is None:
-            view = self.views[wide] = walk.wide_view(self.octets, wide)
+            view = self.views[wide] = wide_view(self.octets, wide)
         view[at] = items
 
 
@@ -102,12 +84,19 @@ class Piece:
 
         Bytes after its own are written too where there is room for them: what belongs there is written later.
         """
-        if self.room is None:
+        if self.wide > MOST_TOGETHER:
+            left = self.write_long(sheet)
+            wide = int(self.lengths[left].max()) if len(left) else 0
+            if not wide:
+                return
+        elif self.room is None:
             sheet.put(self.at, self.wide, self.items(self.wide, EVERY))
             return
-        wide, left = self.wide, numpy.arange(len(self.at))
+        else:
+            wide, left = self.wide, numpy.arange(len(self.at))
+        room = numpy.full(len(self.at), wide) if self.room is None else self.room
         while True:  # each time what has room for the longest of those that are left
-            fits = self.room[left] >= wide
+            fits = room[left] >= wide
             some, left = left[fits], left[~fits]
             if len(some):
                 sheet.put(self.at[some], wide, self.items(wide, some))
@@ -115,8 +104,17 @@ class Piece:
             if not wide:
                 return
 
+    def write_long(self, sheet: Sheet) -> Array:
+        """Writes those that are longer than what is written together, one by one, and answers which are left."""
+        lengths = numpy.full(len(self.at), self.wide) if self.lengths is None else self.lengths
+        is_long = lengths > MOST_TOGETHER
+        for place in numpy.flatnonzero(is_long).tolist():
+            at, start, size = int(self.at[place]), int(self.starts[place]), int(lengths[place])
+            sheet.octets[at:at + size] = self.source[start:start + size]
+        return numpy.flatnonzero(~is_long)
+
     def items(self, wide: int, some: Union[Array, slice]) -> Array:
-        return walk.wide_view(self.source, wide)[self.starts[some]]
+        return wide_view(self.source, wide)[self.starts[some]]
 
 
 class Fixed(Piece):
@@ -226,123 +224,74 @@ def padded(octets: Array, more: int) -> Array:
     return numpy.concatenate([octets, numpy.zeros(more, numpy.uint8)])
 
 
-# ---- entries
+# ---- entries in order
 
-class Block:
-    """Entries of one kind, from some packets: of each its count (its instant, once its packets' sessions are known), its channel by
-    its number in the forms, its place in the order, and what was lost before it.
+def in_order(block: Block) -> Block:
+    """The same entries by count, then channel, then place."""
+    channel = block.channel
+    if len(channel) and (channel == channel[0]).all() and (block.count[1:] >= block.count[:-1]).all():
+        return block
+    return block.keep(ranked(block.count, block.columns['number'], block.columns['order']))
 
-    Further columns are those of its kind.
-    """
 
-    count: Array
-    number: Array
-
-    def __init__(self, packets: List[tuple], number: Array, channels: List[int], losses: List[int]) -> None:
-        total = int(number.sum())
-        self.columns: Dict[str, Array] = {}
-        self.of = numpy.repeat(numpy.arange(len(packets)), number)
-        first = numpy.cumsum(number) - number
-        numbers = numpy.array([one[0] for one in packets], numpy.int64)
-        self.order = (numbers << 32)[self.of] + numpy.arange(total) - first[self.of]
-        self.channel = numpy.array(channels, numpy.int64)[self.of]
-        self.lost = numpy.zeros(total, numpy.int64)
-        for place, code in enumerate(losses):
-            if code and number[place]:
-                self.lost[first[place]] = code
-
-    def keep(self, held: Union[Array, slice]) -> 'Block':
-        """The entries that are held, as a block of their own."""
-        found = Block.__new__(Block)
-        found.__dict__.update({name: value[held] for name, value in self.__dict__.items() if name != 'columns'})
-        found.columns = {name: value[held] for name, value in self.columns.items()}
-        return found
-
-    def in_order(self) -> 'Block':
-        """The same entries by count, then channel, then place."""
-        is_one = len(self.channel) and (self.channel == self.channel[0]).all()
-        if is_one and (self.count[1:] >= self.count[:-1]).all():
-            return self
-        return self.keep(ranked(self.count, self.number, self.order))
-
-    def between(self, low: int, high: int) -> 'Block':
-        """Of entries in order those whose counts are low or more and below high."""
-        first, last = numpy.searchsorted(self.count, (low, min(high, LAST))).tolist()
-        return self if (first, last) == (0, len(self.count)) else self.keep(slice(first, last))
+def between(block: Block, low: int, high: int) -> Block:
+    """Of entries in order those whose counts are low or more and below high."""
+    first, last = numpy.searchsorted(block.count, (low, min(high, LAST))).tolist()
+    return block if (first, last) == (0, len(block)) else block.keep(slice(first, last))
 
 
 class Vector:
-    """Lines of a form, part by part."""
+    """Lines of a form, part by part, of those entries that lie in a range."""
 
-    def __init__(self, form: Meant, ordered: Ordered) -> None:
-        self.form, self.ordered = form, ordered
+    def __init__(self, form: Form, ordered: Ordered, within: Range) -> None:
+        self.form, self.ordered, self.within = form, ordered, within
         self.joints = {kind: [part.encode() for part in shape.split('%s')] for kind, shape in form.shapes.items()}
-        self.kinds = {kind.type: import_module('.' + kind.vector, __package__) for kind in KINDS if kind.vector}
         self.tables: Dict[tuple, Table] = {}
         self.decimals = Decimals()
         self.sheet = Sheet()
+        self.texts: Optional[List[Optional[str]]] = None  # the times of a block where the clock does not tell them plainly
         self.codes: Dict[int, int] = {0: 0}  # of how many were lost; and the other way
         self.losses: List[int] = [0]
-        self.numbers: Dict[int, int] = {}  # of channels; and the other way
-        self.channels: List[int] = []
-        self.sources: Dict[int, Any] = {}  # of each kind the bytes that its pieces are parts of
+        self.numbering: Numbering = form.numbering
         clock = ordered.survey.clock
         self.starts: Array = numpy.array(clock.starts if clock else [], numpy.int64)
         self.ahead: Array = numpy.array(clock.aheads if clock else [], numpy.int64)
 
-    def lines(self, part: Part) -> Optional[Iterator]:
-        """The lines of a part, some at a time, or None where the plain way is to make them."""
+    def lines(self, part: Part) -> Iterator:
+        """The lines of a part, some at a time."""
         groups: Dict[int, list] = {}
-        plain: List[tuple] = []
         for number, packet, lost, _ in self.ordered.packets(part):
-            if packet.kind in self.kinds and packet.word is not None:
-                if packet.kind in self.form.shapes:
-                    groups.setdefault(packet.kind, []).append((number, packet, lost))
-            else:
-                plain.append((number, packet, lost))
+            if packet.kind in self.form.shapes and packet.word is not None:
+                groups.setdefault(packet.kind, []).append((number, packet, lost))
         blocks: Dict[int, Block] = {}
-        for kind in list(groups):
-            while groups[kind]:
-                block, left = self.kinds[kind].entries(self, kind, groups[kind])
-                plain += left
-                if not left:
-                    bases = numpy.array([self.ordered.base(number) for number, _, _ in groups[kind]], numpy.int64)
-                    if bases.any() and len(block.count):
-                        block.count = block.count + bases[block.of]
-                    break
-                gone = {number for number, _, _ in left}
-                groups[kind] = [one for one in groups[kind] if one[0] not in gone]
-            if not groups[kind]:
-                continue
-            block = block.in_order().between(part.low, part.high)
-            if len(block.count):
+        for kind, packets in groups.items():
+            block = between(in_order(self.block(packets)), part.low, part.high)
+            if not self.within.is_all:
+                block = block.keep(numpy.fromiter(map(self.within.has, block.count.tolist()), bool, len(block)))
+            if len(block):
                 blocks[kind] = block
-        if not all(self.has_times(block) for block in blocks.values()):
-            return None
-        return self.written(blocks, self.plain_lines(plain, part))
-
-    def written(self, blocks: Dict[int, Block], plain: tuple) -> Iterator:
-        """The lines of some blocks and those that are made already, in their order, some at a time."""
-        counts = numpy.concatenate([block.count for block in blocks.values()] + [plain[0]])
+        if not blocks:
+            return
+        counts = numpy.concatenate([block.count for block in blocks.values()])
         if len(counts) <= TOGETHER:
-            yield self.page(blocks, plain)
+            yield self.page(blocks)
             return
         cuts = numpy.unique(numpy.partition(counts, range(TOGETHER, len(counts), TOGETHER))[TOGETHER::TOGETHER]).tolist()
         for low, high in zip([-1] + cuts, cuts + [LAST]):
-            some = {kind: block.between(low, high) for kind, block in blocks.items()}
-            held = numpy.flatnonzero((plain[0] >= low) & (plain[0] < high))
-            yield self.page({kind: block for kind, block in some.items() if len(block.count)},
-                            tuple(one[held] for one in plain[:3]) + ([plain[3][place] for place in held.tolist()],))
+            some = {kind: between(block, low, high) for kind, block in blocks.items()}
+            some = {kind: block for kind, block in some.items() if len(block)}
+            if some:
+                yield self.page(some)
 
-    def page(self, blocks: Dict[int, Block], plain: tuple) -> Array:
+    def page(self, blocks: Dict[int, Block]) -> Array:
         """The lines of some entries, as one array, which holds until the next one is made."""
-        made = [(block, self.front(block), self.kinds[kind].pieces(self, kind, block)) for kind, block in blocks.items()]
-        fronts = [sum_of(front, len(block.count)) for block, front, _ in made]
+        made = [(block, self.front(block), self.pieces(kind, block)) for kind, block in blocks.items()]
+        fronts = [sum_of(front, len(block)) for block, front, _ in made]
         lengths = [front + sum_of(pieces, len(front)) for (_, _, pieces), front in zip(made, fronts)]
-        lengths.append(numpy.array([len(line) for line in plain[3]], numpy.int64))
-        spill = min((int(some.min()) for some in fronts + lengths[-1:] if len(some)), default=0)
+        spill = min(int(some.min()) for some in fronts)
         counts, channels, order = (
-            numpy.concatenate(some) for some in zip(*[(block.count, block.number, block.order) for block, _, _ in made], plain[:3]))
+            numpy.concatenate(some)
+            for some in zip(*[(block.count, block.columns['number'], block.columns['order']) for block, _, _ in made]))
         ranks, lengths_of = ranked(counts, channels, order), numpy.concatenate(lengths)
         ends = numpy.empty(len(ranks), numpy.int64)
         ends[ranks] = numpy.cumsum(lengths_of[ranks])
@@ -364,50 +313,47 @@ class Vector:
                 at = piece.place(at, None)
                 piece.write(self.sheet)
         out = self.sheet.octets
-        for line, end in zip(plain[3], ends[place:].tolist()):
-            out[end - len(line):end] = numpy.frombuffer(line, numpy.uint8)
         return out[:size] if size >= HELD else out[:size].tobytes()
 
     # ---- what every line has
 
-    def plain_lines(self, plain: List[tuple], part: Part) -> tuple:
-        """The lines of some packets, made one by one: their counts, channels, places in the order, and the lines."""
-        form, clock, counts, channels, order, lines = self.form, self.ordered.survey.clock, [], [], [], []
-        for number, packet, lost in plain:
-            front, base = form.front(packet.channel), self.ordered.base(number)
-            for place, (count, tail) in enumerate(form.tails(packet, self.ordered.states.get(number))):
-                instant = count + base
-                if part.low <= instant < part.high:
-                    counts.append(instant)
-                    channels.append(packet.channel)
-                    order.append((number << 32) + place)
-                    lines.append((form.line(front, instant & COUNT_BITS, clock.text(instant) if clock else None, lost, tail)
-                                  + '\n').encode('utf-8', 'replace'))
-                lost = 0
-        return tuple(numpy.array(some, numpy.int64) for some in (counts, channels, order)) + (lines,)
+    def block(self, packets: List[tuple]) -> Block:
+        """The entries of some packets, with their instants in place of their counts: of each packet its number, itself, and what
+        was lost before it."""
+        some = [packet for _, packet, _ in packets]
+        states = self.ordered.states
+        before = [states.get(number) for number, _, _ in packets]
+        block, number = read(some, self.numbering, [NONE if state is None else state for state in before])
+        first = numpy.cumsum(number) - number
+        places = numpy.array([one[0] for one in packets], numpy.int64)
+        order = (places << 32)[block.of] + numpy.arange(len(block)) - first[block.of]
+        lost = numpy.zeros(len(block), numpy.int64)
+        for place, (_, _, gone) in enumerate(packets):
+            if gone and number[place]:
+                if gone not in self.codes:
+                    self.codes[gone] = len(self.losses)
+                    self.losses.append(gone)
+                lost[first[place]] = self.codes[gone]
+        channel = numpy.array([packet.channel for packet in some], numpy.int64)[block.of]
+        bases = numpy.array([self.ordered.base(number) for number, _, _ in packets], numpy.int64)
+        if bases.any():
+            block.count = block.count + bases[block.of]
+        block.columns.update(order=order, lost=lost, number=channel)
+        return block
 
-    def block(self, packets: List[tuple], number: Array) -> Block:
-        """Entries of some packets, so many of each."""
-        for _, packet, lost in packets:
-            if packet.channel not in self.numbers:
-                self.numbers[packet.channel] = len(self.channels)
-                self.channels.append(packet.channel)
-            if lost not in self.codes:
-                self.codes[lost] = len(self.losses)
-                self.losses.append(lost)
-        found = Block(packets, number, [self.numbers[packet.channel] for _, packet, _ in packets],
-                      [self.codes[lost] for _, _, lost in packets])
-        found.number = numpy.array([packet.channel for _, packet, _ in packets], numpy.int64)[found.of]
-        return found
-
-    def has_times(self, block: Block) -> bool:
-        """Gives each entry its civil time, where there is a clock. False where the calendar does not have one of them."""
+    def give_times(self, block: Block) -> None:
+        """Gives each entry its civil time, where the clock tells them plainly: the second, and the part of it in units of 100 ns;
+        and whether it has one."""
         clock = self.ordered.survey.clock
         if clock is None:
-            return True
+            block.columns['timed'] = numpy.zeros(len(block), bool)
+            return
         low, high = int(block.count.min()), int(block.count.max())
         if not clock.is_plain(low, high):
-            return False
+            self.texts = [clock.text(instant) for instant in block.count.tolist()]
+            block.columns['timed'] = numpy.array([text is not None for text in self.texts], bool)
+            return
+        self.texts = None
         first = max(int(numpy.searchsorted(self.starts, low, 'right')) - 1, 0)
         last = max(int(numpy.searchsorted(self.starts, high, 'right')) - 1, 0)
         if first == last:
@@ -417,14 +363,22 @@ class Vector:
                                                                                      'right') - 1, 0)]
         block.columns['second'] = told // SECOND
         block.columns['part'] = told - block.columns['second'] * SECOND
-        return int(told.min()) >= DAY and int(told.max()) < (LAST_DAY + 1) * DAY
+        block.columns['timed'] = (told >= DAY) & (told < (LAST_DAY + 1) * DAY)
+        if not block.columns['timed'].all():
+            self.texts = [clock.text(instant) for instant in block.count.tolist()]
 
     def front(self, block: Block) -> List[Piece]:
         """The pieces from a line's begin to its time."""
         form, clock = self.form, self.ordered.survey.clock
-        fronts = self.table(('front',), lambda key: form.front(self.channels[key]).encode('utf-8', 'replace')).pieces(block.channel)
+        self.give_times(block)
+        fronts = self.table(('front',), lambda key: form.front(self.numbering.channels[key]).encode('utf-8', 'replace')).pieces(
+            block.channel)
         count = block.count & COUNT_BITS
         least, most = len(str(int(count.min()))), len(str(int(count.max())))
+        if clock and self.texts is not None:
+            before = form.around(True)[0]
+            return [fronts, self.decimal(count, least, most),
+                    texts_piece([b'' if text is None else before + text.encode() for text in self.texts])]
         digits = self.decimals.right(count, -(-most // 4))
         columns, apart = [digits[:, digits.shape[1] - most:]], [fronts]
         if least == most and fronts.lengths is None:
@@ -455,12 +409,56 @@ class Vector:
             found = self.tables[name] = Table(make)
         return found
 
-    def lost(self, kind: int, block: Block, quote: bytes = b'') -> Piece:
+    # ---- what lines of a kind have
+
+    def pieces(self, kind: int, block: Block) -> List[Piece]:
+        """The pieces of lines from what was lost on.
+
+        What stands between two groups of columns is put to the texts of a table where one of the two is made of such, and else by
+        itself.
+        """
+        joints, quote, groups = self.joints[kind], self.form.quote, self.form.groups(kind, block)
+        glue, last, place = [], b'', 0
+        for group in groups:
+            own = quote if isinstance(group, QUOTED) else b''
+            glue.append(last + joints[place] + own)
+            last, place = own, place + group.number
+        glue.append(last + joints[place] + b'\n')
+        has_table = [True] + [isinstance(group, Coded) for group in groups] + [False]
+        fronts, behind, alone = ([b''] * (len(glue) + 1) for _ in range(3))
+        for at, text in enumerate(glue):
+            if has_table[at]:
+                behind[at] = text
+            elif has_table[at + 1]:
+                fronts[at + 1] = text
+            else:
+                alone[at] = text
+        found, place = [self.lost(kind, block, behind[0])], 0
+        for at, group in enumerate(groups, 1):
+            if isinstance(group, Coded):
+                found.append(self.coded(kind, group, place, fronts[at], behind[at]))
+            else:
+                found += MAKERS[type(group)](self, kind, group, place)
+            if alone[at]:
+                found.append(Always(alone[at]))
+            place += group.number
+        return found
+
+    def lost(self, kind: int, block: Block, behind: bytes) -> Piece:
         """What was lost before an entry, and what stands between that and the kind's first column."""
-        before, between, behind = self.form.around(self.ordered.survey.clock is not None)
-        between = between if self.ordered.survey.clock else before + between
-        return self.table(('lost', kind), lambda key: between + self.form.lost_text(self.losses[key]).encode() + behind
-                          + self.joints[kind][0] + quote).pieces(block.lost)
+        def text(key: int) -> bytes:
+            before, between_, front = self.form.around(key & 1 == 1)
+            return (b'' if key & 1 else before) + between_ + self.form.lost_text(self.losses[key >> 1]).encode() + front + behind
+
+        return self.table(('lost', kind), text).pieces(block.columns['lost'] << 1 | block.columns['timed'])
+
+    def coded(self, kind: int, group: Coded, place: int, front: bytes, behind: bytes) -> Piece:
+        """What numbers mean, with what stands before it and after it."""
+        def text(key: int) -> bytes:
+            values = group.make(key)
+            return front + self.cells(kind, place, values if group.number > 1 else (values,)) + behind
+
+        return self.table(('coded', kind, place), text).pieces(group.keys)
 
     def cells(self, kind: int, first: int, values: tuple) -> bytes:
         """The cells of some columns of a kind, with what stands between them."""
@@ -469,31 +467,100 @@ class Vector:
             said += self.joints[kind][place] + self.form.cell(kind, place, value).encode('utf-8', 'replace')
         return said
 
-    def walked(self, kind: int, packets: List[tuple], even_ends: bool) -> Tuple[bytes, Block]:
-        """The bodies of some packets put end to end, with zeros after the last, and their entries, which have their lengths in
-        them."""
-        bodies, starts, ends, at = [], [], [], 0
-        for _, packet, _ in packets:
-            body = packet.body
-            bodies.append(body)
-            starts.append(at + 4)
-            at += len(body)
-            ends.append(at)
-            if even_ends and at & 1:
-                bodies.append(b'\0')
-                at += 1
-        data = b''.join(bodies + [ROOM])
-        octets = numpy.frombuffer(data, numpy.uint8)
-        places, number, _ = walk.walk(octets, starts, ends, [walk.number_in(kind, packet.word) for _, packet, _ in packets], kind)
-        block = self.block(packets, number)
-        block.columns['place'] = places
-        block.count = walk.stamps(octets, places) if len(places) else places
-        return data, block
+    def numbers(self, kind: int, group: Number, place: int) -> List[Piece]:
+        low, high = int(group.array.min()), int(group.array.max())
+        if self.form.is_truth(kind, place) or low < 0:
+            return self.each(kind, Each(group.values()), place)
+        return [self.decimal(group.array, len(str(low)), len(str(high)))]
+
+    def decimal(self, values: Array, least: int, most: int) -> Piece:
+        """Numbers with so many digits at least and at most."""
+        digits = self.decimals.right(values, -(-most // 4))
+        rows = numpy.ascontiguousarray(digits[:, digits.shape[1] - most:])
+        if least == most:
+            return Fixed(rows)
+        fewer = most - 1 - numpy.searchsorted(10 ** numpy.arange(1, most, dtype=numpy.int64), values, 'right')
+        return Piece(padded(rows.reshape(-1), most), numpy.arange(0, most * len(rows), most) + fewer, most, most - fewer)
+
+    def hexed(self, kind: int, group: Hexed, place: int) -> List[Piece]:
+        return [Fixed(group.rows())]
+
+    def octets(self, kind: int, group: Octets, place: int) -> List[Piece]:
+        stretches = [(group.start, group.size)] + ([] if group.then is None else [(group.then, group.rest)])
+        return [Piece(group.source, start, int(size.max()), size) for start, size in stretches]
+
+    def each(self, kind: int, group: Each, place: int) -> List[Piece]:
+        if group.number == 1:
+            texts = [self.form.cell(kind, place, value).encode('utf-8', 'replace') for value in group.values()]
+        else:
+            texts = [self.cells(kind, place, values) for values in group.values()]
+        return [texts_piece(texts)]
+
+    def printed(self, kind: int, group: Printed, place: int) -> List[Piece]:
+        """Texts, with what has to be written otherwise written so, and in quotes where CSV wants them."""
+        data, starts, sizes = group.data, group.start, group.size
+        classes = group.batch.held('classes', lambda: numpy.frombuffer(data.translate(CLASSES), numpy.uint8))
+        ends = numpy.stack([starts, starts + sizes], 1).reshape(-1)
+        found = numpy.where(sizes > 0, numpy.bitwise_or.reduceat(classes, ends)[::2], 8)
+        prints = found & 8 == 0
+        is_json = bool(self.form.quote)
+        turned = numpy.flatnonzero(prints & (found & 5 != 0))
+        lengths, source = numpy.where(prints, sizes, 0), group.batch.octets
+        if len(turned):
+            escapes = JSON_ESCAPES if is_json else CSV_ESCAPES
+            texts = [data[start:start + size].decode('ascii').translate(escapes).encode('ascii')
+                     for start, size in zip(starts[turned].tolist(), sizes[turned].tolist())]
+            source = numpy.frombuffer(b''.join([data] + texts + [ROOM]), numpy.uint8)
+            sizes_of = numpy.array([len(text) for text in texts], numpy.int64)
+            starts = starts.copy()
+            starts[turned], lengths[turned] = len(data) + numpy.cumsum(sizes_of) - sizes_of, sizes_of
+        text = Piece(source, starts, int(lengths.max()), lengths)
+        wraps = prints & (found & 3 != 0)
+        if is_json or not wraps.any():
+            return [text]
+        quote = self.table(('quote',), lambda key: b'"' if key else b'').pieces
+        return [quote(wraps.astype(numpy.int64)), text, quote(wraps.astype(numpy.int64))]
+
+    def bits(self, kind: int, group: Bits, place: int) -> List[Piece]:
+        pairs = numpy.unpackbits(group.states.astype('>u4').view(numpy.uint8).reshape(-1, 4), axis=1) + 0x30
+        most = int(group.bits.max())
+        starts = numpy.arange(32, 32 * len(group.states) + 1, 32) - group.bits
+        return [Piece(padded(pairs.reshape(-1), 32), starts, most, None if int(group.bits.min()) == most else group.bits)]
+
+    def changed(self, kind: int, group: Changed, place: int) -> List[Piece]:
+        return [self.changes(quarter, group.differ, group.states) for quarter in range(4)
+                if (group.differ >> 8 * quarter & 0xFF).any()]
+
+    def changes(self, quarter: int, differ: Array, states: Array) -> Piece:
+        """What changed of eight discretes, after a space where one before these did."""
+
+        def text(key: int) -> bytes:
+            said = changed_bits((key >> 8 & 0xFF ^ key & 0xFF) << 8 * quarter, (key & 0xFF) << 8 * quarter, 32)
+            return (b' ' if key >> 16 and said else b'') + said.encode()
+
+        now = differ >> 8 * quarter & 0xFF
+        is_first = differ & ((1 << 8 * quarter) - 1) == 0
+        return self.table(('changed', quarter), text).pieces((now << 8 | states >> 8 * quarter & now) + ((1 << 16) * ~is_first))
 
 
-def hexes(words: Array) -> Piece:
-    """Words of 32 bits as eight hex digits."""
-    return Fixed(numpy.frombuffer(hexlify(words.astype('>u4').tobytes()), numpy.uint8).reshape(-1, 8))
+QUOTED = Hexed, Octets, Printed, Bits, Changed  # in quotes where a form has such
+MAKERS: Dict[type, Callable[..., List[Piece]]] = {
+    Number: Vector.numbers, Hexed: Vector.hexed, Octets: Vector.octets, Printed: Vector.printed, Bits: Vector.bits,
+    Changed: Vector.changed, Each: Vector.each}
+# Of each byte: 8 where it does not print, 4 where it is written as two, 1 for a quote, 2 for a comma.
+CLASSES = bytes(8 if not (0x20 <= value < 0x7F or value in (9, 10, 13)) else 4 if value in (9, 10, 13, 0x5C) else 1 if value == 0x22
+                else 2 if value == 0x2C else 0
+                for value in range(256))
+CSV_ESCAPES = {0x09: '\\t', 0x0D: '\\r', 0x0A: '\\n', 0x5C: '\\\\', 0x22: '""'}
+JSON_ESCAPES = {0x09: '\\\\t', 0x0D: '\\\\r', 0x0A: '\\\\n', 0x5C: '\\\\\\\\', 0x22: '\\"'}
+
+
+def texts_piece(texts: List[bytes]) -> Piece:
+    """A text for each line."""
+    lengths = numpy.array(list(map(len, texts)), numpy.int64)
+    most = int(lengths.max())
+    octets = numpy.frombuffer(b''.join(texts) + bytes(min(most, 2 * MOST_TOGETHER)), numpy.uint8)
+    return Piece(octets, numpy.cumsum(lengths) - lengths, most, lengths)
 
 
 def ranked(counts: Array, channels: Array, order: Array) -> Array:

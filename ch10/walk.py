@@ -1,136 +1,20 @@
-"""Where the entries of many packets stand, found by numpy for all these packets at once."""
+"""How many entries each packet has, and their lowest and highest count, found for all packets of some megabytes at once; and which
+of them have a right data checksum."""
 from __future__ import annotations
 
-from typing import Any, Callable, Dict, List, Optional, Sequence, Set, Tuple
+from typing import Dict, List, Set, Tuple
 
-from .bodies import counts
-from .kinds import by_type
-from .packets import FORMS, HEADER, Packet, front_of
-from .standard import COUNT_BITS, SYNC, WIDTHS, Data
+from .arrays import Array, numpy
+from .bodies import FIND, counts, found_in
+from .columns import Batch, second_of
+from .packets import FORMS, HEADER, Packet, front_of, is_of_another_clock
+from .standard import SYNC, WIDTHS, Data
 
-Array = Any  # of numpy
-numpy: Any = None  # until it is asked for: to start without it is quicker
-LEAST = 256 << 10  # bytes of a recording below which it is not worth its start
-FEW = 24  # packets below which one after the other is quicker
 AHEAD = 8 << 20  # bytes of a recording that are gone over at once
 
 
-def is_ready(size: int) -> bool:
-    """Whether numpy is there, and a recording of so many bytes is to be read by it."""
-    global numpy
-    if size < LEAST:
-        return False
-    if numpy is None:
-        try:
-            import numpy as found
-        except ImportError:
-            return False
-        numpy = found
-    return True
-
-
-# Of the types whose entries have their lengths in them: the bytes before an entry's own, where its length stands, and whether
-# entries begin at even places; and those bits of a body's word that say how many there are.
-SHAPES: Dict[int, Tuple[int, int, bool]] = by_type('SHAPE')
-NUMBERS: Dict[int, Optional[int]] = by_type('NUMBER')
-# Of some types whether a word selects a form whose entries are found packet by packet.
-ALONE: Dict[int, Callable[[int], bool]] = by_type('is_alone')
-# Of some other types what finds number, lowest and highest count of the entries of some packets, by their places. Of each packet it
-# has the place, those of the body and of its end, the word and the counter, and of the bytes the place that they begin at.
-AHEADS: Dict[int, Callable[[Array, int, List[tuple]], Dict[int, Tuple[int, int, int]]]] = by_type('ahead')
-
-
-def number_in(kind: int, word: int) -> Optional[int]:
-    """How many entries a packet's word says that it has. None where it says nothing of it."""
-    mask = NUMBERS[kind]
-    return None if mask is None else word & mask
-
-
-def walk(octets: Array, starts: Sequence[int], ends: Sequence[int], numbers: Sequence[Optional[int]],
-         kind: int) -> Tuple[Array, Array, Array]:
-    """The places of the entries of some packets, whose bodies stand in these bytes between starts and ends, a packet's after those
-    of the one before; how many each packet has; and which packets' entries do not fit their bodies."""
-    head, of_size, is_even = SHAPES[kind]
-    at, end = numpy.array(starts, numpy.int64), numpy.array(ends, numpy.int64)
-    most = None if numbers and numbers[0] is None else numpy.array(numbers, numpy.int64)
-    number, bad = numpy.zeros(len(at), numpy.int64), numpy.zeros(len(at), bool)
-    sizes = numpy.ndarray((max(len(octets) - of_size - 1, 0),), '<u2', octets, of_size, (1,)) if len(octets) > of_size + 1 else None
-    steps: List[tuple] = []
-    live = numpy.flatnonzero(at < end if most is None else most > 0)
-    here, last, left = at[live], end[live], None if most is None else most[live]
-    step = 0
-    while len(live) >= FEW and sizes is not None:
-        behind = here + sizes[numpy.minimum(here, len(sizes) - 1)]
-        behind += head
-        fits = behind <= last
-        if not fits.all():
-            wrong = live[~fits]
-            bad[wrong], number[wrong], at[wrong] = True, step, here[~fits]
-            live, here, last, behind = live[fits], here[fits], last[fits], behind[fits]
-            left = None if left is None else left[fits]
-        steps.append((live, here))
-        step += 1
-        here = behind + (behind - here & 1) if is_even else behind
-        more = here < last if left is None else left > step
-        if not more.all():
-            number[live[~more]] = step
-            live, here, last = live[more], here[more], last[more]
-            left = None if left is None else left[more]
-    number[live], at[live] = step, here
-    rest = [(int(place), *one_by_one(octets, int(at[place]), int(end[place]), None if most is None else int(most[place]) - step,
-                                     kind)) for place in live]
-    for place, found, is_bad in rest:
-        number[place] += len(found)
-        bad[place] |= is_bad
-    first = numpy.cumsum(number) - number
-    places = numpy.empty(int(number.sum()), numpy.int64)
-    for step, (live, here) in enumerate(steps):
-        places[first[live] + step] = here
-    for place, found, _ in rest:
-        places[first[place] + number[place] - len(found):first[place] + number[place]] = found
-    return places, number, bad
-
-
-def one_by_one(octets: Array, at: int, end: int, number: Optional[int], kind: int) -> Tuple[List[int], bool]:
-    """The places of the entries of one packet, and whether they do not fit."""
-    head, of_size, is_even = SHAPES[kind]
-    places: List[int] = []
-    data, begin = octets[at:end].tobytes(), at
-    while at < end if number is None else len(places) < number:
-        if at + head > end:
-            return places, True
-        size = data[at - begin + of_size] | data[at - begin + of_size + 1] << 8
-        if at + head + size > end:
-            return places, True
-        places.append(at)
-        at += head + size + (size & 1 if is_even else 0)
-    return places, False
-
-
-def wide_view(octets: Array, wide: int) -> Array:
-    """The bytes as items of so many bytes, one from each place on."""
-    return numpy.ndarray((max(len(octets) - wide + 1, 0),), 'V%d' % wide, octets, 0, (1,))
-
-
-def stamps(octets: Array, places: Array) -> Array:
-    """The counts of entries at these places."""
-    return wide_view(octets, 8)[places].view('<u8').astype(numpy.int64) & COUNT_BITS
-
-
-class Alone:
-    """How many entries each packet has, and their lowest and highest count, found packet by packet."""
-
-    def is_summed(self, at: int) -> bool:
-        """Whether the packet at a place has a data checksum that is known to be right."""
-        return False
-
-    def measure(self, packet: Packet, at: int) -> Tuple[int, int, int]:
-        found = counts(packet)
-        return (len(found), min(found), max(found)) if found else (0, 0, 0)
-
-
-class Ahead(Alone):
-    """The same, found for the packets of some megabytes at once. What is rare or at fault is left to the other way."""
+class Ahead:
+    """What is found ahead of the packet that is asked for. What is at fault is left, and found again by itself."""
 
     def __init__(self, data: Data, end: int) -> None:
         self.data, self.end, self.until = data, end, 0
@@ -138,12 +22,19 @@ class Ahead(Alone):
         self.summed: Set[int] = set()
 
     def is_summed(self, at: int) -> bool:
+        """Whether the packet at a place has a data checksum that is known to be right."""
         if at >= self.until:
             self.fill(at)
         return at in self.summed
 
     def measure(self, packet: Packet, at: int) -> Tuple[int, int, int]:
-        return self.known.get(at) or Alone.measure(self, packet, at)
+        """How many entries the packet at a place has, and their lowest and highest count. A Fault where it has less than it
+        says."""
+        known = self.known.get(at)
+        if known:
+            return known
+        found = counts(packet)
+        return (len(found), min(found), max(found)) if found else (0, 0, 0)
 
     def fill(self, begin: int) -> None:
         """Goes over the packets from a place on."""
@@ -157,18 +48,17 @@ class Ahead(Alone):
             front = front_of(flags)
             if flags & 3 and front + size + WIDTHS[flags & 3] <= length:
                 sums[flags & 3].append((at, at + front, at + length))
-            if not flags & 0x40 and size >= 4 and front + size <= length and (kind in SHAPES or kind in AHEADS):
+            if kind in FIND and size >= 4 and front + size <= length and not is_of_another_clock(flags):
                 word = int.from_bytes(data[at + front:at + front + 4], 'little')
-                if (kind not in FORMS or not FORMS[kind](word, size)) and (kind not in ALONE or not ALONE[kind](word)):
-                    kinds.setdefault(kind, []).append((at, at + front, at + front + size, word, low | high << 32))
+                if kind not in FORMS or not FORMS[kind](word, size):
+                    second = second_of(flags, data[at + 24:at + front]) if flags & 0x40 else None
+                    kinds.setdefault(kind, []).append((at, at + front - begin + 4, at + front + size - begin, word,
+                                                       low | high << 32, second))
             at += length
         self.known, self.until, self.summed = {}, max(at, begin + 24), set()
         octets = numpy.frombuffer(data, numpy.uint8, at - begin, begin)
         for kind, some in kinds.items():
-            if kind in AHEADS:
-                self.known.update(AHEADS[kind](octets, begin, some))
-            else:
-                self.entries(octets, begin, kind, some)
+            self.entries(kind, [one[0] for one in some], Batch(octets, *list(zip(*some))[1:]))
         for check, some in enumerate(sums):
             if some:
                 self.sums(octets, begin, WIDTHS[check], numpy.array(some, numpy.int64))
@@ -181,16 +71,15 @@ class Ahead(Alone):
         found[places[:, 0] == places[:, 1]] = 0  # which has no word
         self.summed.update(ends[found == words[places[:, 1]], 0].tolist())
 
-    def entries(self, octets: Array, begin: int, kind: int, some: List[tuple]) -> None:
-        places, number, bad = walk(octets, [body + 4 - begin for _, body, _, _, _ in some],
-                                   [behind - begin for _, _, behind, _, _ in some],
-                                   [number_in(kind, word) for _, _, _, word, _ in some], kind)
+    def entries(self, kind: int, at: List[int], batch: Batch) -> None:
+        """Takes note of the entries of some packets of a kind, which begin at these places."""
+        block, number, bad = found_in(kind, batch)
         has = numpy.flatnonzero((number > 0) & ~bad)
-        if not len(places) or not len(has):
+        if not len(has):
             return
-        found, first = stamps(octets, places), numpy.cumsum(number) - number
-        filled = numpy.flatnonzero(number)
+        first, filled = numpy.cumsum(number) - number, numpy.flatnonzero(number)
         lows, highs = numpy.zeros(len(number), numpy.int64), numpy.zeros(len(number), numpy.int64)
-        lows[filled], highs[filled] = numpy.minimum.reduceat(found, first[filled]), numpy.maximum.reduceat(found, first[filled])
+        lows[filled] = numpy.minimum.reduceat(block.count, first[filled])
+        highs[filled] = numpy.maximum.reduceat(block.count, first[filled])
         for place, much, low, high in zip(has.tolist(), number[has].tolist(), lows[has].tolist(), highs[has].tolist()):
-            self.known[some[place][0]] = much, low, high
+            self.known[at[place]] = much, low, high

@@ -27,6 +27,9 @@ sys.path[0] = os.path.dirname(os.path.dirname(os.path.realpath(__file__)))
 MINDS_INTERRUPTS = signal.getsignal(signal.SIGINT) is signal.default_int_handler
 if MINDS_INTERRUPTS:
     signal.signal(signal.SIGINT, signal.SIG_DFL)
+from ch10.python import with_numpy  # noqa: E402
+
+with_numpy()
 from ch10.command import main  # noqa: E402
 
 if MINDS_INTERRUPTS:

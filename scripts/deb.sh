@@ -94,7 +94,7 @@ Section: science
 Priority: optional
 Installed-Size: $(du -sk "$root/usr" | cut -f 1)
 Depends: $depends
-Recommends: python3 (>= 3.7)
+Recommends: python3 (>= 3.7), python3-numpy
 Description: flight recorder for IRIG 106 Chapter 10 files
  Records UART, MIL-STD-1553, ARINC 429, discrete and message channels into
  recording files, plays them back, and says the verdict on a recording.

@@ -12,7 +12,7 @@ set -u
 readonly SERVICE="librust-clap-dev librust-nix-dev librust-sd-notify-dev librust-serde-dev librust-serde-derive-dev \
 librust-serde-json-dev librust-signal-hook-dev librust-time-dev librust-toml-dev"
 readonly LINTERS="clang-format pyflakes3 shellcheck"
-readonly TRIALS="pkg-config postgresql valgrind zsh"
+readonly TRIALS="ffmpeg pkg-config postgresql python3-numpy tshark valgrind zsh"
 
 missing() {
     local it

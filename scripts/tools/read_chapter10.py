@@ -33,6 +33,9 @@ sys.dont_write_bytecode = True
 sys.path[0] = str(pathlib.Path(__file__).resolve().parents[2])
 sys.path.insert(1, str(pathlib.Path(__file__).resolve().parent))
 
+from ch10.python import with_numpy  # noqa: E402
+
+with_numpy()
 import as_filter  # noqa: E402
 from ch10.bodies import BODIES, entries, index_places  # noqa: E402
 from ch10.medium import bytes_of, directory  # noqa: E402

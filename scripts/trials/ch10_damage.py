@@ -24,6 +24,10 @@ sys.dont_write_bytecode = True
 TOP = pathlib.Path(__file__).resolve().parents[2]
 sys.path[1:1] = map(str, [TOP, *(TOP / 'scripts').iterdir()])  # modules of the other folders
 
+from ch10.python import with_numpy  # noqa: E402
+
+if __name__ == '__main__':
+    with_numpy()
 from ch10 import command  # noqa: E402
 from ch10.packets import packets  # noqa: E402
 from ch10.survey import Survey  # noqa: E402

@@ -13,7 +13,11 @@ import tempfile
 import xml.etree.ElementTree as tree
 from typing import Callable, Iterator, List, Tuple
 
-from ch10 import command, lines, script, vector, walk
+import ch10_types
+import plain_reader
+from ch10 import columns, command, entry_rows, lines, script, vector, walk
+from ch10.kinds import KINDS as KINDS_READ
+from ch10.packets import packets
 from ch10_recordings import SECOND, SETUP_TEXT, Maker, civil_body, flight, foreign
 from check_cases import letters, number
 from made_kinds import KINDS, NAMES, bus_message
@@ -295,11 +299,126 @@ def damaged(parts: List[bytes]) -> List[bytes]:
     return [part[:25] + bytes((part[25] ^ 1,)) + part[26:] if place % 10 == 5 else part for place, part in enumerate(parts)]
 
 
-def by_ways() -> Tuple[object, object]:
-    """By one process and by three, and by numpy where it is installed: the same bytes, and the same summary."""
+def read_plainly() -> Tuple[object, object]:
+    """Each entry as a plain reader reads it, which is of the trials alone: by csv and json, both with --raw too, and as the rows of
+    tables of many recordings."""
+    names = {(7, None): 'NAVIGATION', (8, 1): 'ADC LEFT', (8, 2): 'ADC RIGHT'}
+    wrong, total = [], 0
+    steady = [part for part in of_ways().parts if part[16:22] != number(10, 6)]  # whose counter does not begin anew
+    for which, parts in enumerate([flight(random.Random('plain'), 400), steady, ch10_types_parts()]):
+        data = b''.join(parts)
+        wanted = plain_reader.read(data, names)
+        total += len(wanted)
+        for each, together, few, ahead, jobs in WAYS[:1] + WAYS[2:3]:
+            with ways(each, together, few, ahead):
+                for raw in ([], ['--raw']):
+                    more = raw + ['--jobs', jobs]
+                    wrong += [(which, 'csv', raw, *pair)
+                              for pair in unlike(csv_rows(more, data), [csv_cells(one, bool(raw)) for one in wanted])]
+                    wrong += [(which, 'json', raw, *pair)
+                              for pair in unlike(json_rows(more, data), [json_cells(one, bool(raw)) for one in wanted])]
+        turned = [csv_cells(one, False) for one in plain_reader.read(data, names, True)]
+        wrong += [(which, 'turned', *pair) for pair in unlike(csv_rows(['--turned-labels'], data), turned)]
+        for kind, rows in table_rows(data).items():
+            wrong += [(which, kind, *pair) for pair in unlike(rows, [(one.count, one.channel, *one.own) for one in wanted
+                                                                     if one.kind == kind])]
+    return (total > 3000, wrong[:3]), (True, [])
+
+
+def unlike(found: list, wanted: list) -> list:
+    """The first two that are not the same, and how many there are of both."""
+    pairs = [pair for pair in zip(found, wanted) if pair[0] != pair[1]][:1]
+    return pairs + ([(len(found), len(wanted))] if len(found) != len(wanted) else [])
+
+
+def csv_rows(words: List[str], data: bytes) -> List[dict]:
+    rows = rows_of(['csv'] + words, data)
+    return [{name: cell for name, cell in row.items() if name not in ('name', 'time') and cell} for row in rows]
+
+
+def csv_cells(one: plain_reader.Found, is_raw: bool) -> dict:
+    cells = dict(one.raw if is_raw else one.meant, channel=one.channel, count=one.count, lost=one.lost, type=one.kind)
+    return {name: str(value) for name, value in cells.items() if value not in (None, '')}
+
+
+def json_rows(words: List[str], data: bytes) -> List[dict]:
+    rows = [json.loads(line) for line in run(['json'] + words, data)[1].splitlines()]
+    return [{name: value for name, value in row.items() if name not in ('name', 'time')} for row in rows]
+
+
+VALUES = {'1553': 'words', 'arinc': 'data', 'uart': 'bytes', 'message': 'bytes', 'discrete': 'states', 'time': 'civil'}
+
+
+def json_cells(one: plain_reader.Found, is_raw: bool) -> dict:
+    cells = dict(one.raw if is_raw else one.meant)
+    if is_raw and 'value' in cells:
+        cells[VALUES[one.kind]] = cells.pop('value')
+    for truth in ('high', 'data_error', 'format') + (('parity',) if is_raw else ()):
+        if truth in cells:
+            cells[truth] = cells[truth] == 1
+    return dict(cells, channel=one.channel, count=one.count, lost=int(one.lost) if one.lost != '1+' else one.lost, type=one.kind)
+
+
+class OneSession:
+    """What is known of a recording whose counter never begins anew."""
+
+    @staticmethod
+    def base(_offset: int) -> int:
+        return 0
+
+    session = base
+
+
+def table_rows(data: bytes) -> dict:
+    """The rows of a recording's tables, by kind: count, channel, and the table's own columns."""
+    found: dict = {}
+    keys = {(channel, kind.type) for channel in range(1 << 16) for kind in KINDS_READ}
+    for kind, some in entry_rows.Reader(1, keys, None, {}, OneSession).columns(packets(data), lambda counts: counts):
+        name = next(one.name for one in KINDS_READ if one.type == kind)
+        own = list(entry_rows.flat(some))
+        found.setdefault(name, []).extend((row[1], row[4], *row[5:]) for row in zip(*own))
+    return {name: sorted(rows, key=lambda row: row[:2]) for name, rows in found.items()}
+
+
+def ch10_types_parts() -> List[bytes]:
+    """Forms that this recorder does not write, with and without stamps, behind secondary headers, and at the top of their bits."""
+    draw, parts = random.Random('types'), ch10_types.opened(SETUP_TEXT)
+    for place in range(300):
+        count = 2000 + 50 * place
+        second = ch10_types.second_header(draw.randbytes(8)) if draw.random() < 0.4 else b''
+        which = draw.randrange(6)
+        if which == 0:
+            stamps = draw.random() < 0.5
+            body = number(stamps << 31, 4) + b''.join(
+                ch10_types.uart_entry(draw.choice((b'a,b', b'"', bytes(3), b'x' * draw.randrange(700))), draw.randrange(2),
+                                      draw.randrange(9), count + at if stamps else None) for at in range(draw.randrange(5)))
+            parts.append(ch10_types.packet(5, 0x50, count, body, place & 0xFF, draw.randrange(4), second))
+        elif which == 1:
+            body = ch10_types.discretes(draw.randrange(32), draw.randrange(2),
+                                        [(count + at, draw.getrandbits(32)) for at in range(draw.randrange(4))])
+            parts.append(ch10_types.packet(9, 0x29, count, body, place & 0xFF, draw.randrange(4), second))
+        elif which == 2:  # events with a data header of 8 bytes
+            body = number(1 << 31 | 2, 4) + b''.join(
+                number(count + at, 8) + draw.randbytes(8) + number(draw.getrandbits(28), 4) for at in range(2))
+            parts.append(ch10_types.packet(2, 0x02, count, body, place & 0xFF, draw.randrange(4), second))
+        elif which == 3:  # words of ARINC 429 of which the first has a time after the packet's counter too
+            body = number(3, 4) + b''.join(number(draw.getrandbits(32), 4) + number(draw.getrandbits(32), 4) for at in range(3))
+            parts.append(ch10_types.packet(8, 0x38, count, body, place & 0xFF, draw.randrange(4), second))
+        else:
+            channel, kind, body = draw.choice(ch10_types.STAMPED)
+            parts.append(ch10_types.packet(channel, kind, count, body, place & 0xFF, draw.randrange(4), second))
+    return parts
+
+
+def recordings_of_ways() -> List[List[bytes]]:
     extra = of_ways().parts
-    recordings = [flight(random.Random('ways'), 300) + extra, extra, 2 * flight(random.Random('twice'), 60),
-                  damaged(flight(random.Random('damaged'), 100))]
+    return [flight(random.Random('ways'), 300) + extra, extra, 2 * flight(random.Random('twice'), 60),
+            damaged(flight(random.Random('damaged'), 100))]
+
+
+def by_ways() -> Tuple[object, object]:
+    """By one process and by three, in parts and pages of any size: the same bytes, and the same summary."""
+    recordings = recordings_of_ways()
     wrong = []
     for which, parts in enumerate(recordings):
         data = b''.join(parts)
@@ -307,33 +426,30 @@ def by_ways() -> Tuple[object, object]:
                       ['csv', '--kind', 'arinc', '--turned-labels'], ['json', '--kind', '1553'],
                       ['csv', '--raw'], ['csv', '--keep-going'], ['summary', '--json']):
             wanted = None
-            for least, each, together, few, ahead, jobs in WAYS:
-                with ways(least, each, together, few, ahead):
+            for each, together, few, ahead, jobs in WAYS:
+                with ways(each, together, few, ahead):
                     said = run(words + (['--jobs', jobs] if words[0] != 'summary' else []), data)
                 wanted = wanted or said
                 if said != wanted:
-                    wrong.append((which, words, least, each, together, few, ahead, jobs))
+                    wrong.append((which, words, each, together, few, ahead, jobs))
     return (len(wanted[1]) > 0, wrong), (True, [])
 
 
-# From which size on numpy is used, bytes of a part, entries of a page, packets that are walked together, bytes looked ahead, and
-# processes.
-WAYS = ((1 << 40, 1 << 20, 40000, 24, 8 << 20, '1'), (1 << 40, 12000, 40000, 24, 8 << 20, '1'),
-        (1 << 40, 12000, 40000, 24, 8 << 20, '3'),
-        (0, 1 << 20, 40000, 24, 8 << 20, '1'), (0, 12000, 100, 2, 5000, '1'), (0, 12000, 7, 1000, 100, '3'),
-        (0, 1 << 20, 33, 1, 8 << 20, '2'))
+# Bytes of a part, entries of a page, packets that are walked together, bytes looked ahead, and processes.
+WAYS = ((1 << 20, 40000, 24, 8 << 20, '1'), (12000, 40000, 24, 8 << 20, '3'), (12000, 100, 2, 20000, '1'),
+        (12000, 40, 1000, 4000, '3'), (1 << 20, 33, 1, 8 << 20, '2'))
 
 
 @contextlib.contextmanager
-def ways(least: int, each: int, together: int, few: int, ahead: int) -> Iterator[None]:
+def ways(each: int, together: int, few: int, ahead: int) -> Iterator[None]:
     """Sets what decides how entries are read."""
-    kept = walk.LEAST, lines.EACH, vector.EACH, vector.TOGETHER, walk.FEW, walk.AHEAD
-    walk.LEAST, lines.EACH, vector.EACH, vector.TOGETHER, walk.FEW, walk.AHEAD = least, each, each, together, few, ahead
+    kept = lines.EACH, vector.TOGETHER, columns.FEW, walk.AHEAD
+    lines.EACH, vector.TOGETHER, columns.FEW, walk.AHEAD = each, together, few, ahead
     try:
         yield
     finally:
-        walk.LEAST, lines.EACH, vector.EACH, vector.TOGETHER, walk.FEW, walk.AHEAD = kept
+        lines.EACH, vector.TOGETHER, columns.FEW, walk.AHEAD = kept
 
 
 TRIALS: List[Callable] = [bus_1553, bus_429, stated_kinds, clocks, slow_rate, others, setup_tree, text_for_script,
-                          database, by_ways]
+                          database, read_plainly, by_ways]

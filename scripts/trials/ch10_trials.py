@@ -32,6 +32,9 @@ sys.dont_write_bytecode = True
 TOP = pathlib.Path(__file__).resolve().parents[2]
 sys.path[1:1] = map(str, [TOP, *(TOP / 'scripts').iterdir()])  # modules of the other folders
 
+from ch10.python import with_numpy  # noqa: E402
+
+with_numpy()
 from ch10 import command, inputs  # noqa: E402
 import ch10_damage  # noqa: E402
 import ch10_hostile  # noqa: E402

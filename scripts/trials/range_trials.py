@@ -42,6 +42,9 @@ sys.dont_write_bytecode = True
 TOP = pathlib.Path(__file__).resolve().parents[2]
 sys.path[1:1] = map(str, [TOP, *(TOP / 'scripts').iterdir()])  # modules of the other folders
 
+from ch10.python import with_numpy  # noqa: E402
+
+with_numpy()
 import play_cases  # noqa: E402
 import range_hostile  # noqa: E402
 from ch10 import catalogue, command, find, load  # noqa: E402
