@@ -366,9 +366,10 @@ make_meanwhile() {
 }
 
 # The run's last line and status are those of `rt ci`. A program that does not print what it is to is one more that failed, and so
-# are sessions of the program that do not end, or whose accounts do not add up.
+# are sessions of the program that do not end, or whose accounts do not add up. So is an edit of the gate that its clause does not
+# refuse: these are tried over the same libraries, beside the programs.
 behind_ci() {
-    local status last spare made service
+    local status last spare made service edits
     spare=$("$top/scripts/build/provers.py" --beside 3000000000)
     (cd "$top" && exec rt ci) | make_meanwhile | but_the_last "$room/last"
     status=${PIPESTATUS[0]}
@@ -379,6 +380,8 @@ behind_ci() {
         # the service is tried beside the programs
         R10=$top/crates/r10_cli/out/r10_cli "$top/scripts/recorder.sh" check >"$room/service" 2>&1 &
         service=$!
+        "$top/scripts/proofs/slips.py" --gate --lanes "${RT_JOBS:-1}" >"$room/edits" 2>&1 &
+        edits=$!
         case $made in
         0) (check) || status=1 ;;
         3) echo "ffi: NOT TRIED: rt ci left no libraries to make r10_ffi over" ;;
@@ -386,6 +389,8 @@ behind_ci() {
         esac
         wait "$service" || status=1
         cat "$room/service"
+        wait "$edits" || status=1
+        grep -v '^refused: \|^refused by \|^#' "$room/edits"
         installed || status=1
         "$top/scripts/trials/hammer.py" --gate || status=1
         "$top/scripts/trials/refuse_memory.py" || status=1

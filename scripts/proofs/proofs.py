@@ -20,14 +20,15 @@ import plain  # noqa: E402
 
 PAGE = TOP / "docs" / "PROOFS.md"
 LONGEST = 40
+EDIT = re.compile(r"^new:", re.MULTILINE)
 PUBLIC = re.compile(r"^\s*pub (?:const |extern \"C\" )?fn ", re.MULTILINE)
 
 HEAD = """# What each crate promises
 
 Made by `scripts/proofs/proofs.py` from `crates.txt` and the crates' `README.md`; the lowest crate is first. Each crate's
 `README.md` says what is proved by which contract, what is only tested and what is neither. *Functions* counts the public functions
-in the crate's `src`, laws among them and calls of traits not. *Edits* counts the files in its `must-fail`: wrong bodies that the
-gate has to refuse.
+in the crate's `src`, laws among them and calls of traits not. *Edits* counts its [edits of the gate](SLIPS.md#edits-of-the-gate):
+wrong bodies that the gate has to refuse.
 
 | Crate | Promise | Functions | Edits |
 |---|---|---|---|
@@ -70,7 +71,8 @@ def line_of(name):
     """The crate's line of the page."""
     crate = TOP / "crates" / name
     functions = sum(len(PUBLIC.findall(path.read_text(encoding="utf-8"))) for path in (crate / "src").rglob("*.rt"))
-    edits = len(list((crate / "must-fail").glob("*.edit")))
+    edits = sum(len(EDIT.findall(it.read_text(encoding="utf-8"))) for folder in ("must-fail", "guards")
+                for it in (crate / folder).glob("*.edit"))
     return f"| [`{name}`](../crates/{name}/README.md) | {promise_of(name)} | {functions} | {edits} |\n"
 
 

@@ -90,6 +90,9 @@ class Change:
     more: tuple = ()
     # (which one it is, where the same change can be made in several places of a function)
     place: str = ''
+    # (of an edit of the gate: what is wrong, and the function and the clause that have to refuse it)
+    says: str = ''
+    by: str = ''
 
     def function(self, functions: Iterable[Function]) -> Optional[Function]:
         """The function in whose body it stands, if it stands in one."""
@@ -110,6 +113,8 @@ class Verdict:
     goal: str = ''
     function: str = ''
     seconds: float = 0
+    # (all goals of its function that fail with it)
+    goals: frozenset = frozenset()
 
 
 def blanked(text: str) -> str:
@@ -422,6 +427,14 @@ def git(*words: str) -> str:
     return subprocess.run(['git', '-C', str(TOP), *words], check=True, stdout=subprocess.PIPE).stdout.decode().strip()
 
 
+def kit() -> str:
+    """What the toolchain calls itself, as part of a file's name."""
+    rt = shutil.which('rt')
+    path = Path(os.path.realpath(rt)).parent.parent / 'KIT-ID' if rt else None
+    said = path.read_text(encoding='utf-8') if path and path.is_file() else 'unknown'
+    return re.sub(r'\W+', '-', said.strip())[:60]
+
+
 @dataclass
 class Outcome:
     """What a check said, by the function that it said it of."""
@@ -431,6 +444,9 @@ class Outcome:
     goals: dict = field(default_factory=dict)
     others: list = field(default_factory=list)
     broken: list = field(default_factory=list)
+    # (where the errors of a function's proof stand, and which goals the source is told to lack)
+    answers: dict = field(default_factory=dict)
+    lacks: list = field(default_factory=list)
 
 
 def outcome(status: int, said: str) -> Outcome:
@@ -440,19 +456,36 @@ def outcome(status: int, said: str) -> Outcome:
     made.limited = status in (3, 124, -9)
     made.read = status == 0 or any(it.startswith(('logic=not-proved', 'only=')) for it in lines) or made.limited
     for line in lines:
-        of_proof = re.match(r'(?:note: )?(?:\./)?proofs/(.*)/\w+\.antt:\d+:\d+: error(.*)', line)
+        of_proof = re.match(r'(?:note: )?(?:\./)?(proofs/(.*)/\w+\.antt):(\d+):\d+: error(.*)', line)
+        lack = re.match(r'(?:note: )?(?:\./)?(src/\S+\.rt):(\d+):\d+: it is not proved .*\(`([\w-]+)`\)', line)
         of_source = re.match(r'(?:note: )?(?:\./)?(src/\S+\.rt):(\d+):\d+: error(.*)', line)
         # (of a function whose proof has no file for that goal)
         of_search = re.match(r'fn \w+::(\S+): no proof.*?`search` did not prove (`.*)', line)
         if of_search:
             made.goals.setdefault(of_search[1].replace('::', '/'), []).append(of_search[2])
         elif of_proof:
-            made.goals.setdefault(of_proof[1], []).append(of_proof[2])
+            made.goals.setdefault(of_proof[2], []).append(of_proof[4])
+            if not ONLY_NAMES.search(of_proof[4]):
+                made.answers.setdefault(of_proof[2], []).append((of_proof[1], int(of_proof[3])))
+        elif lack:
+            made.lacks.append((lack[1], int(lack[2]), lack[3]))
         elif of_source:
             made.broken.append((of_source[1], int(of_source[2]), of_source[3]))
         elif re.match(r'(?:note: )?(?:\./)?proofs/\w+\.antt:\d+:\d+: error', line):
             made.others.append(line)
     return made
+
+
+def named_at(text: str, line: int) -> str:
+    """The name of the answer in which a line of a proof file stands."""
+    found = [it[1] for it in re.finditer(r'(?m)^(?:pub )?(?!use\b|mod\b)([^\W\d][\w-]*)', '\n'.join(text.split('\n')[:line]))]
+    return found[-1] if found else ''
+
+
+def is_by(goals: Iterable[str], clause: str, alone: bool) -> bool:
+    """Whether one of these goals is that of a clause. Of the only clause of a function the goals have no name in them."""
+    of_clause = re.compile(rf'(?:^|-)clause-{re.escape(clause)}(?:-|$)')
+    return any(of_clause.search(it) or alone and it.split('-')[0] == 'returns' for it in goals)
 
 
 def goal_of(said: list[str]) -> tuple[str, str]:
@@ -528,20 +561,34 @@ class Trial:
         found = [Change(change.crate, file, at, '', '', '').function(self.functions) for file, at in places]
         return sorted({it.said() for it in found if it}) if all(found) else []
 
-    def found(self, change: Change, came: str, goal: str = '') -> None:
+    def found(self, change: Change, came: str, goal: str = '', goals: Iterable[str] = ()) -> None:
         it = change.function(self.functions)
-        self.say(Verdict(change, came, goal, it.path() if it else '', self.spent.get(change.key(), 0)))
+        self.say(Verdict(change, came, goal, it.path() if it else '', self.spent.get(change.key(), 0), frozenset(goals)))
 
-    def at_line(self, made: Outcome) -> dict[str, list[str]]:
-        """The errors that stand in the source as it is in the lane, by the path of the function that they stand in."""
-        grown = {}
-        for file, line, said in made.broken:
+    def by_function(self, lines: Iterable[tuple[str, int, str]]) -> dict[str, list[str]]:
+        """What is said of lines of the source as it is in the lane, by the path of the function that they stand in."""
+        grown: dict[str, list[str]] = {}
+        for file, line, said in lines:
             text = self.lane.folder.joinpath('crates', self.crate, file).read_text(encoding='utf-8')
-            at = sum(len(it) for it in text.splitlines(True)[:line - 1])
+            at = sum(len(it) for it in text.splitlines(True)[:line - 1]) + len(text.splitlines(True)[line - 1].rstrip()) - 1
             for it in functions_of(file, text, self.homes):
                 if it.start <= at < it.end:
                     grown.setdefault(it.path(), []).append(said)
         return grown
+
+    def at_line(self, made: Outcome) -> dict[str, list[str]]:
+        """The errors that stand in the source, by the path of the function that they stand in."""
+        return self.by_function(made.broken)
+
+    def goals_of(self, made: Outcome, path: str) -> frozenset[str]:
+        """The goals of a function that fail: those that errors name, those that the errors stand in the answers of, and those that
+        the source is told to lack. What only names something that is gone says nothing of a goal."""
+        named = {it[1] for said in made.goals.get(path, []) if not ONLY_NAMES.search(said)
+                 for it in [re.search(r'`([\w-]+)`', said)] if it}
+        for file, line in made.answers.get(path, []):
+            place = self.lane.folder / 'crates' / self.crate / file
+            named.add(named_at(place.read_text(encoding='utf-8'), line) if place.is_file() else '')
+        return frozenset(named.union(self.by_function(made.lacks).get(path, [])) - {''})
 
     def round(self, group: list[Change]) -> list[Change]:
         """Tries changes of different functions at once, and returns those that are to be tried alone."""
@@ -568,7 +615,7 @@ class Trial:
             errors = made.goals.get(path, []) + in_source.get(path, [])
             # (what rests on another function that is changed here says nothing of this change)
             if errors and (len(group) == 1 or not all(RESTS.search(it) for it in errors)):
-                self.found(change, *goal_of(errors))
+                self.found(change, *goal_of(errors), self.goals_of(made, path))
             else:
                 again.append(change)
         return again if len(group) > 1 or not made.proved else self.passed(again)
@@ -592,7 +639,8 @@ class Trial:
         elif not made.read:
             self.found(change, BAD, next((it for it in said.split('\n') if 'error' in it), said.strip())[:120])
         elif errors:
-            self.found(change, *goal_of(errors))
+            it = change.function(self.functions)
+            self.found(change, *goal_of(errors), self.goals_of(made, it.path()) if it else ())
         elif made.limited:
             self.found(change, LIMIT)
         else:
@@ -622,6 +670,12 @@ class Options:
     only_new: bool = False
     yields: bool = False
     together: bool = False
+    # (begins no check after so many seconds of a processor; 0: as many as it takes)
+    most: float = 0
+    # (which verdicts are kept, and what is noted of them)
+    keeps: Callable = lambda verdict: True
+    notes: Optional[Callable] = None
+    says: Optional[Callable] = None
 
 
 def add_options(words) -> None:
@@ -674,16 +728,18 @@ def run(changes: list[Change], how: Options, results: Results) -> list[Verdict]:
     lock = threading.Lock()
 
     def is_over() -> bool:
-        return bool(how.minutes) and time.time() > began + 60 * how.minutes
+        spent = sum(it.seconds for it in verdicts)
+        return bool(how.minutes) and time.time() > began + 60 * how.minutes or bool(how.most) and spent > how.most
 
     def say(verdict: Verdict) -> None:
         it = verdict.change
         date = datetime.datetime.now(datetime.timezone.utc).strftime('%Y-%m-%dT%H:%M')
-        results.put(Line(it.crate, it.kind, it.key(), sums[it.crate].own, sums[it.crate].below, WORDS[verdict.came],
-                         round(verdict.seconds), commit, date, note_of(verdict)))
+        if how.keeps(verdict):
+            results.put(Line(it.crate, it.kind, it.key(), sums[it.crate].own, sums[it.crate].below, WORDS[verdict.came],
+                             round(verdict.seconds), commit, date, (how.notes or note_of)(verdict)))
         with lock:
             verdicts.append(verdict)
-            print(line_of(verdict), flush=True)
+            print((how.says or line_of)(verdict), flush=True)
 
     def work_in(number: int) -> None:
         lane = Lane(how.work / f'lane{number}', how.yields)
@@ -790,6 +846,13 @@ def table(changes: list[Change], lines: dict[str, Line], why: dict[str, str]) ->
     return re.sub(r'(?<=\|) +(?=\|)', ' ', '\n'.join(made))
 
 
+def stale(changes: Iterable[Change], lines: dict[str, Line]) -> list[str]:
+    """The sums of the changes whose crate is another now than when they were tried, and of those that were never tried."""
+    graph = crates()
+    sums = {name: Sums.of(name, graph) for name in {it.crate for it in changes}}
+    return sorted(it.key() for it in changes if it.key() not in lines or lines[it.key()].own != sums[it.crate].own)
+
+
 def place_of(section: Section, page: str) -> tuple[int, int]:
     """Where what a script writes begins and ends: from a line with `Made by` after the heading to the next heading."""
     found = re.search(rf'^## {re.escape(section.heading)}\n(?:.*\n)*?(?=Made by )', page, re.M)
@@ -801,7 +864,19 @@ def place_of(section: Section, page: str) -> tuple[int, int]:
 
 def text_of(section: Section, changes: list[Change], results: Results, page: str) -> str:
     """What stands in the section."""
-    return f'Made by `{section.by} --table`.\n\n{table(changes, results.lines, explained(page))}\n'
+    why = explained(page)
+    return (f'Made by `{section.by} --table`.\n\n{by_goals(results.lines.values(), why)}\n\n'
+            f'{table(changes, results.lines, why)}\n')
+
+
+def by_goals(lines: Iterable[Line], why: dict[str, str]) -> str:
+    """How many of the bodies that compile, and are no equal ones, a goal of a contract refuses. Names alone refuse none."""
+    lines = list(lines)
+    real = [it for it in lines if it.word != 'unread' and not (it.word == 'passed' and why.get(it.key, '').startswith(EQUAL))]
+    refused = sum(it.word == 'refused' for it in real)
+    share = f', {100 * refused / len(real):.1f} in a hundred' if real else ''
+    return (f'{refused} of {len(real)} are refused by a goal{share}. What does not compile and what is an equal body is left out. '
+            'What names alone refuse counts as not refused.')
 
 
 def write_page(section: Section, changes: list[Change], results: Results) -> None:

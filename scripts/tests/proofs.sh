@@ -11,7 +11,9 @@ for crate in low mid top; do
     printf '# r10_%s\n\nPromises\n%s.\n\n## Where to begin\n\nHere.\n' "$crate" "$crate" >"$room/crates/r10_$crate/README.md"
 done
 printf 'pub fn one() {}\n\n    pub const fn two() {}\n\nfn three() {}\n' >"$room/crates/r10_mid/src/lib.rt"
-touch "$room/crates/r10_mid/must-fail/a.edit"
+mkdir "$room/crates/r10_mid/guards"
+printf 'file: a\nold: b\nnew: c\n' >"$room/crates/r10_mid/must-fail/a.edit"
+printf 'file: a\nold: b\nnew: c\nold: new: d\nnew:\n' >"$room/crates/r10_mid/guards/b.edit"
 says() {
     said=$("$room/scripts/proofs/proofs.py" --check 2>&1)
     status=$?
@@ -27,7 +29,7 @@ check "neighbours, without what follows from others" is "$(grep -h '^Right below
 Right below: `r10_low`. Right above: `r10_top`.
 Right below: `r10_mid`. Right above: no crate of r10.'
 check "a line for each crate" is \
-    "$(grep 'r10_mid' "$room/docs/PROOFS.md")" '| [`r10_mid`](../crates/r10_mid/README.md) | Promises mid. | 2 | 1 |'
+    "$(grep 'r10_mid' "$room/docs/PROOFS.md")" '| [`r10_mid`](../crates/r10_mid/README.md) | Promises mid. | 2 | 3 |'
 "$room/scripts/proofs/proofs.py"
 check "written twice it is the same" says 0 ""
 sed -i 's/^mid\./more./' "$room/crates/r10_mid/README.md"

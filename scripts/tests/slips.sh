@@ -16,6 +16,11 @@ awk -v words="$*" '
     BEGIN { all = split(words, word, " "); for (i = 1; i < all; i++) if (word[i] == "--only") { asked[word[i + 1]] = 1; n++ } }
     /^pub fn / { name = $3; sub(/\(.*/, "", name) }
     /broken/ { print "src/lib.rt:" NR ":5: error: this is no body"; unread = 1 }
+    /false_/ && (!n || name in asked) { it = $0; sub(/.*false_/, "", it); sub(/[^a-z].*/, "", it)
+        print "proofs/" name "/Answers.antt:3:1: error: no proof of `returns-in-Ok-clause-" it "`"; bad++ }
+    /untrue_/ && (!n || name in asked) { it = $0; sub(/.*untrue_/, "", it); sub(/[^a-z].*/, "", it)
+        print "proofs/" name "/Answers.antt:3:1: error: `x` is not in scope"
+        print "note: src/lib.rt:" NR ":5: it is not proved that the function keeps its word (`returns-clause-" it "`)"; bad++ }
     /wrong/ && (!n || name in asked) { print "proofs/" name "/Answers.antt:3:1: error: no proof of `ensures-it`"; bad++ }
     /renamed/ && (!n || name in asked) { print "proofs/" name "/Answers.antt:3:1: error: `x` is not in scope"; bad++ }
     /nowhere/ { print "this is no body"; unread = 1 }
@@ -24,7 +29,7 @@ RT
 printf 'def crates_below(top):\n    return []\n\n\nclass Crate:\n    def stamp(self):\n        return ""\n' >"$room/kit/rtlib.py"
 chmod +x "$room/kit/rt"
 
-mkdir -p "$tree/docs" "$low/src" "$low/specs" "$high/src" "$high/slips" "$high/must-fail"
+mkdir -p "$tree/docs" "$low/src" "$low/specs" "$high/src" "$high/slips" "$high/must-fail" "$high/guards"
 take_scripts "$tree" proofs/{slips,mutants,wrong_bodies}.py build/{rt_once,share_libraries}.py
 sed '/^Made by/,/^## /{/^|/d}; s/^| `[0-9a-f]\{8\}`.*//' "$top/docs/SLIPS.md" >"$tree/docs/SLIPS.md"
 printf 'r10_low:\nr10_high: r10_low\n' >"$tree/crates.txt"
@@ -34,12 +39,13 @@ for name in one two three four five; do
     printf '/// It is %s.\npub fn %s(a: u32) -> u32\n    ensures it {\n        result ≡ a }\n{\n    a + 1 < %s\n}\n\n' \
         "$name" "$name" "$name"
 done >"$high/src/lib.rt"
-printf 'file: src/lib.rt\nold: < one\nnew: wrong\nold: < two\nnew: renamed\nold: < three\nnew: broken\n' >"$high/must-fail/a.edit"
+printf 'file: src/lib.rt\nold: < one\nnew: wrong\nold: < two\nnew: renamed\nold: < three\nnew: broken\n' >"$high/slips/a.edit"
 printf 'file: src/lib.rt\nold: < four\nnew: < four + 0\nold: < five\nnew: wrong five\nold: wrong five\nnew: < five\n' \
     >"$high/slips/b.edit"
 commit() { git -C "$tree" add -A && git -C "$tree" commit -qm "$1"; }
 git init -q "$tree"
 touch "$tree/scripts/proofs/slips.txt" "$tree/scripts/proofs/mutants.txt"
+echo 0 >"$tree/scripts/proofs/slips_stale.txt"
 commit first
 
 slips() {
@@ -108,12 +114,24 @@ printf 'file: src/lib.rt\nold: < one\nnew: wrong one\n' >>"$high/slips/b.edit"
 commit more
 slips --table
 check "the crate is another, and there is a slip more" is "$(column 3) $(column 10) $(column 11) $(column 12)" "7 1 6 "
+slips --check
+check "no more slips may be stale than a file says" ends 1 \
+    "7 slips of r10_high were tried over other sources, or never; scripts/proofs/slips_stale.txt allows 0:"
+echo 7 >"$tree/scripts/proofs/slips_stale.txt"
+slips --check
+check "with that number it passes" ends 0 ""
+slips --gate
+check "the gate tries stale slips, and fails where one is let through" ends 1 "of 7 stale slips 4 are refused over these sources"
+check "and keeps no verdict of them in the tree" is "$(git -C "$tree" status --porcelain scripts/proofs/slips.txt)" ""
 slips --new
 check "only the new one is tried" ends 0 "1 tried, 0 left"
 slips
 check "the stale ones are tried again" ends 1 "6 tried, 0 left"
 slips --table
 check "nothing is stale" is "$(column 10) $(column 11) $(column 12)" "  "
+check "and the file says so, as nobody raises its number" is "$(cat "$tree/scripts/proofs/slips_stale.txt")" 0
+slips --check
+check "the table of what the gate tries is as it is written" ends 0 ""
 
 line=$(grep -m 1 ' refused ' "$tree/scripts/proofs/slips.txt")
 sed 's/ refused / limit /; s/ 20[0-9]*-/ 2099-/' <<<"$line" >>"$tree/scripts/proofs/slips.txt"
@@ -139,6 +157,53 @@ slips --check
 check "what is no line" ends 1 "this is no line of results: r10_high a b"
 git -C "$tree" checkout -q scripts/proofs/slips.txt
 
+# An edit of the gate: what has to refuse it, what is put into the body of `seven`, and the text that it is put in the place of.
+guard() {
+    git -C "$tree" checkout -q scripts
+    printf 'says: It is wrong.\nrefused: %s\nfile: src/lib.rt\n%sold: %s\nnew: %s\n' "$1" "${4:+in: $4
+}" "${3:-< seven}" "$2" >"$high/guards/g.edit"
+    commit guard
+    slips --gate
+}
+mkdir "$room/away" && mv "$high"/slips/* "$room/away"
+printf '%s\n' 'pub fn seven(a: u32) -> u32' '    ensures it { result ≡ a }' '    ensures other { result ≡ result }' '{' \
+    '    a + 1 < seven' '}' '' >>"$high/src/lib.rt"
+guard 'seven it' '< false_it'
+check "an edit of the gate is refused by its clause" ends 0 \
+    "refused: r10_high seven, clause it: It is wrong. (returns-in-Ok-clause-it)"
+check "the gate counts them" ends 0 "1 edits of the gate are refused by the clause that each names, 0 are not"
+slips --gate
+check "what was refused so is kept" is "$(grep -c seven "$room/kit/calls")" 0
+guard 'seven other' '< false_it'
+check "an edit that another clause refuses fails" ends 1 \
+    "NOT REFUSED by its clause: r10_high seven, clause other: It is wrong.: refused by returns-in-Ok-clause-it"
+guard 'seven it' '< untrue_it'
+check "an edit that names alone refuse fails" ends 1 "clause it: It is wrong.: refused by names by returns-clause-it"
+guard 'seven it' '< seven + 0'
+check "an edit that is let through fails" ends 1 "clause it: It is wrong.: LET THROUGH"
+guard 'seven it' '< broken'
+check "an edit that does not compile fails" ends 1 "clause it: It is wrong.: does not compile"
+guard 'eight it' '< false_it'
+check "it stands in the function that it names" ends 1 'it stands in seven, and says "refused: eight it"'
+guard 'seven them' '< false_it'
+check "and names a clause of it" ends 1 "seven has no clause them: it has it, other"
+guard 'seven' '< false_it'
+check "or it fails" ends 1 "seven has no clause : it has it, other"
+guard 'one it' 'a + 1 < wrong one' 'a + 1 < one'
+check "of the only clause of a function a goal may have any name" ends 1 "refused by ensures-it"
+guard 'one it' 'false_it' '{'
+check "a text has to stand once" ends 1 "this does not stand once in src/lib.rt: {"
+guard 'seven it' 'false_it' '1 <' seven
+check "or once in the function that a line names" ends 0 "1 edits of the gate are refused"
+slips --check
+check "the page lists what the gate tries" ends 1 \
+    'docs/SLIPS.md, "Edits of the gate", is not what scripts/proofs/slips.py --table writes'
+slips --table
+check "a line for each" is "$(grep -c '^| `r10_high` | `seven` | `it` | It is wrong |' "$tree/docs/SLIPS.md")" 1
+git -C "$tree" checkout -q scripts docs
+mkdir -p "$high/slips" && mv "$room/away"/* "$high/slips"
+rm "$high/guards/g.edit" && sed -i '/^pub fn seven/,$d' "$high/src/lib.rt" && commit back
+
 mutants() {
     : >"$room/kit/calls"
     said=$("$tree/scripts/proofs/mutants.py" --lanes 1 --count 8 "$@" 2>&1)
@@ -149,7 +214,7 @@ mutants --list
 check "mutants are drawn" ends 0 " mutants"
 drawn=$said
 sed -i 's/< two/< two - 1/' "$high/src/lib.rt" && commit two
-sed -i 's/old: < two/old: < two - 1/' "$high/must-fail/a.edit" && commit edit
+sed -i 's/old: < two/old: < two - 1/' "$high/slips/a.edit" && commit edit
 mutants --list
 check "a change leaves those of other functions as they are" is \
     "$(grep -v ' two:\|mutants' <<<"$drawn")" "$(grep -v ' two:\|mutants' <<<"$said")"
