@@ -380,7 +380,7 @@ behind_ci() {
         # the service is tried beside the programs
         R10=$top/crates/r10_cli/out/r10_cli "$top/scripts/recorder.sh" check >"$room/service" 2>&1 &
         service=$!
-        "$top/scripts/proofs/slips.py" --gate --lanes "${RT_JOBS:-1}" >"$room/edits" 2>&1 &
+        "$top/scripts/proofs/slips.py" --gate --behind-ci --lanes "${RT_JOBS:-1}" >"$room/edits" 2>&1 &
         edits=$!
         case $made in
         0) (check) || status=1 ;;

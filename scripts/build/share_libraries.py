@@ -1,10 +1,13 @@
 #!/usr/bin/env python3
-"""share_libraries.py TOP SOURCE: gives the checkout TOP the libraries that stand built in the checkout SOURCE, also those of a
-gate's run that goes on there.
+"""share_libraries.py TOP SOURCE [--behind-ci]: gives the checkout TOP the libraries that stand built in the checkout SOURCE, also
+those of a gate's run that goes on there.
 
 A library is given where it was built of SOURCE's files as they stand, where all files of its crate and of those below are the same,
 and those below are the very same libraries, half a minute after it was written. It gets a stamp, so that `rt check` and `rt lib`
 take it as built. It proves nothing: no verdict of `rt ci` rests on it. Prints how many were given.
+
+With --behind-ci, right after `rt ci` in SOURCE, all that it left is taken as it stands, however old or new its files are: what an
+earlier run kept has the dates of that run.
 """
 import importlib.machinery
 import importlib.util
@@ -36,7 +39,8 @@ def link(one, other):
 
 
 def main():
-    if len(sys.argv) != 3:
+    behind_ci = sys.argv[3:] == ["--behind-ci"]
+    if len(sys.argv) != 3 and not behind_ci:
         sys.exit(__doc__.strip())
     rtlib = tool()
     made, seen = rtlib.Crate.stamp, {}
@@ -76,7 +80,7 @@ def main():
     for name, crate in crates(top).items():
         other = theirs.get(name)
         if other is None or crate.is_program or crate.is_built() or not os.path.isfile(f"{other.rlib}/format") or stamp(
-                crate) != stamp(other) or not is_current(other) or not is_settled(other):
+                crate) != stamp(other) or not behind_ci and not (is_current(other) and is_settled(other)):
             continue
         if any(not it.is_built() or not is_same(it, theirs[it.name]) for it in crate.below()):
             continue

@@ -230,7 +230,7 @@ def gate_stale(names: list[str], how: wrong_bodies.Options, kept: Results) -> in
     changes = [it for it in changes if it.key() in old]
     if not changes:
         return 0
-    how = wrong_bodies.Options(how.work, how.lanes, how.seconds, yields=how.yields, most=60 * MINUTES,
+    how = wrong_bodies.Options(how.work, how.lanes, how.seconds, yields=how.yields, behind_ci=how.behind_ci, most=60 * MINUTES,
                                keeps=lambda it: it.came not in (PASSED, BAD))
     verdicts = wrong_bodies.run(changes, how, kept)
     known, graph = kept.read(), wrong_bodies.crates()
@@ -246,13 +246,16 @@ def main() -> int:
     words = argparse.ArgumentParser(description=__doc__, formatter_class=argparse.RawDescriptionHelpFormatter)
     wrong_bodies.add_options(words)
     words.add_argument('--gate', action='store_true', help='tries the edits of the gate, and wants each refused by its clause')
+    words.add_argument('--behind-ci', action='store_true', help='the libraries are those that rt ci has just left here')
     it = words.parse_args()
     names = list(wrong_bodies.crates())
     unknown = [name for name in it.crates if name not in names]
     if unknown:
         sys.exit(f'slips: crates.txt has no {unknown[0]}')
     if it.gate:
-        return gate(it.crates or names, wrong_bodies.options_of(it))
+        how = wrong_bodies.options_of(it)
+        how.behind_ci = it.behind_ci
+        return gate(it.crates or names, how)
     changes = [change for name in it.crates or names for change in slips_of(name)]
     results = Results(RESULTS)
     if it.list:

@@ -357,15 +357,15 @@ def stop(*_) -> None:
 class Lane:
     """A clone of the repository in which changes are tried, with the libraries that are built here."""
 
-    def __init__(self, folder: Path, yields: bool = False):
+    def __init__(self, folder: Path, yields: bool = False, behind_ci: bool = False):
         self.folder, self.yields = folder, yields
         if not folder.is_dir():
             subprocess.run(['git', 'clone', '-q', str(TOP), str(folder)], check=True)
         else:
             subprocess.run(['git', '-C', str(folder), 'fetch', '-q', 'origin'], check=True)
             subprocess.run(['git', '-C', str(folder), 'reset', '-q', '--hard', git('rev-parse', 'HEAD')], check=True)
-        subprocess.run([sys.executable, str(TOP / 'scripts' / 'build' / 'share_libraries.py'), str(folder), str(TOP)], check=True,
-                       stdout=subprocess.DEVNULL)
+        subprocess.run([sys.executable, str(TOP / 'scripts' / 'build' / 'share_libraries.py'), str(folder), str(TOP),
+                        *(['--behind-ci'] if behind_ci else [])], check=True, stdout=subprocess.DEVNULL)
 
     def take_work(self, crate: str) -> None:
         """What a check of the crate kept at the top, so that the first check here is no slower than the next."""
@@ -670,6 +670,8 @@ class Options:
     only_new: bool = False
     yields: bool = False
     together: bool = False
+    # (the libraries are those that `rt ci` has just left)
+    behind_ci: bool = False
     # (begins no check after so many seconds of a processor; 0: as many as it takes)
     most: float = 0
     # (which verdicts are kept, and what is noted of them)
@@ -742,7 +744,7 @@ def run(changes: list[Change], how: Options, results: Results) -> list[Verdict]:
             print((how.says or line_of)(verdict), flush=True)
 
     def work_in(number: int) -> None:
-        lane = Lane(how.work / f'lane{number}', how.yields)
+        lane = Lane(how.work / f'lane{number}', how.yields, how.behind_ci)
         while True:
             with lock:
                 if not todo or is_over():

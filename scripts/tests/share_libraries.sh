@@ -36,7 +36,7 @@ for tree in one other; do
     echo low >"$room/$tree/crates/r10_low/src/lib.rt"
 done
 made=$room/other/crates/r10_low/out/rlib/r10_low.rlib given=$room/one/crates/r10_low/out/rlib
-share() { "$sources/scripts/build/share_libraries.py" "$room/one" "$room/other"; }
+share() { "$sources/scripts/build/share_libraries.py" "$room/one" "$room/other" "$@"; }
 
 check "a library that is not there is not given" is "$(share)" "0 libraries given"
 mkdir -p "$made"
@@ -52,5 +52,15 @@ check "it is given when it is whole" is "$(share)" "1 libraries given"
 check "with all its files and a stamp" is "$(cd "$given" && find . -type f | sort | tr '\n' ' ')" \
     "./r10_low.rlib/format ./r10_low.rlib/interface/all ./stamp "
 check "and once" is "$(share)" "0 libraries given"
+rm -r "$given"
+touch "$room/other/crates/r10_low/src/lib.rt"
+check "one that is older than its sources is not given" is "$(share)" "0 libraries given"
+check "but for what rt ci has just left" is "$(share --behind-ci)" "1 libraries given"
+rm -r "$given"
+touch "$made/format"
+check "that may be of this moment too" is "$(share --behind-ci)" "1 libraries given"
+rm -r "$given"
+echo other >"$room/other/crates/r10_low/src/lib.rt"
+check "it is of the same sources all the same" is "$(share --behind-ci)" "0 libraries given"
 # shellcheck disable=SC2154
 exit "$failed"
