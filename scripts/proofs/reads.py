@@ -283,12 +283,13 @@ class Tree:
             return None
         return self.in_module(self.module(path), name)
 
-    def in_module(self, module: Module, name: str) -> Item | None:
-        """What a name is in a file of definitions."""
+    def in_module(self, module: Module, name: str, member: str = '') -> Item | None:
+        """What a name is in a file of definitions. Of a module as a whole it is the member."""
         if name in module.own:
             return module.own[name]
         if name in module.imports:
-            return self.imported(*module.imports[name])
+            way, first = module.imports[name]
+            return self.imported(way, first or member or None)
         return None
 
     def used(self, source: Source, way: str, name: str) -> Item | None:
@@ -315,7 +316,8 @@ class Tree:
         """What a name is in a file of code, and what an impl defines under a member of it."""
         item = None
         if name in source.imports:
-            item = self.imported(*source.imports[name])
+            way, first = source.imports[name]
+            item = self.imported(way, first or member or None)
         elif name in source.types:
             item = source.types[name]
         elif name in source.uses:
@@ -349,7 +351,7 @@ class Tree:
                     is_field = re.match(r'=(?![^\s\w({])', after) and re.search(r'[{;]\s*$', part[:token.start()])
                     if name in local or is_field:
                         continue
-                    it = self.in_module(module, name)
+                    it = self.in_module(module, name, token[2] or '')
                     if it:
                         found[it] = None
         found.pop(item, None)

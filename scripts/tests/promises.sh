@@ -19,6 +19,16 @@ bound = 2 ^ 48
 abbrev pub idle : ℕ
 idle = 7
 ANTT
+cat >"$low/specs/Forms.antt" <<'ANTT'
+use Rattle.r10_low.specs.Bodies as bodies
+
+abbrev pub IsForm : ℕ → Type 0
+IsForm n = bodies.IsBody n
+ANTT
+cat >"$low/specs/Bodies.antt" <<'ANTT'
+abbrev pub IsBody : ℕ → Type 0
+IsBody n = n < 9
+ANTT
 cat >"$low/src/lane.rt" <<'RT'
 pub trait LaneOut {
     ghost took: { Self → ℕ → Type 0 };
@@ -48,6 +58,7 @@ printf 'pub mod lane;\npub mod ring;\n' >"$low/src/lib.rt"
 cat >"$high/src/lib.rt" <<'RT'
 ghost use Rattle.std.specs.Prelude.{◌≡◌, IfOk};
 ghost use Rattle.r10_low.specs.Counts.{IsCount};
+ghost use Rattle.r10_low.specs.Forms as forms;
 
 /// It counts.
 pub fn count(a: u64) -> Result<u64, ()>
@@ -66,7 +77,7 @@ pub fn other(a: u64) -> u64
 }
 
 pub fn third(a: u64) -> u64
-    ensures counted { IsCount result }
+    ensures counted { forms.IsForm result }
 {
     a
 }
@@ -119,6 +130,8 @@ check "and the function of one clause" \
     changes 1 "$high/src/lib.rt" 's/ensures { IsCount result }/ensures { result ≡ result }/' "$change"
 check "a definition that a clause names" changes 1 "$low/specs/Counts.antt" 's/n < bound/n < bound + 1/' "$change"
 check "one that this stands on" changes 1 "$low/specs/Counts.antt" 's/2 ^ 48/2 ^ 49/' "$change"
+check "one that a name of its file leads to" changes 1 "$low/specs/Forms.antt" 's/IsBody n$/IsBody (n + 1)/' "$change"
+check "also by way of another" changes 1 "$low/specs/Bodies.antt" 's/n < 9/n < 10/' "$change"
 check "what a type gives for a word of a trait" changes 1 "$low/src/ring.rt" 's/n ≡ idle/n ≡ n/' "$change"
 check "and what that stands on" changes 1 "$low/specs/Counts.antt" 's/idle = 7/idle = 8/' "$change"
 check "a word of the toolchain that is another" changes 1 "$high/src/lib.rt" 's/◌≡◌, IfOk/◌≡◌, IfErr as IfOk/' "$change"
