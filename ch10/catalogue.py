@@ -10,12 +10,13 @@ import time
 from contextlib import suppress
 from typing import Any, Dict, Iterable, Iterator, List, NamedTuple, Optional, Sequence, Tuple
 
+from .clocks import Asked
 from .facts import facts_of, most, nothing_in, program_of, sum_of, verdict_of_image, version_of
-from .inputs import Output, is_recording, shown
+from .inputs import Output, date_of, is_recording, shown
 from .medium import directory
 from .range_words import place as place_of
-from .standard import Fault
-from .store import Store, StoreError, open_store
+from .standard import Fault, Wrong
+from .store import Store, StoreError, file_of, open_store
 from .store_schema import CASE, CHANNEL_COLUMNS, RECORDING_COLUMNS
 from .workers import Pool, Room, Task, processors
 
@@ -41,9 +42,10 @@ class Input(NamedTuple):
     place: str
 
 
-def inputs_of(paths: Sequence[str], base: Optional[str], passed: List[str], failed: List[Tuple[str, str]]) -> Iterator[Input]:
+def inputs_of(paths: Sequence[str], base: Optional[str], passed: List[str], failed: List[Tuple[str, str]],
+              dsn: Optional[str] = None) -> Iterator[Input]:
     """The files of a call: those that it names, and of a folder those below it that look like recordings or images; the others are
-    counted in `passed`, and folders that cannot be read go to `failed`."""
+    counted in `passed`, the database of this DSN too, and folders that cannot be read go to `failed`."""
     def unreadable(error: OSError) -> None:
         failed.append((place_of(error.filename), error.strerror or str(error)))
 
@@ -53,12 +55,28 @@ def inputs_of(paths: Sequence[str], base: Optional[str], passed: List[str], fail
                 folders.sort()
                 for name in sorted(names):
                     found = os.path.join(folder, name)
-                    if looks_right(found):
+                    if looks_right(found) and not is_database(found, dsn):
                         yield Input(found, placed(found, os.path.relpath(found, path), base))
                     else:
                         passed.append(found)
         else:
             yield Input(path, placed(path, os.path.basename(path), base))
+
+
+def is_database(path: str, dsn: Optional[str]) -> bool:
+    """Whether a file is the database of a DSN."""
+    file = file_of(dsn)
+    try:
+        return file is not None and os.path.samefile(path, file)
+    except OSError:
+        return False
+
+
+def need_inputs(asked: Any) -> None:
+    """That no input of a call is its database, which an empty file would become."""
+    for path in asked.inputs:
+        if is_database(path, asked.db):
+            raise Wrong('%r is the database itself, and no input' % path[:200])
 
 
 def placed(path: str, rest: str, base: Optional[str]) -> str:
@@ -155,6 +173,15 @@ def image_tasks(path: str, place: str, data: Any) -> Iterator[Task]:
                    name=shown(file.name), closed=file.closed, listed=most(file.size))
 
 
+def asked_for(task: Task) -> Asked:
+    """What a call says of the times of an input, with the date of its file."""
+    try:
+        date = date_of(os.stat(task['path']))
+    except OSError:
+        date = None
+    return Asked(*task.get('clock', ()), date=date) if task.get('clock') else Asked(date=date)
+
+
 # ---- one of them, in a process of its own or in this one
 
 def work(setting: Task) -> Any:
@@ -178,7 +205,7 @@ def work(setting: Task) -> Any:
                 found = nothing_in(len(view))
                 found.update(verdict_of_image(program, view, Fault(task['fault'])))
         if 'fault' not in task:
-            found = facts_of(data, begin, end, program)
+            found = facts_of(data, begin, end, program, asked=asked_for(task))
         mark.need_same(begin, end, sum_, is_all)
         found.update(sha256=sum_, judge=setting['judge'] if found['verdict'] != 'unjudged' else None)
         return found
@@ -229,7 +256,7 @@ def replace(store: Store, number: int, facts: Task, anew: bool) -> str:
     names = [name for name in RECORDING_COLUMNS if name not in ('sha256', 'added')]
     store.rows('UPDATE recording SET %s WHERE id = ?' % ', '.join(name + ' = ?' for name in names),
                [facts[name] for name in names] + [number])
-    for table in ('channel', 'damage', 'attribute'):
+    for table in ('channel', 'damage', 'attribute', 'unread', 'remark'):
         store.rows('DELETE FROM %s WHERE recording = ?' % table, (number,))
     return 'judged'
 
@@ -242,6 +269,10 @@ def details(store: Store, found: Sequence[Tuple[int, Task]]) -> None:
         (number, *row) for number, facts in found for row in facts['damage']))
     store.insert('attribute', ('recording', 'code', 'value'), (
         (number, *row) for number, facts in found for row in facts['attributes']))
+    store.insert('unread', ('recording', 'channel', 'data_type', 'packets', 'why'), (
+        (number, *row) for number, facts in found for row in facts['unread']))
+    store.insert('remark', ('recording', 'number', 'remark'), (
+        (number, *row) for number, facts in found for row in facts['remarks']))
 
 
 def put_places(store: Store, found: Sequence[Tuple[Task, Task]], ids: Dict[str, int], moment: str) -> None:
@@ -315,7 +346,8 @@ def added(store: Store, asked: Any, failed: List[Tuple[str, str]], passed: List[
     held: List[Tuple[Task, Task]] = []
     last = time.monotonic()
     with Pool(asked.jobs or processors(), setting, Room(memory), AHEAD) as pool:
-        for task, facts in pool.done(tasks_of(inputs_of(asked.inputs, asked.place, passed, failed), failed)):
+        tasks = tasks_of(inputs_of(asked.inputs, asked.place, passed, failed, asked.db), failed)
+        for task, facts in pool.done(dict(task, clock=[asked.time_channel, asked.year, asked.time_from_end]) for task in tasks):
             if 'error' in facts:
                 failed.append((title(task), facts['error']))
                 continue
@@ -332,6 +364,7 @@ def add(asked: Any, data: None, out: Output) -> None:
     failed: List[Tuple[str, str]] = []
     passed: List[str] = []
     progress = Progress(out)
+    need_inputs(asked)
     store = open_store(asked.db)
     try:
         for some in added(store, asked, failed, passed):

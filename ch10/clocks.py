@@ -10,7 +10,7 @@ import datetime
 import re
 from bisect import bisect_right
 from collections import namedtuple
-from typing import Dict, Iterable, Iterator, List, Mapping, NamedTuple, Optional, Sequence, Tuple
+from typing import Any, Dict, Iterable, Iterator, List, Mapping, NamedTuple, Optional, Sequence, Tuple
 
 from .standard import COUNT_BITS, INDEX, LOSS, SETUP, Fault
 from .times import ASSUMED, DAY, FREE, LOCKED, SECOND, Time, civil
@@ -245,6 +245,12 @@ class Asked(NamedTuple):
 
 
 NOTHING = Asked()
+
+
+def asked_of(words: Any, date: Optional[datetime.date] = None) -> Asked:
+    """What the words of a call say of times; the date is that of the file, where the words do not have it."""
+    return Asked(getattr(words, 'time_channel', None), getattr(words, 'year', None), getattr(words, 'time_from_end', False),
+                 date or getattr(words, 'date', None))
 
 
 class Timing:

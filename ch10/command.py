@@ -9,7 +9,7 @@ import re
 import sys
 from typing import Any, BinaryIO, Callable, List, NoReturn, Optional, Tuple
 
-from .inputs import Output, given
+from .inputs import MOST_FRONT, Front, Output, date_given, given
 from .kinds import BY_NAME, KINDS
 from .range_words import add_words, filled, run_of
 from .standard import Fault, Wrong
@@ -94,6 +94,12 @@ def channel_number(word: str) -> int:
     return number(word)
 
 
+def year_number(word: str) -> int:
+    if not 1 <= number(word) <= 9998:
+        raise argparse.ArgumentTypeError('%s is not in 1..=9998' % word[:60])
+    return number(word)
+
+
 def bound(word: str) -> Any:
     from .times import Bound  # read when it is asked for, as the modules of the commands are: a call begins in a third of the time
     return Bound(word)
@@ -117,6 +123,8 @@ def parser_of() -> 'Parser':
                                    formatter_class=argparse.RawDescriptionHelpFormatter)
         made.set_defaults(run=run)
         if name != 'tmats':  # (whose input is a script)
+            made.add_argument('--front', type=number, metavar='MIB',
+                              help='a recording whose first packets are within so many MiB from its front (without it: 16)')
             made.add_argument('--file', type=file_number, metavar='N', help='a file of an image, by its number from 0 on'
                               + (' (without it: each)' if name in ('summary', 'sqlite') else '' if name == 'file'
                                  else ' (without it: 0)'))
@@ -132,6 +140,8 @@ def parser_of() -> 'Parser':
         made.add_argument('--raw', action='store_true', help='the values as they stand in the packets, as r10 play prints them')
         made.add_argument('--turned-labels', action='store_true',
                           help='labels of ARINC 429 whose first bit on the bus is the lowest of the word')
+        made.add_argument('--quality', action='store_true',
+                          help='a column more, quality: how good the time is, as locked, free or guessed year')
         made.add_argument('--jobs', type=number, metavar='J',
                           help='so many processes (without it: as many as there are processors, to eight)')
 
@@ -140,13 +150,24 @@ def parser_of() -> 'Parser':
                           help='go on after damage; each stretch that is passed over is a line, and the status 1')
         return made
 
+    def with_clock(made: argparse.ArgumentParser) -> None:
+        made.add_argument('--time-channel', type=channel_number, metavar='C',
+                          help='times by this channel (without it: by one whose clock was locked, of an external source first)')
+        made.add_argument('--year', type=year_number, metavar='Y',
+                          help='the year of the first time, where times have none (without it: by a time channel that has years, '
+                          'else guessed by the dates of setup and file)')
+        made.add_argument('--time-from-end', action='store_true',
+                          help='times before the last jump of the clock are counted back from what comes after it')
+
     def with_times(made: argparse.ArgumentParser) -> None:
+        with_clock(made)
         made.add_argument('--from', dest='first', type=bound, metavar='A', help='the first time')
         made.add_argument('--to', dest='last', type=bound, metavar='B', help='the last time')
 
     made = command('summary', run_of('table', 'summary'),
                    'Says what each channel of a recording, or of each file of an image, has.', SUMMARY_MORE)
     made.add_argument('--json', action='store_true', help='a JSON object for each line of the table, with whole times')
+    with_clock(made)
     for name, run, about, more in (('csv', run_of('lines', 'as_csv'), 'Writes the entries as CSV.', CSV_MORE),
                                    ('json', run_of('lines', 'as_json'), 'Writes the entries as JSON lines.', JSON_MORE),
                                    ('svg', run_of('picture', 'as_svg'), 'Draws rates and losses over time, as SVG.', SVG_MORE)):
@@ -166,6 +187,7 @@ def parser_of() -> 'Parser':
                             sqlite_more))
     made.add_argument('--out', metavar='FILE', help='where the database is to be; there must be none')
     with_channels(made)
+    with_clock(made)
     made.add_argument('--turned-labels', action='store_true',
                       help='labels of ARINC 429 whose first bit on the bus is the lowest of the word')
     with_times(going_on(command('range', run_of('cuts', 'as_range'), 'Writes the packets of a range of time as a recording.',
@@ -173,7 +195,7 @@ def parser_of() -> 'Parser':
     made = command('file', run_of('cuts', 'as_file'), 'Writes one file of an image, byte for byte.',
                    'As in: ch10 file FLT1 < medium.img | r10 check')
     made.add_argument('name', nargs='?', metavar='NAME', help='its name, as r10 files prints it')
-    add_words(commands, Parser, channel_number)
+    add_words(commands, Parser, channel_number, with_clock)
     COMMANDS.extend(commands.choices)
     return top
 
@@ -258,10 +280,12 @@ def words_of(words: List[str]) -> Namespace:
     return asked
 
 
-def answer(words: List[str], source: Callable[[], Any], to: Callable[[], BinaryIO]) -> Tuple[int, Optional[str]]:
-    """Does what the words of a call ask for, from what source() gives to the stream that to() gives.
+def answer(words: List[str], source: Callable[[], Any], to: Callable[[], BinaryIO],
+           date: Optional[Callable[[], Any]] = None) -> Tuple[int, Optional[str]]:
+    """Does what the words of a call ask for, from what source() gives to the stream that to() gives. date() gives the date of the
+    file that source() reads, or None.
 
-    The exit status, and the line that is said of it, or None: 1 of an input that is judged bad, 2 of a wrong call, 3 where a read
+    The exit status, and the lines that are said of it, or None: 1 of an input that is judged bad, 2 of a wrong call, 3 where a read
     or a write failed. A reader that has gone is no line.
     """
     try:
@@ -269,13 +293,15 @@ def answer(words: List[str], source: Callable[[], Any], to: Callable[[], BinaryI
         line: List[str] = []
         try:
             asked = words_of(words)
+            asked.date = date() if date else None
+            Front.most = asked.front << 20 if getattr(asked, 'front', None) else MOST_FRONT
             asked.run(asked, None if getattr(asked, 'opens', False) else source(), out)
         except Help as text:
             out.line(str(text).rstrip())
         except Fault as fault:
             line = fault.lines()
         out.flush()
-        return (1 if line else 0), '\n'.join(line) or None
+        return (1 if line else 0), '\n'.join(out.notes + line) or None
     except Wrong as wrong:
         return 2, str(wrong)
     except BrokenPipeError:
@@ -307,7 +333,7 @@ def say(line: str) -> None:
 def main(words: List[str]) -> int:
     gc.disable()  # what is made here leads to itself nowhere, and there is much of it
     try:
-        status, line = answer(words, given, standard_output)
+        status, line = answer(words, given, standard_output, date_given)
     except KeyboardInterrupt:
         status, line = 130, None
     if line:

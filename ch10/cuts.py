@@ -5,7 +5,8 @@ from argparse import Namespace
 from typing import Dict, List, Set, Tuple
 
 from .bodies import counts
-from .clocks import BITS
+from .clocks import BITS, asked_of
+from .doubts import judge, say_no_setup
 from .inputs import Output, is_recording, listed, one_part, shown, the_file
 from .medium import File, bytes_of
 from .packets import Packet, loss_of, packets
@@ -24,6 +25,8 @@ def setup(asked: Namespace, data: Data, out: Output) -> None:
         if packet.kind == SETUP and packet.word is not None:
             out.write(bytes(packet.body[4:]))
             has_one = True
+    if has_one:
+        say_no_setup(survey, out)
     survey.judge()
     if not has_one:
         raise Fault('the recording has no setup packet')
@@ -53,7 +56,7 @@ def as_range(asked: Namespace, data: Data, out: Output) -> None:
     """Each packet with an entry in the range, as it stands, behind the loss report that stands before it; with the setup, and the
     time that holds where the range begins."""
     _, begin, end = one_part(data, asked.file)
-    survey = Survey(data, begin, end, asked.keep_going)
+    survey = Survey(data, begin, end, asked.keep_going, asked=asked_of(asked))
     if not survey.lows:
         survey.judge()
     within = Range(asked.first, asked.last, survey.clock)
@@ -70,7 +73,7 @@ def as_range(asked: Namespace, data: Data, out: Output) -> None:
         if packet.kind == SETUP or packet.offset in times or packet.kind != INDEX and first_of(number, packet, survey, within) >= 0:
             out.write(report + here)
         report = b''
-    survey.judge()
+    judge(survey, out)
 
 
 def first_of(number: int, packet: Packet, survey: Survey, within: Range) -> int:

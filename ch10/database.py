@@ -8,8 +8,9 @@ import sqlite3
 from typing import Iterator, List, Optional, Sequence, Tuple
 
 from .bodies import MEANT, by_kind, read
-from .clocks import TimeLine
+from .clocks import TimeLine, asked_of
 from .columns import NONE, rows_of
+from .doubts import KINDS_READ, NO_SETUP, doubts_of, has_no_setup, judge, unread_in
 from .fields import Reader
 from .inputs import Output, is_recording, listed, shown, the_file
 from .kinds import KINDS, REAL, TEXT, WHOLE
@@ -38,6 +39,8 @@ OTHERS = (
                 ('seconds_without', WHOLE), ('drift_ppm', REAL))),
     ('clock_jumps', (('file', WHOLE), ('channel', WHOLE), ('offset', WHOLE), ('count', WHOLE), ('seconds', REAL))),
     ('setup', (('file', WHOLE), ('attribute', TEXT), ('value', TEXT))),
+    ('unread', (('file', WHOLE), ('channel', WHOLE), ('type', TEXT), ('packets', WHOLE), ('why', TEXT))),
+    ('notes', (('file', WHOLE), ('note', TEXT))),
 )
 
 
@@ -92,7 +95,7 @@ def as_sqlite(asked: Namespace, data: Data, out: Output) -> None:
     except sqlite3.Error as error:
         raise OSError(str(error))
     try:
-        first = written(asked, data, base)
+        first = written(asked, data, base, out)
         base.close()
     except sqlite3.Error as error:
         base.give_up()
@@ -104,12 +107,12 @@ def as_sqlite(asked: Namespace, data: Data, out: Output) -> None:
         raise first
 
 
-def written(asked: Namespace, data: Data, base: Database) -> Optional[Fault]:
+def written(asked: Namespace, data: Data, base: Database, out: Output) -> Optional[Fault]:
     """Adds each recording, and answers the first fault."""
     if is_recording(data):
         if asked.file is not None:
             raise Fault('the input is a recording and no image: it has no files')
-        return add(asked, data, 0, len(data), base, 0, None)
+        return add(asked, data, 0, len(data), base, 0, None, out)
     _, files = listed(data)
     first = None
     for number in range(len(files)) if asked.file is None else [asked.file]:
@@ -120,13 +123,14 @@ def written(asked: Namespace, data: Data, base: Database) -> Optional[Fault]:
             base.add('files', [(number, shown(file.name), int(file.closed), file.size) + (None,) * 5 + (str(fault), file.size)])
             first = first or fault
             continue
-        first = add(asked, data, begin, end, base, number, file) or first
+        first = add(asked, data, begin, end, base, number, file, out) or first
     return first
 
 
-def add(asked: Namespace, data: Data, begin: int, end: int, base: Database, number: int, file: Optional[File]) -> Optional[Fault]:
+def add(asked: Namespace, data: Data, begin: int, end: int, base: Database, number: int, file: Optional[File],
+        out: Output) -> Optional[Fault]:
     """Adds one recording, and answers what is wrong with it."""
-    survey = Survey(data, begin, end, asked.keep_going)
+    survey = Survey(data, begin, end, asked.keep_going, asked=asked_of(asked))
     clock, ends = survey.clock, survey.ends() if survey.rows else []
 
     def civil(count: Optional[int]) -> Optional[str]:
@@ -144,12 +148,14 @@ def add(asked: Namespace, data: Data, begin: int, end: int, base: Database, numb
                         for one in survey.damage])
     for line in survey.times:
         add_clock(base, number, line, ends)
+    base.add('unread', [(number, one.channel, name_of(one.kind), one.packets, one.why) for one in unread_in(survey)])
+    base.add('notes', [(number, line) for line in doubts_of(survey) + ([NO_SETUP] if has_no_setup(survey) else [])])
     base.add('setup', [(number, name, value) for name, value in survey.names.attributes.items()])
     ordered, reader = Ordered(data, begin, survey, asked.channel), Reader(survey.names, asked.turned_labels)
     for part in ordered.parts():
         add_part(base, number, ordered, part, reader)
     try:
-        survey.judge()
+        judge(survey, out, KINDS_READ, asked.channel)
     except Fault as fault:
         return fault
     return None

@@ -9,6 +9,7 @@ from typing import Any, Callable, Dict, List, Optional, Tuple
 
 from .bodies import counts
 from .clocks import NOTHING, Asked, Clock, TimeLine, Timing
+from .doubts import NO_SETUP, doubts_of, has_no_setup, unread_in
 from .kinds import by_type
 from .packets import HEADER, ONE_WORD, packet_at
 from .standard import INDEX, LOSS, SETUP, TIME, Fault, Wrong, little
@@ -148,6 +149,7 @@ class StrictSurvey:
         last: Dict[Tuple[int, int], int] = {}
         self.timing = Timing()
         self.damage: List[Any] = []
+        self.fault, self.out_of_step, self.begins_with_setup = None, 0, True
         self.setup: Optional[bytes] = None
         at, report = begin, None
         head, one_word = HEADER.unpack_from, ONE_WORD.unpack_from
@@ -232,9 +234,8 @@ def facts_of(data: Any, begin: int, end: int, program: Optional[str], survey: Op
     with memoryview(data)[begin:end] as view:
         found = verdict_of(program, view)
     if survey is None:
-        is_strict, is_lenient = found['verdict'] == 'strict', found['verdict'] == 'lenient'
-        survey = (StrictSurvey(data, begin, end, asked) if is_strict
-                  else Survey(data, begin, end, judged=is_lenient, asked=asked))
+        is_strict = found['verdict'] == 'strict'
+        survey = StrictSurvey(data, begin, end, asked) if is_strict else Survey(data, begin, end, asked=asked)
     clock, rows = survey.clock, []
     for row in survey.rows:
         times = clock.ends(row.ends()) if clock else (None, None)
@@ -246,7 +247,9 @@ def facts_of(data: Any, begin: int, end: int, program: Optional[str], survey: Op
     low, high = counts_of(ends) if ends else (None, None)
     found.update(kind='recording', size=end - begin, first_time=first, last_time=last, first_count=low, last_count=high,
                  packets=sum(row.packets for row in survey.rows), entries=sum(row.entries for row in survey.rows),
-                 channels=rows, damage=damage_of(survey), attributes=attributes_of(survey.names))
+                 channels=rows, damage=damage_of(survey), attributes=attributes_of(survey.names),
+                 unread=[(one.channel, one.kind, one.packets, one.why) for one in unread_in(survey)],
+                 remarks=list(enumerate(doubts_of(survey) + ([NO_SETUP] if has_no_setup(survey) else []), 1)))
     for name in SUMS:
         found[name] = most(sum(getattr(row, name) for row in survey.rows))
     found.update(damaged=len(found['damage']), damaged_bytes=sum(length for _, length, _ in found['damage']))
@@ -262,7 +265,7 @@ def nothing_in(size: int) -> Dict[str, Any]:
     """What is kept of an input that no pass went over."""
     found: Dict[str, Any] = dict.fromkeys(('first_time', 'last_time', 'first_count', 'last_count'))
     found.update(dict.fromkeys(('packets', 'entries', 'damaged', 'damaged_bytes') + SUMS, 0), kind='image', size=size, channels=[],
-                 damage=[], attributes=[])
+                 damage=[], attributes=[], unread=[], remarks=[])
     return found
 
 

@@ -5,7 +5,7 @@ import json
 import re
 from typing import Any, Dict, Iterable, List, Optional, Sequence, Tuple
 
-from .inputs import Output
+from .inputs import Output, unread_text
 from .standard import Fault, Wrong
 from .range_words import Moment
 from .store import Store, open_store
@@ -191,7 +191,7 @@ def printable(text: str) -> str:
 
 def verdict_text(facts: Dict[str, Any]) -> str:
     if facts['verdict'] == 'lenient':
-        return 'lenient %d' % facts['opaque']
+        return 'lenient %d%s' % (facts['opaque'], ', damaged' if facts.get('damaged') else '')
     if facts['verdict'] == 'faulty':
         return 'faulty %d %s' % (facts['fault_offset'], facts['fault'])
     return facts['verdict']
@@ -283,7 +283,10 @@ def one(store: Store, front: str) -> Dict[str, Any]:
 
 
 PARTS = (('place', PLACE_COLUMNS, 'path, file_number'), ('channel', CHANNEL_COLUMNS, 'channel, data_type'),
-         ('damage', DAMAGE_COLUMNS, 'byte_offset'), ('attribute', ('code', 'value'), 'code'))
+         ('damage', DAMAGE_COLUMNS, 'byte_offset'),
+         ('unread', ('channel', 'data_type', 'packets', 'why'), 'channel, data_type, why'),
+         ('remark', ('number', 'remark'), 'number'),
+         ('attribute', ('code', 'value'), 'code'))
 
 
 def show(asked: Any, data: None, out: Output) -> None:
@@ -322,6 +325,10 @@ def shown_one(facts: Dict[str, Any], parts: Dict[str, List[Dict[str, Any]]]) -> 
         lines.append('at %s' % printable(text))
     if not parts['place']:
         lines.append('at no place: what lay there has been replaced')
+    lines += [printable(row['remark']) for row in parts['remark']]
+    types = {(row['channel'], row['data_type']): row['type'] for row in parts['channel']}
+    lines += [unread_text(row['channel'], types[row['channel'], row['data_type']], row['packets'], row['why'])
+              for row in parts['unread']]
     if parts['channel']:
         lines += [''] + aligned([CHANNEL_HEADS] + [channel_cells(row) for row in parts['channel']], ('type', 'name'))
     if parts['damage']:

@@ -1,6 +1,7 @@
 """What a call reads, and what it writes to."""
 from __future__ import annotations
 
+import datetime
 import mmap
 import os
 import re
@@ -14,7 +15,7 @@ from .standard import PATTERN, Data, Fault
 
 
 MOST_HELD = 64 << 20
-MOST_FRONT = 16 << 20  # bytes in which a recording whose first bytes are damaged has its first packets
+MOST_FRONT = 16 << 20  # bytes in which a recording whose first bytes are damaged has its first packets, if a call says no more
 
 
 def given() -> Data:
@@ -26,6 +27,23 @@ def given() -> Data:
     if size > MOST_HELD and os.lseek(source.fileno(), 0, os.SEEK_CUR) == 0:
         return mmap.mmap(source.fileno(), size, access=mmap.ACCESS_READ)
     return whole(source)
+
+
+def date_given() -> Optional[datetime.date]:
+    """The date when the file that is standard input was last written to; None of anything else."""
+    try:
+        state = os.fstat(sys.stdin.fileno())
+        return date_of(state) if stat.S_ISREG(state.st_mode) else None
+    except (OSError, AttributeError, ValueError):
+        return None
+
+
+def date_of(state: os.stat_result) -> Optional[datetime.date]:
+    """The date when a file was last written to, by UTC."""
+    try:
+        return datetime.datetime.fromtimestamp(state.st_mtime, datetime.timezone.utc).date()
+    except (OSError, OverflowError, ValueError):
+        return None
 
 
 def size_of(file: int) -> int:
@@ -55,13 +73,18 @@ def whole(source: BinaryIO) -> bytes:
             return b''.join(parts)
 
 
+class Front:
+    """In how many bytes from the front on packets are looked for, by the call that is at work (--front)."""
+    most = MOST_FRONT
+
+
 def is_recording(data: Data) -> bool:
     """Whether an input is a recording: where it begins as one, or where it is no image, and has packets that follow one another
     after a damaged front."""
     if data[:2] == PATTERN:
         return True
     from .packets import Resync  # read when it is asked for: questions to a catalogue do without
-    return data[512:520] != b'FORTYtwo' and Resync(data, 0, min(len(data), MOST_FRONT)).first() is not None
+    return data[512:520] != b'FORTYtwo' and Resync(data, 0, min(len(data), Front.most)).first() is not None
 
 
 def listed(data: Data) -> Tuple[str, List[File]]:
@@ -103,6 +126,7 @@ class Output:
     def __init__(self, to: BinaryIO) -> None:
         self.held: List[Any] = []
         self.size, self.to = 0, to
+        self.notes: List[str] = []  # of what is written, for standard error
 
     def write(self, data: Any) -> None:
         if len(data) >= HELD:
@@ -113,6 +137,11 @@ class Output:
         self.size += len(data)
         if self.size >= HELD:
             self.flush()
+
+    def note(self, text: str) -> None:
+        """Says something of what is written, once, on standard error, when all is written."""
+        if text not in self.notes:
+            self.notes.append(text)
 
     def line(self, text: str) -> None:
         self.write(text.encode('ascii', 'replace') + b'\n')
@@ -126,3 +155,8 @@ class Output:
 def shown(name: str) -> str:
     """A name as `r10 files` prints it."""
     return re.sub('[^A-Za-z0-9._-]', '?', name)
+
+
+def unread_text(channel: int, name: str, packets: int, why: str) -> str:
+    """What is said of packets that were not read."""
+    return 'channel %d, %s: %s packet%s not read: %s' % (channel, name, '{:,}'.format(packets), '' if packets == 1 else 's', why)

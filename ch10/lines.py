@@ -8,7 +8,9 @@ from typing import Any, Callable, Dict, List, Optional, Sequence, Tuple
 
 from .bodies import MEANT
 from .bodies import RAW as READ_RAW
+from .clocks import asked_of
 from .columns import Block, Group
+from .doubts import KINDS_READ, judge
 from .fields import COLUMNS, FRONT, Reader
 from .inputs import Output, one_part
 from .kinds import BY_NAME, KINDS, REAL, TEXT, TRUTH, VALUE, WHOLE, Kind
@@ -78,6 +80,11 @@ class Csv:
     def lost_text(lost: int) -> str:
         return '1+' if lost == UNTOLD else str(lost)
 
+    @staticmethod
+    def ended(end: bytes, quality: str) -> bytes:
+        """The end of a line, with how good its time is before it."""
+        return b'%s,%s' % (end, quality.encode())
+
 
 class RawCsv(Csv):
     """CSV with the values as they stand in the packets."""
@@ -133,6 +140,10 @@ class Json(Csv):
     def lost_text(lost: int) -> str:
         return '"1+"' if lost == UNTOLD else str(lost)
 
+    @staticmethod
+    def ended(end: bytes, quality: str) -> bytes:
+        return b'%s, "quality": "%s"}' % (end[:-1], quality.encode())
+
 
 class RawJson(Json):
     """JSON lines with the values as they stand in the packets."""
@@ -170,23 +181,23 @@ def form_of(asked: Namespace, survey: Survey, is_json: bool) -> Form:
 def written(asked: Namespace, data: Data, out: Output, is_json: bool) -> Tuple[Survey, int]:
     """Writes the lines that a call asks for."""
     _, begin, end = one_part(data, asked.file)
-    survey = Survey(data, begin, end, asked.keep_going)
+    survey = Survey(data, begin, end, asked.keep_going, asked=asked_of(asked))
     if not survey.lows:
         survey.judge()
     form = form_of(asked, survey, is_json)
     ordered = Ordered(data, begin, survey, asked.channel)
     within = Range(asked.first, asked.last, survey.clock)
     if form.title():
-        out.line(form.title())
+        out.line(form.title() + (',quality' if asked.quality else ''))
     jobs = asked.jobs or (min(processors(), MOST) if end - begin >= LEAST else 1)
-    many = Vector(form, ordered, within)
+    many = Vector(form, ordered, within, asked.quality)
     in_order(many.lines, ordered.parts(EACH), out, jobs)
     return survey, end - begin
 
 
 def as_csv(asked: Namespace, data: Data, out: Output) -> None:
     survey, _ = written(asked, data, out, False)
-    survey.judge()
+    judge(survey, out, KINDS_READ, asked.channel, BY_NAME[asked.kind].type if asked.kind else None)
 
 
 def as_json(asked: Namespace, data: Data, out: Output) -> None:
@@ -195,4 +206,4 @@ def as_json(asked: Namespace, data: Data, out: Output) -> None:
         out.line(json.dumps(stretch_fields(stretch)))
     if survey.ends_early():
         out.line(json.dumps(ended_fields(survey, size)))
-    survey.judge()
+    judge(survey, out, KINDS_READ, asked.channel, BY_NAME[asked.kind].type if asked.kind else None)

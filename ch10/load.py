@@ -8,15 +8,16 @@ from contextlib import closing, contextmanager
 from typing import Any, Callable, Dict, FrozenSet, Iterable, Iterator, List, NamedTuple, Optional, Sequence, Set, Tuple
 
 from .bodies import counted
-from .catalogue import TAKEN_OUT, Mark, added, now, opened, title, unread
+from .catalogue import TAKEN_OUT, Mark, added, asked_for, need_inputs, now, opened, title, unread
 from .clocks import BITS, NOTHING, Asked, Timing
 from .entry_rows import END, FRONT, TABLES, Reader, days_of, flat, packed
 from .facts import sum_of
-from .inputs import Output
+from .inputs import Output, unread_text
 from .kinds import by_type
 from .packets import loss_of, packets
 from .standard import SETUP, TIME, Fault
 from .store import Store, StoreError, open_store, partition_of
+from .survey import name_of
 from .times import time
 from .tmats import attributes
 from .workers import Pool, Task, processors
@@ -160,7 +161,7 @@ def work(setting: Task) -> Any:
         if kept.get('key') != key:
             kept.pop('key', None)
             passed = {int(offset): length for offset, length in task['passed']}
-            kept.update(held=Held(task['path'], task['begin'], task['end'], task['sum'], passed), key=key)
+            kept.update(held=Held(task['path'], task['begin'], task['end'], task['sum'], passed, asked_for(task)), key=key)
         held = kept['held']
         wanted = {(channel, kind) for channel, kind in task['wanted']}
         if task.get('asks_days'):
@@ -195,6 +196,8 @@ def wanted_of(store: Store, task: Task, sum_: str, chosen: Optional[Sequence[int
     if not found:
         raise StoreError(TAKEN_OUT)
     number, first, last = found[0]
+    if store.rows("SELECT 1 FROM remark WHERE recording = ? AND remark LIKE 'times:%' LIMIT 1", (number,)):
+        first = last = None  # which may not be those of all entries
     there = set(store.rows('SELECT channel, data_type FROM loaded WHERE recording = ?', (number,)))
     rows = store.rows(
         'SELECT channel, data_type, entries FROM channel WHERE recording = ? AND entries > 0 ORDER BY channel, data_type',
@@ -396,7 +399,7 @@ def copy(store: Any, one: Wanted, kind: int, part: bytes) -> None:
 def task_of(one: Wanted, passed: Dict[int, int]) -> Task:
     task = one.task
     return dict(path=task['path'], begin=task['begin'], end=task['end'], number=one.number, sum=one.sum, wanted=sorted(one.entries),
-                passed=sorted(passed.items()), mapped=task.get('mapped', False))
+                passed=sorted(passed.items()), mapped=task.get('mapped', False), clock=task.get('clock'))
 
 
 def parts_of(store: Store, some: Sequence[Wanted]) -> Iterator[Task]:
@@ -411,7 +414,7 @@ def parts_of(store: Store, some: Sequence[Wanted]) -> Iterator[Task]:
 
 def held_of(one: Wanted, passed: Dict[int, int]) -> Held:
     with only_changed(one):
-        return Held(one.task['path'], one.task['begin'], one.task['end'], one.sum, passed)
+        return Held(one.task['path'], one.task['begin'], one.task['end'], one.sum, passed, asked_for(one.task))
 
 
 @contextmanager
@@ -448,7 +451,8 @@ def inserted(store: Store, some: Sequence[Wanted]) -> Dict[int, int]:
 def load(asked: Any, data: None, out: Output) -> None:
     """`ch10 load`."""
     failed: List[Tuple[str, str]] = []
-    asked.anew = False
+    asked.anew = asked.time_channel is not None or asked.year is not None or asked.time_from_end
+    need_inputs(asked)
     store = open_store(asked.db)
     pool = None
     try:
@@ -456,8 +460,10 @@ def load(asked: Any, data: None, out: Output) -> None:
                  if task.get('fault') is None]
         if store.engine == 'postgresql':
             pool = Pool(asked.jobs or processors(), dict(work='load', db=asked.db))
-        total = recordings = 0
+        total = recordings = not_read = 0
         for batch in batches(found, TOGETHER * (pool.number if pool else 1)):
+            for task, sum_ in batch:
+                not_read += say_remarks(store, task, sum_, asked.channel, out)
             some = [wanted_of(store, task, sum_, asked.channel) for task, sum_ in batch]
             some = list({one.number: one for one in some if one.entries}.values())
             numbers, entries = load_all(store, some, pool, failed)
@@ -473,6 +479,27 @@ def load(asked: Any, data: None, out: Output) -> None:
         store.close()
     out.line('%d entries of %d recordings loaded' % (total, recordings))
     unread(failed, out)
+    if not_read:
+        raise Fault('%d channel%s packets of a kind that is loaded which were not read' % (
+            not_read, ' has' if not_read == 1 else 's have'))
+
+
+def say_remarks(store: Store, task: Task, sum_: str, chosen: Optional[Sequence[int]], out: Output) -> int:
+    """Says what of a recording's times is doubtful and what of it was not read; and of how many channels whose kind is loaded
+    something was not."""
+    found = store.rows('SELECT id FROM recording WHERE sha256 = ?', (sum_,))
+    if not found:
+        raise StoreError(TAKEN_OUT)
+    number = found[0][0]
+    for remark, in store.rows('SELECT remark FROM remark WHERE recording = ? ORDER BY number', (number,)):
+        out.note('%s: %s' % (title(task), remark))
+    bad = 0
+    for channel, kind, number_of, why in store.rows(
+            'SELECT channel, data_type, packets, why FROM unread WHERE recording = ? ORDER BY channel, data_type, why', (number,)):
+        if not chosen or channel in chosen:
+            out.note('%s: %s' % (title(task), unread_text(channel, name_of(kind), number_of, why)))
+            bad += kind in TABLES
+    return bad
 
 
 def batches(found: Sequence[Tuple[Task, str]], most: int) -> Iterator[List[Tuple[Task, str]]]:

@@ -6,7 +6,8 @@ from typing import Callable, Dict, Iterable, Iterator, List, Optional, Set, Tupl
 from xml.sax.saxutils import escape
 
 from .bodies import counted
-from .clocks import BITS, Axis
+from .clocks import BITS, Axis, asked_of
+from .doubts import judge
 from .inputs import Output, one_part
 from .packets import UNTOLD, loss_of, lost_before, packets
 from .standard import Data, Key
@@ -51,7 +52,7 @@ class Picture:
         self.axis_line = Axis(survey.ends(), survey.clock)
         low, high = self.axis_line.of(low), self.axis_line.of(high)
         self.title, self.sources, self.by_packets, self.low, self.high = title, sources, by_packets, low, high
-        self.clock, self.names = survey.clock and self.axis_line, survey.names
+        self.clock, self.names = self.axis_line if survey.clock else None, survey.names
         self.bar = least_step(max((high - low) // MOST_BARS + 1, LEAST_BAR))
         self.bars = (high - low) // self.bar + 1
         self.much = {key: [0] * self.bars for key in sources}
@@ -237,7 +238,7 @@ def time_text(count: int, low: int, step: int, clock: Optional[Axis]) -> str:
 
 def as_svg(asked: Namespace, data: Data, out: Output) -> None:
     title, begin, end = one_part(data, asked.file)
-    survey = Survey(data, begin, end, asked.keep_going)
+    survey = Survey(data, begin, end, asked.keep_going, asked=asked_of(asked))
     if not survey.lows:
         survey.judge()
     within = Range(asked.first, asked.last, survey.clock)
@@ -250,7 +251,7 @@ def as_svg(asked: Namespace, data: Data, out: Output) -> None:
     drawn = Picture(title, sources, by_packets, low, high, survey)
     drawn.fill(marks(data, begin, survey, sources, by_packets), None if within.is_all else within.has)
     out.write(drawn.text(survey, end - begin).encode())
-    survey.judge()
+    judge(survey, out)
 
 
 def marks(data: Data, begin: int, survey: Survey, sources: Dict[Key, Row], by_packets: Set[Key]) -> Iterator[Mark]:

@@ -118,7 +118,7 @@ def sum_front(word: str) -> str:
     return word.lower()
 
 
-def add_words(commands: Any, Parser: Any, channel_number: Callable[[str], int]) -> None:
+def add_words(commands: Any, Parser: Any, channel_number: Callable[[str], int], with_clock: Callable[[Any], None]) -> None:
     """Registers the commands with those of a call."""
     def command(of: Any, name: str, run: Any, about: str, more: Any) -> Any:
         made = of.add_parser(name.split(' ')[-1], prog='ch10 ' + name, allow_abbrev=False, description=about, epilog=more,
@@ -154,6 +154,7 @@ def add_words(commands: Any, Parser: Any, channel_number: Callable[[str], int]) 
     made.add_argument('--place', type=place, metavar='BASE',
                       help='where they are to be found: BASE/NAME, as s3://bucket/flights, in place of the path')
     judging(made)
+    with_clock(made)
     made.add_argument('--anew', action='store_true', help='judges and counts what is there already once more')
 
     made = command(inner, 'catalogue find', run_of('find', 'find'), 'Finds recordings in the catalogue.', FIND_MORE + DATABASE)
@@ -190,9 +191,11 @@ def add_words(commands: Any, Parser: Any, channel_number: Callable[[str], int]) 
                       help='this channel alone; may be given again for another')
     made.add_argument('--place', type=place, metavar='BASE', help='where they are to be found: BASE/NAME, in place of the path')
     judging(made)
+    with_clock(made)
 
     made = command(commands, 'report', run_of('report', 'report'),
                    'Writes one page about recordings: HTML with all that it needs in it.', REPORT_MORE)
     with_inputs(made)
     made.add_argument('--program', metavar='PATH', help='the program r10, for the verdicts')
     made.add_argument('--unjudged', action='store_true', help='without verdicts')
+    with_clock(made)

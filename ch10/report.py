@@ -10,9 +10,11 @@ from typing import Any, Dict, Iterable, List, NamedTuple, Optional, Sequence, Tu
 
 from .buses import label_of
 from .catalogue import ENDINGS, Input, image_tasks, inputs_of, line_of, opened, title, unread
+from .clocks import Asked, asked_of
+from .doubts import unread_in
 from .facts import facts_of, nothing_in, program_of, verdict_of_image
 from .find import lost_text, verdict_text
-from .inputs import Output, is_recording
+from .inputs import Output, date_of, is_recording
 from .picture import Picture, marks
 from .standard import Fault, Wrong
 from .survey import Survey, ends_of, name_of
@@ -54,7 +56,8 @@ avoid; }
 MOST_STRETCHES = 500
 MOST_STRIPS = 12  # of a picture
 MEANS = {'strict': 'This recorder may have written it: it keeps each of its rules.',
-         'lenient': 'Any recorder may have written it: each packet is framed, checked and counted as the standard says.',
+         'lenient': 'Any recorder may have written it: each packet is framed and counted as the standard says, and what is read is '
+                    'checked.',
          'faulty': 'A packet is one that no recorder may have written: the first such is at this offset.',
          'unjudged': 'The program r10 gave no verdict: it was not here, or there was too little memory.'}
 
@@ -160,9 +163,11 @@ def channel_part(survey: Survey) -> List[str]:
                      size_text(row.entries) if row.has_entries() else None, size_text(row.bytes),
                      None if rate is None else '{:,.1f}'.format(rate),
                      size_text(row.losses), lost_text({'lost': row.lost, 'untold': row.untold}), row.jumps, row.opaque, row.bad))
+    unread = ['<li>%s</li>' % escape(one.text()) for one in unread_in(survey)]
+    unread = ['<h4>Not read</h4><ul>'] + unread + ['</ul>'] if unread else []
     return ['<h3>Channels</h3>'] + table('What each channel and data type has', (
         'channel', 'type', 'name', 'packets', 'entries', 'bytes', 'entries/s', 'losses', 'messages lost', 'jumps', 'opaque',
-        'damaged packets'), rows, ('type', 'name'))
+        'damaged packets'), rows, ('type', 'name')) + unread
 
 
 def damage_part(survey: Survey) -> List[str]:
@@ -207,6 +212,7 @@ def facts_part(task: Dict[str, Any], facts: Dict[str, Any]) -> List[str]:
     lines = ['%s %s' % (verdict_html(facts), escape(means))]
     if facts['first_time']:
         lines.append('From %s to %s.' % (escape(facts['first_time']), escape(facts['last_time'])))
+    lines += [escape(remark[:1].upper() + remark[1:] + '.') for _, remark in facts['remarks']]
     lines.append('%s bytes in %s packets, %s entries; %s, %s messages lost; %s.' % (
         size_text(facts['size']), size_text(facts['packets']), size_text(facts['entries']), said(facts['losses'], 'loss', 'es'),
         lost_text(facts),
@@ -218,14 +224,14 @@ def facts_part(task: Dict[str, Any], facts: Dict[str, Any]) -> List[str]:
     return ['<p>%s</p>' % line for line in lines]
 
 
-def part_of(task: Dict[str, Any], data: Any, program: Optional[str]) -> Part:
+def part_of(task: Dict[str, Any], data: Any, program: Optional[str], asked: Asked) -> Part:
     begin, end = task['begin'], task['end']
     if 'fault' in task:
         facts = nothing_in(end - begin)
         with memoryview(data) as view:
             facts.update(verdict_of_image(program, view, Fault(task['fault'])))
         return Part(task, facts, facts_part(task, facts) + ['<p>%s.</p>' % escape(task['fault'])])
-    survey = Survey(data, begin, end)
+    survey = Survey(data, begin, end, asked=asked)
     facts = facts_of(data, begin, end, program, survey)
     made = facts_part(task, facts) + pictures_of(data, begin, end, survey, title(task).rpartition('/')[2]) + channel_part(survey)
     return Part(task, facts, made + damage_part(survey) + clock_part(survey) + bus_parts(data, begin, end, survey)
@@ -286,7 +292,7 @@ def report(asked: Any, data: None, out: Output) -> None:
         except Wrong:
             program = None
     failed: List[Tuple[str, str]] = []
-    parts = [part for one in inputs_of(asked.inputs, None, [], failed) for part in parts_of_input(one, program, failed)]
+    parts = [part for one in inputs_of(asked.inputs, None, [], failed) for part in parts_of_input(one, program, failed, asked)]
     if not parts and not failed:
         raise Fault('there is no recording in what was given; of a folder those files are taken that end in %s, or begin as one'
                     % ', '.join(ENDINGS))
@@ -299,7 +305,7 @@ def report(asked: Any, data: None, out: Output) -> None:
                                                                     verdict_text(bad[0].facts)))
 
 
-def parts_of_input(one: Input, program: Optional[str], failed: List[Tuple[str, str]]) -> List[Part]:
+def parts_of_input(one: Input, program: Optional[str], failed: List[Tuple[str, str]], asked: Any) -> List[Part]:
     try:
         data = opened(one.path)
     except OSError as error:
@@ -309,4 +315,4 @@ def parts_of_input(one: Input, program: Optional[str], failed: List[Tuple[str, s
         tasks: Iterable[Dict[str, Any]] = [dict(path=one.path, place=one.place, begin=0, end=len(data), number=-1)]
     else:
         tasks = image_tasks(one.path, one.place, data)
-    return [part_of(task, data, program) for task in tasks]
+    return [part_of(task, data, program, asked_of(asked, date_of(os.stat(one.path)))) for task in tasks]

@@ -127,6 +127,12 @@ def path_of(dsn: str) -> str:
     return dsn
 
 
+def file_of(dsn: Optional[str]) -> Optional[str]:
+    """The file of a database of SQLite; None of a server."""
+    dsn = dsn or os.environ.get('CH10_DB') or DEFAULT
+    return None if is_postgresql(dsn) else path_of(dsn)
+
+
 def open_store(dsn: Optional[str] = None, make: bool = True) -> Store:
     """The database of a DSN (else of CH10_DB, else ch10.sqlite in this folder), with its tables as this version has them.
 

@@ -158,6 +158,23 @@ def entry_tables(step: int, partitioned: bool) -> List[str]:
     return made
 
 
+# What could not be read, and what of its times is doubtful, in the words that the filters say it in.
+REMARKS = (
+    """CREATE TABLE unread (
+    recording BIGINT NOT NULL REFERENCES recording (id) ON DELETE CASCADE,
+    channel INTEGER NOT NULL,
+    data_type INTEGER NOT NULL,
+    packets BIGINT NOT NULL CHECK (packets > 0),
+    why {text} NOT NULL,
+    PRIMARY KEY (recording, channel, data_type, why)
+)""",
+    """CREATE TABLE remark (
+    recording BIGINT NOT NULL REFERENCES recording (id) ON DELETE CASCADE,
+    number INTEGER NOT NULL,
+    remark {text} NOT NULL,
+    PRIMARY KEY (recording, number)
+)""")
+
 # Questions are answered from the indexes alone: each has what conditions on channels ask for. Those of rows that few recordings
 # have hold these rows alone.
 QUESTIONS = (
@@ -177,6 +194,7 @@ MIGRATIONS = (
     Migration(1, 'catalogue', (RECORDING, PLACE, CHANNEL, DAMAGE, ATTRIBUTE) + INDEXES),
     Migration(2, 'entries', (LOADED,), postgresql=entry_tables(2, True), sqlite=entry_tables(2, False)),
     Migration(3, 'questions', QUESTIONS),
+    Migration(4, 'remarks', REMARKS),
 ) + tuple(  # of each kind that is newer its table
     Migration(kind.step, kind.table, (), postgresql=entry_tables(kind.step, True), sqlite=entry_tables(kind.step, False))
-    for kind in KINDS if kind.step > 3)
+    for kind in KINDS if kind.step > 4)

@@ -9,7 +9,7 @@ from . import walk
 from .bodies import BODIES
 from .clocks import BITS, COUNTLESS, NOTHING, Asked, Sessions, TimeLine, Timing
 from .kinds import by_type
-from .packets import UNTOLD, Packet, Resync, Stretch, loss_of, lost_before, packet_at
+from .packets import KNOWN, UNTOLD, Packet, Resync, Stretch, loss_of, lost_before, packet_at
 from .standard import COUNT_BITS, INDEX, NONE_LATER, SETUP, SPAN, TIME, Damaged, Data, Fault, let_go
 from .times import Time, time
 from .tmats import Names
@@ -34,16 +34,19 @@ class Row:
     """What the packets of one channel and one type have together.
 
     .packed    of each session the lowest and the highest instant of its packets; .entered, of their entries
+    .unread    how many packets were not read, by why; .doubled, how many are the same as the channel's packet before
     """
 
     __slots__ = ('channel', 'kind', 'packets', 'entries', 'bytes', 'losses', 'lost', 'untold', 'jumps', 'opaque', 'bad', 'packed',
-                 'entered')
+                 'entered', 'unread', 'doubled')
 
     def __init__(self, channel: int, kind: int) -> None:
         self.channel, self.kind = channel, kind
         self.packets = self.entries = self.bytes = self.losses = self.lost = self.untold = self.jumps = self.opaque = self.bad = 0
         self.packed: Dict[int, List[int]] = {}
         self.entered: Dict[int, List[int]] = {}
+        self.unread: Dict[str, int] = {}
+        self.doubled = 0
 
     def add(self, packet: Packet, report: Optional[Tuple[int, int]]) -> None:
         """Adds a packet after this report, or after none."""
@@ -56,6 +59,8 @@ class Row:
             self.lost += 1 if lost == UNTOLD else lost
         if packet.word is None:
             self.opaque += 1
+            why = why_unread(packet)
+            self.unread[why] = self.unread.get(why, 0) + 1
 
     def at(self, instant: int) -> None:
         """Takes note of when a packet is."""
@@ -107,6 +112,13 @@ class Row:
         return (self.entries - len(self.entered)) * 10 ** 7 / past if self.entries > len(self.entered) else None
 
 
+def why_unread(packet: Packet) -> str:
+    """Why a packet is opaque."""
+    if packet.flags & 0x40:
+        return 'stamps of another clock'
+    return 'another form of its type' if packet.kind in KNOWN else 'a type that is not read here'
+
+
 class Survey:
     """What one pass over a recording finds: to its end, or, where it does not go on, to its first fault.
 
@@ -117,23 +129,25 @@ class Survey:
     .fault     the first fault, or None
     .size      how many bytes were gone over: all, or those before the fault that ended it
     .clock     the `Clock` of its times, or None; .times, a `TimeLine` of each channel with times; .sessions, its `Sessions`
+    .out_of_step    how many packets say that their counter is out of step (packet flags, bit 5)
+    .begins_with_setup    whether the first packet is a setup, as it has to be
     .setup     the first setup text as bytes, or None; .names, what it says of channels: `ch10.tmats.Names`
     .lows      of each packet that was read the lowest instant of its entries; .highs the highest; .places where it begins, after
                the recording's first byte; .of, the number of its session
     """
 
-    def __init__(self, data: Data, begin: int, end: int, goes_on: bool = True, judged: bool = False,
-                 asked: Asked = NOTHING) -> None:
-        self.judged = judged  # by the program: then its sums are right, but for those of opaque packets
+    def __init__(self, data: Data, begin: int, end: int, goes_on: bool = True, asked: Asked = NOTHING) -> None:
         self.rows: List[Row] = []
         self.damage: List[Stretch] = []
         self.passed: Dict[int, int] = {}
         self.spans: List[Tuple[Optional[int], Optional[int]]] = []
         self.fault: Optional[Fault] = None
+        self.out_of_step, self.begins_with_setup = 0, False
         self.setup: Optional[bytes] = None
         self.lows, self.highs, self.places, self.of = array('Q'), array('Q'), array('Q'), array('I')
         self.timing = Timing()
         self.sessions = self.timing.sessions
+        self.latest: Dict[int, int] = {}  # of each channel where its last packet stands
         self.held: List[Tuple[Row, int, int, bool]] = []  # of packets that are of the session of what comes next
         self.states: List[Tuple[int, int, int]] = []  # of each packet that has one its number, its channel and its last state
         self.by_key: Dict[Tuple[int, int], Row] = {}
@@ -152,7 +166,7 @@ class Survey:
         ahead = walk.Ahead(data, end)
         while at < end:
             try:
-                packet = packet_at(data, at, begin, end, not self.judged, goes_on, ahead.is_summed(at))
+                packet = packet_at(data, at, begin, end, True, True, ahead.is_summed(at))
                 found = ahead.measure(packet, at)
                 said = time(packet.body, packet.word) if packet.kind == TIME and packet.word is not None else None
                 inner = resync.within(at, packet.length) if packet.flags & 0x83 not in (1, 2, 3) else None
@@ -180,8 +194,13 @@ class Survey:
             row = self.row_of(channel, REPORT_ROW if told else kind)
             is_jump = before.get(channel, sequence) != sequence
             row.jumps += is_jump
+            if is_jump and kind not in COUNTLESS and self.is_doubled(data, begin, packet):
+                row.doubled += 1
+            self.latest[channel] = packet.offset
             before[channel] = sequence + 1 & 0xFF
             row.add(packet, report)
+            self.out_of_step += packet.flags >> 5 & 1
+            self.begins_with_setup |= kind == SETUP and packet.offset == 0
             report = told
             if kind in COUNTLESS:
                 self.held.append((row, len(self.lows), packet.counter, is_jump))
@@ -195,6 +214,11 @@ class Survey:
                 gone = at
         self.settle(self.sessions.base)
         return at - begin
+
+    def is_doubled(self, data: Data, begin: int, packet: Packet) -> bool:
+        """Whether a packet is the same, byte for byte, as the channel's packet before."""
+        at, place = self.latest.get(packet.channel), begin + packet.offset
+        return at is not None and data[begin + at:begin + at + packet.length] == data[place:place + packet.length]
 
     def base_of(self, packet: Packet, before: Dict[int, int]) -> int:
         """The instant of count 0 of a packet's session. A recorder that was switched on anew begins its sequence numbers anew."""

@@ -5,7 +5,8 @@ from argparse import Namespace
 import json
 from typing import Iterator, List, Optional, Sequence, Tuple
 
-from .clocks import BITS, TimeLine
+from .clocks import BITS, TimeLine, asked_of
+from .doubts import NO_SETUP, doubts_of, has_no_setup, unread_in
 from .inputs import Output, is_recording, listed, shown, the_file
 from .medium import File, bytes_of
 from .standard import COUNT_BITS, Data, Fault
@@ -45,7 +46,7 @@ def summary(asked: Namespace, data: Data, out: Output) -> None:
 def summary_of(asked: Namespace, data: Data, out: Output, begin: int, end: int, number: Optional[int],
                file: Optional[File]) -> None:
     """What one recording has. Raises its first fault, if it has one, when all is said."""
-    survey = Survey(data, begin, end)
+    survey = Survey(data, begin, end, asked=asked_of(asked))
     if asked.json:
         front = {} if file is None else {'file': number, 'name': shown(file.name), 'closed': file.closed}
         for found in fields(survey):
@@ -89,6 +90,8 @@ def titles(survey: Survey, size: int, number: Optional[int], file: Optional[File
             lines.append('%s seconds%s, without a civil time' % (past, many))
     lines += session_lines(survey)
     lines += [line for times in survey.times for line in clock_lines(times, survey)]
+    lines += doubts_of(survey)
+    lines += [NO_SETUP] if has_no_setup(survey) else []
     return lines + [stretch_text(stretch) for stretch in survey.damage]
 
 
@@ -157,7 +160,8 @@ def tables(survey: Survey) -> List[str]:
     sums = [sum(getattr(row, name) for row in survey.rows)
             for name in ('packets', 'entries', 'bytes', 'losses', 'lost', 'untold', 'jumps', 'opaque')]
     much.append(('all', '', '', *sums[:3], '', sums[3], at_least(*sums[4:6]), *sums[6:], len(survey.damage)))
-    return [''] + table(much) + [''] + table(when)
+    unread = [one.text() for one in unread_in(survey)]
+    return [''] + table(much) + [''] + table(when) + ([''] + unread if unread else [])
 
 
 def rate_text(rate: float) -> str:
@@ -188,6 +192,10 @@ def fields(survey: Survey) -> Iterator[dict]:
         yield of_row(row, survey)
     for times in survey.times:
         yield {'clock': of_clock(times, survey.ends())}
+    for one in unread_in(survey):
+        yield {'unread': {'channel': one.channel, 'type': name_of(one.kind), 'packets': one.packets, 'why': one.why}}
+    for line in doubts_of(survey) + ([NO_SETUP] if has_no_setup(survey) else []):
+        yield {'note': line}
     for stretch in survey.damage:
         yield stretch_fields(stretch)
 

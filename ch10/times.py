@@ -61,17 +61,17 @@ def parts_of(said: str) -> Tuple[int, int]:
     """What a text of a civil time says: the day's number, and what passed of the day in units of 100 ns, which is a day and more in
     a second 60. A ValueError where it says none."""
     day, clock = said.split(' ')
-    hours, minutes, seconds = clock.split(':')
+    *front, seconds = clock.split(':')
     whole, _, part = seconds.partition('.')
-    fields = (hours, minutes, whole)
-    if not all(len(field) == 2 and field.isascii() and field.isdigit() for field in fields):
+    fields = (*front, whole)
+    if len(fields) != 3 or not all(len(field) == 2 and field.isascii() and field.isdigit() for field in fields):
         raise ValueError(said)
     if len(part) > 7 or not (part + '0').isascii() or not (part + '0').isdigit():
         raise ValueError(said)
-    hours, minutes, whole = map(int, fields)
-    if hours > 23 or minutes > 59 or whole > 59 and (hours, minutes, whole) != (23, 59, 60):
+    hour, minute, second = map(int, fields)
+    if hour > 23 or minute > 59 or second > 59 and (hour, minute, second) != (23, 59, 60):
         raise ValueError(said)
-    return day_number(day), ((hours * 60 + minutes) * 60 + whole) * 10 ** 7 + int(part.ljust(7, '0'))
+    return day_number(day), ((hour * 60 + minute) * 60 + second) * SECOND + int(part.ljust(7, '0'))
 
 
 def day_number(day: str) -> int:

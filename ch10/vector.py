@@ -13,6 +13,7 @@ from .bodies import read
 from .columns import (LONGEST, NONE, ROOM, Bits, Block, Changed, Coded, Each, Hexed, Number, Numbering, Octets, Printed,
                       wide_view)
 from .buses import changed_bits
+from .doubts import quality_of
 from .inputs import HELD
 from .replay import Ordered, Part
 from .standard import COUNT_BITS
@@ -243,8 +244,9 @@ def between(block: Block, low: int, high: int) -> Block:
 class Vector:
     """Lines of a form, part by part, of those entries that lie in a range."""
 
-    def __init__(self, form: Form, ordered: Ordered, within: Range) -> None:
-        self.form, self.ordered, self.within = form, ordered, within
+    def __init__(self, form: Form, ordered: Ordered, within: Range, has_quality: bool = False) -> None:
+        self.form, self.ordered, self.within, self.has_quality = form, ordered, within, has_quality
+        self.qualities: List[str] = []  # of times, by numbers
         self.joints = {kind: [part.encode() for part in shape.split('%s')] for kind, shape in form.shapes.items()}
         self.tables: Dict[tuple, Table] = {}
         self.decimals = Decimals()
@@ -259,6 +261,8 @@ class Vector:
 
     def lines(self, part: Part) -> Iterator:
         """The lines of a part, some at a time."""
+        if not self.is_touched(part):
+            return
         groups: Dict[int, list] = {}
         for number, packet, lost, _ in self.ordered.packets(part):
             if packet.kind in self.form.shapes and packet.word is not None:
@@ -282,6 +286,14 @@ class Vector:
             some = {kind: block for kind, block in some.items() if len(block)}
             if some:
                 yield self.page(some)
+
+    def is_touched(self, part: Part) -> bool:
+        """Whether a part may have something in the range."""
+        if self.within.is_all or not len(part.numbers):
+            return True
+        survey = self.ordered.survey
+        return self.within.touches(max(part.low, min(survey.lows[number] for number in part.numbers)),
+                                   min(part.high - 1, max(survey.highs[number] for number in part.numbers)))
 
     def page(self, blocks: Dict[int, Block]) -> Array:
         """The lines of some entries, as one array, which holds until the next one is made."""
@@ -339,6 +351,8 @@ class Vector:
         if bases.any():
             block.count = block.count + bases[block.of]
         block.columns.update(order=order, lost=lost, number=channel)
+        if self.has_quality:
+            block.columns['flags'] = numpy.array([packet.flags for packet in some], numpy.int64)[block.of]
         return block
 
     def give_times(self, block: Block) -> None:
@@ -423,7 +437,7 @@ class Vector:
             own = quote if isinstance(group, QUOTED) else b''
             glue.append(last + joints[place] + own)
             last, place = own, place + group.number
-        glue.append(last + joints[place] + b'\n')
+        glue.append(last + (b'' if self.has_quality else joints[place] + b'\n'))
         has_table = [True] + [isinstance(group, Coded) for group in groups] + [False]
         fronts, behind, alone = ([b''] * (len(glue) + 1) for _ in range(3))
         for at, text in enumerate(glue):
@@ -442,7 +456,20 @@ class Vector:
             if alone[at]:
                 found.append(Always(alone[at]))
             place += group.number
-        return found
+        return found + [self.quality(block, joints[place])] if self.has_quality else found
+
+    def quality(self, block: Block, end: bytes) -> Piece:
+        """The end of each line, with how good its time is."""
+        keys = numpy.maximum(numpy.searchsorted(self.starts, block.count, 'right') - 1, 0) << 1 | block.columns['flags'] >> 5 & 1
+        some, numbers = numpy.unique(keys, return_inverse=True)
+        survey = self.ordered.survey
+        for place, key in enumerate(some.tolist()):
+            said = quality_of(survey, int(self.starts[key >> 1]) if len(self.starts) else 0, key & 1 == 1)
+            if said not in self.qualities:
+                self.qualities.append(said)
+            some[place] = self.qualities.index(said)
+        return self.table(('quality', end), lambda key: self.form.ended(end, self.qualities[key]) + b'\n').pieces(
+            some[numbers.reshape(-1)])
 
     def lost(self, kind: int, block: Block, behind: bytes) -> Piece:
         """What was lost before an entry, and what stands between that and the kind's first column."""

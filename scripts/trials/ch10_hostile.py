@@ -123,6 +123,9 @@ def more_lost_than_a_column_takes() -> Tuple[object, object]:
 
 # ---- files, pipes and processes
 
+NO_SETUP = 'ch10: the first packet is no setup\n'
+
+
 def inputs_of_the_shell() -> Tuple[object, object]:
     """What is empty or closed, a recording that grows, and readers that go away while several processes write."""
     make = Maker()
@@ -161,7 +164,7 @@ def inputs_of_the_shell() -> Tuple[object, object]:
         (1, '', 'ch10: an empty input\n'), (1, '', 'ch10: an empty input\n'),
         (3, '', 'ch10: a read or a write failed: standard input is closed\n'),
         (3, '', 'ch10: a read or a write failed: standard output is closed\n'),
-        (3, 'channel,name,count,t', ''), (0, '{"channel": 5, "name\n', ''), (0, '5,,3\n', ''),
+        (3, 'channel,name,count,t', ''), (0, '{"channel": 5, "name\n', NO_SETUP), (0, '5,,3\n', NO_SETUP),
         (2, '', "ch10: '.' is there already: give --out another name\n"),
         (2, '', 'ch10: sqlite takes --out FILE; see ch10 sqlite --help\n'),
         (3, '', 'ch10: a read or a write failed: unable to open database file\n'),
@@ -261,7 +264,7 @@ def memory() -> Tuple[object, object]:
         ask = ('import resource, subprocess, sys; subprocess.run(sys.argv[2:], stdin=open(sys.argv[1]), '
                'stdout=subprocess.DEVNULL); print(resource.getrusage(resource.RUSAGE_CHILDREN).ru_maxrss)')
         for words in (['summary'], ['svg'], ['csv'], ['range', '--from', '319']):
-            done = subprocess.run([sys.executable, '-c', ask, str(path), sys.executable, FILTER] + words, stdout=subprocess.PIPE)
+            done = subprocess.run([sys.executable, '-c', ask, str(path), sys.executable, FILTER] + words, capture_output=True)
             most = max(most, int(done.stdout.split()[-1]))
     return most < 100 << 10, True
 

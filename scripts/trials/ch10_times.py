@@ -1,6 +1,7 @@
 """Times in recordings that are written from chapter 11 (`chapter11`), one fact a recording, and what every command has to say of
 them. `scripts/trials/ch10_trials.py check` runs them: each function of TRIALS gives what was found and what is wanted."""
 import csv
+import datetime
 import io
 import json
 import pathlib
@@ -105,7 +106,8 @@ def counter_back() -> Found:
 
 
 def counter_back_ends() -> Found:
-    """Summary, database, catalogue and report agree on the first and last time of two sessions, and no sequence number jumps."""
+    """Summary, database, catalogue and report agree on the first and the last time of two sessions, and no sequence number
+    jumps."""
     ends = '2024-05-17 09:00:00.0000000', '2024-05-17 11:00:05.5000000'
     said = run(['summary'], two_flights())[1].decode().splitlines()
     return (from_to(two_flights()), [line for line in said if line.startswith('session ')], said[1].split(', ')[1],
@@ -225,6 +227,265 @@ def new_year() -> Found:
          '001 00:00:01.7000000'], ['001 00:00:00.7000000', '001 00:00:01.3000000', '001 00:00:01.7000000'])
 
 
+# ---- what time packets say of themselves (11.2.3: format, source, lock)
+
+def notes(words: Sequence[str], data: bytes) -> Tuple[int, List[str]]:
+    """The status and the lines of a call."""
+    status, _, line = run(words, data)
+    return status, line.splitlines()
+
+
+def opened(text: bytes = b'G\\106:17;') -> Recording:
+    return Recording().add(0, 0x01, 0, made.setup(text))
+
+
+def invalid_format() -> Found:
+    """A time packet whose format is 15 says that it is none: it is not used, and that is said. Alone it gives no time."""
+    one = opened().add(1, 0x11, 0, made.time_f1('2024-05-17 09:00:00.00'))
+    one.add(1, 0x11, SECOND, made.time_f1('2000-01-01 00:00:00.00', form=made.NO_TIME))
+    entry(one, SECOND + SECOND // 2, 'a')
+    alone = opened().add(1, 0x11, 0, made.time_f1('2000-01-01 00:00:00.00', form=made.NO_TIME))
+    entry(alone, SECOND, 'a')
+    return (by_ways(one.data()), notes(['csv'], one.data()), from_to(alone.data()), notes(['csv'], alone.data())), (
+        dict.fromkeys(('csv', 'raw', 'json', 'one', 'many'), [('2024-05-17 09:00:01.5000000', 'a')]),
+        (0, ['times: 1 of 2 time packets of channel 1 say that they are invalid, and are not used']), [('-', '-')] * 4,
+        (0, ['times: 1 of 1 time packets of channel 1 say that they are invalid, and are not used']))
+
+
+def no_source() -> Found:
+    """Source 15 alone says that there is no source: the time is one of a clock by itself."""
+    one = opened().add(1, 0x11, 0, made.time_f1('2024-05-17 09:00:00.00', source=made.NO_SOURCE))
+    entry(one, SECOND, 'a')
+    return (times([], one.data()), rows(['--channel', '5', '--quality'], one.data(), 'quality'), notes(['csv'], one.data())), (
+        ['2024-05-17 09:00:01.0000000'], [('free',)], (0, ['times: the clock of channel 1 was not locked at 1 of 1 times']))
+
+
+def qualities() -> Found:
+    """How good each time is: locked by the lock bits, or, where a recorder has none, by an external source; free; a counter out of
+    step (packet flags, bit 5)."""
+    one = opened()
+    for second, (lock, flags) in enumerate(((made.LOCKED_GPS, 0), (made.FREE, 0), (made.LOCKED_IRIG, made.COUNTER_ERROR))):
+        one.add(1, 0x11, second * SECOND, made.time_f1('2024-05-17 09:00:%02d.00' % second, lock=lock), flags=flags)
+        entry(one, second * SECOND + 5, 'a')
+    entry(one, 2 * SECOND + 6, 'b', flags=made.COUNTER_ERROR)
+    old = opened().add(1, 0x11, 0, made.time_f1('2024-05-17 09:00:00.00', source=made.EXTERNAL))
+    entry(old, 5, 'a')
+    by_json = [json.loads(line)['quality'] for line in run(['json', '--channel', '5', '--quality'], one.data())[1].splitlines()]
+    raw = run(['csv', '--raw', '--quality', '--channel', '5'], one.data())[1].decode().splitlines()
+    wanted = ['locked', 'free', 'locked+counter error', 'locked+counter error']
+    plain = [line.rsplit(',', 1)[0] for line in run(['csv', '--quality'], one.data())[1].decode().splitlines()]
+    return ([said for said, in rows(['--channel', '5', '--quality'], one.data(), 'quality')], by_json,
+            [line.rsplit(',', 1)[1] for line in raw], plain == run(['csv'], one.data())[1].decode().splitlines(),
+            rows(['--channel', '5', '--quality'], old.data(), 'quality')), (
+                wanted, wanted, ['quality'] + wanted, True, [('locked',)])
+
+
+def qualities_of_many() -> Found:
+    """The column is the same where many entries are written at once: a recording large enough for that."""
+    one = opened()
+    for second in range(40):
+        one.add(1, 0x11, second * SECOND, made.time_f1('2024-05-17 09:00:%02d.00' % second,
+                                                       lock=made.LOCKED_GPS if second < 30 else made.FREE))
+        count = second * SECOND + 9
+        one.add(5, 0x50, count, made.uart([(count + place, b'"q", %d' % place) for place in range(1000)]))
+    data = one.data()
+    found = [row['quality'] for row in csv.DictReader(io.StringIO(run(['csv', '--channel', '5', '--quality'], data)[1].decode()))]
+    by_json = [json.loads(line)['quality'] for line in run(['json', '--channel', '5', '--quality'], data)[1].splitlines()]
+    wanted = ['locked'] * 30000 + ['free'] * 10000
+    part = times(['--from', '09:00:05', '--to', '09:00:33.000001'], data)
+    return (found == wanted, by_json == wanted, len(part), part[0], part[-1], len(data) > 300000), (
+        True, True, 28002, '2024-05-17 09:00:05.0000009', '2024-05-17 09:00:33.0000010', True)
+
+
+def two_channels(first: dict, second: dict, **more) -> bytes:
+    """Two time channels, the second one an hour later."""
+    one = opened(**more)
+    for at in range(3):
+        one.add(1, 0x11, at * SECOND, made.time_f1('2024-05-17 09:00:%02d.00' % at, **first))
+        one.add(2, 0x11, at * SECOND, made.time_f1('2024-05-17 10:00:%02d.00' % at, **second))
+    entry(one, 2 * SECOND + 5, 'a')
+    return one.data()
+
+
+def best_channel() -> Found:
+    """Times go by the channel whose clock was locked, of an external source before the recorder's own, the first one else; or by
+    the one that the call names. That another one tells other times is said."""
+    inner, outer, locked = dict(source=made.INTERNAL), {}, dict(lock=made.LOCKED_GPS)
+    found = []
+    free = dict(lock=made.FREE_COMMAND)
+    for first, second, words in ((inner, outer, []), (outer, inner, []), (outer, outer, []), (free, locked, []),
+                                 (locked, locked, ['--time-channel', '2']), (locked, inner, ['--time-channel', '2'])):
+        found.append(times(words, two_channels(first, second))[0][11:13])
+    data = two_channels(inner, outer)
+    return (found, notes(['csv'], data), notes(['csv', '--time-channel', '7'], data)), (
+        ['10', '09', '09', '10', '10', '10'],
+        (0, ['times: they are those of channel 2; channel 1 tells others, up to 3600.00 s apart']),
+        (1, ['channel 7 has no time packet that tells a time']))
+
+
+def unlocked_start() -> Found:
+    """A clock that starts unlocked is set right on the way: --time-from-end counts the times before it back from there."""
+    one = opened()
+    for second, said in enumerate(('1970-01-01 00:00:00.00', '1970-01-01 00:00:01.00', '2024-05-17 09:00:02.00',
+                                   '2024-05-17 09:00:03.00')):
+        one.add(1, 0x11, second * SECOND, made.time_f1(said, lock=made.LOCKED_IRIG if second > 1 else made.FREE))
+        entry(one, second * SECOND + 5, 'a')
+    data = one.data()
+    return (times([], data), times(['--time-from-end'], data),
+            rows(['--channel', '5', '--time-from-end', '--quality'], data, 'quality'),
+            times(['--time-from-end', '--from', '09:00:01', '--to', '09:00:02'], data)), (
+                ['1970-01-01 00:00:00.0000005', '1970-01-01 00:00:01.0000005', '2024-05-17 09:00:02.0000005',
+                 '2024-05-17 09:00:03.0000005'], ['2024-05-17 09:00:%02d.0000005' % second for second in range(4)],
+                [('locked',)] * 4, ['2024-05-17 09:00:01.0000005'])
+
+
+# ---- the year of times that have none
+
+def year_given() -> Found:
+    """--year is the year of the first time; after New Year it is the next one. With it a database of many has times."""
+    data = ticking(NEW_YEAR)
+    said = times(['--year', '2023'], data)
+    with tempfile.TemporaryDirectory() as folder:
+        path = pathlib.Path(folder, 'flight.ch10')
+        path.write_bytes(data)
+        run(['load', '--db', folder + '/many.db', '--unjudged', '--jobs', '1', '--year', '2023', str(path)], b'')
+        base = sqlite3.connect(folder + '/many.db')
+        stored = [time for time, in base.execute('SELECT time FROM entry_uart ORDER BY rowid')]
+        base.close()
+        later = run(['catalogue', 'find', '--db', folder + '/many.db', '--from', '2024-01-01'], b'')[1].count(b'flight.ch10')
+    return (said[::3], stored == said, later, times(['--year', '2023', '--from', '2024-01-01 00:00:01'], data),
+            times(['--year', '2023', '--from', '001 00:00:01'], data), [said for said, in rows(
+                ['--channel', '5', '--year', '2023', '--quality'], data, 'quality')][:1]), (
+                ['2023-12-31 23:59:58.3000000', '2023-12-31 23:59:59.7000000', '2024-01-01 00:00:01.3000000'], True, 1,
+                ['2024-01-01 00:00:01.3000000', '2024-01-01 00:00:01.7000000'],
+                ['2024-01-01 00:00:01.3000000', '2024-01-01 00:00:01.7000000'], ['locked'])
+
+
+def year_by_channel() -> Found:
+    """A channel whose times have no year has that of another one that has: the nearest."""
+    one = opened()
+    one.add(2, 0x11, 0, made.time_f1('2024-01-01 00:00:03.00', source=made.INTERNAL))
+    for second, said in enumerate(NEW_YEAR):
+        one.add(1, 0x11, second * SECOND, made.time_f1(said, lock=made.LOCKED_IRIG))
+        entry(one, second * SECOND + 5, 'a')
+    return (times([], one.data())[1:3], rows(['--channel', '5', '--quality'], one.data(), 'quality')[0]), (
+        ['2023-12-31 23:59:59.0000005', '2024-01-01 00:00:00.0000005'], ('locked',))
+
+
+def year_guessed() -> Found:
+    """By the setup's date (chapter 9, G\\OD) the year is a guess, and is called so: the first one whose day lies after it, and that
+    has 366 days where a packet says so. By the file's date it is the last one before it. Nothing fits, nothing is guessed."""
+    def flight(setup: bytes, leap: bool) -> bytes:
+        one = opened(setup).add(1, 0x11, 0, made.time_f1('138 09:00:00.00', leap=leap))
+        entry(one, 5, 'a')
+        return one.data()
+
+    found = []
+    for setup, leap in ((b'G\\OD:03-01-2022;', False), (b'G\\OD:03-01-2022;', True), (b'G\\OD:09-01-2022;', False), (b'', True)):
+        data = flight(setup, leap)
+        found.append((times([], data)[0][:10], rows(['--channel', '5', '--quality'], data, 'quality')[0][0]))
+    to = io.BytesIO()
+    by_file = command.answer(['csv', '--channel', '5'], lambda: flight(b'', False), lambda: to,
+                             lambda: datetime.date(2026, 3, 1))
+    return (found, to.getvalue().decode().splitlines()[1].split(',')[3][:10], by_file), (
+        [('2022-05-18', 'locked+guessed year'), ('2024-05-17', 'locked+guessed year'), ('2023-05-18', 'locked+guessed year'),
+         ('138 09:00:', 'locked')], '2025-05-18', (0, "times: the year 2025 is guessed by the file's date; --year gives another"))
+
+
+# ---- nothing is left out unseen
+
+def left_out() -> Found:
+    """What could not be read has a line for each channel on standard error: the status is 1 where it is of a kind that the command
+    writes, and 0 where it is not. The same stands in the summary, the database, the catalogue and the report."""
+    one = opened().add(1, 0x11, 0, made.time_f1('2024-05-17 09:00:00.00'))
+    for place in range(3):
+        one.add(6, 0x30, place, made.messages([(place, b'part')], part=1))
+        one.add(20, 0xF3, place, bytes(8))
+    entry(one, 5, 'a')
+    data = one.data()
+    lines = ['channel 6, message: 3 packets not read: another form of its type',
+             'channel 20, type-f3: 3 packets not read: a type that is not read here']
+    with tempfile.TemporaryDirectory() as folder:
+        path = pathlib.Path(folder, 'flight.ch10')
+        path.write_bytes(data)
+        by_file = notes(['sqlite', '--out', folder + '/one.db'], data)
+        base = sqlite3.connect(folder + '/one.db')
+        stored = base.execute('SELECT channel, type, packets, why FROM unread').fetchall()
+        base.close()
+        words = ['--db', folder + '/many.db', '--unjudged', '--jobs', '1', str(path)]
+        loaded = notes(['load', *words], b'')
+        found = run(['catalogue', 'find', '--db', folder + '/many.db', '--json'], b'')[1].decode()
+        shown = run(['catalogue', 'show', '--db', folder + '/many.db', found[12:20]], b'')[1].decode().splitlines()
+        page = run(['report', '--unjudged', str(path)], b'')[1].decode()
+    summed = run(['summary'], data)[1].decode().splitlines()
+    return (notes(['csv'], data)[0], sorted(notes(['csv'], data)[1]), notes(['json', '--channel', '20'], data),
+            notes(['csv', '--kind', 'uart'], data), by_file[0], sorted(by_file[1]), stored, loaded[0],
+            [line.split(': ', 1)[1] for line in loaded[1][:2]], [line for line in shown if line in lines],
+            [line for line in summed if line in lines], [line in page for line in lines], notes(['summary'], data)[0]), (
+                1, sorted(lines), (0, lines[1:]), (0, []), 1, sorted(lines),
+                [(6, 'message', 3, 'another form of its type'), (20, 'type-f3', 3, 'a type that is not read here')], 1, lines,
+                lines, lines, [True, True], 0)
+
+
+def no_setup() -> Found:
+    """That the first packet is no setup is said by every command, with status 0."""
+    one = Recording().add(1, 0x11, 0, made.time_f1('2024-05-17 09:00:00.00'))
+    entry(one, 5, 'a')
+    said = 'the first packet is no setup'
+    found = [notes(words, one.data()) for words in (['csv'], ['json'], ['svg'], ['range', '--from', '0'])]
+    return (found, said in run(['summary'], one.data())[1].decode().splitlines()), ([(0, [said])] * 4, True)
+
+
+def twice() -> Found:
+    """A packet that stands twice is called so: its entries do too."""
+    one = opened().add(1, 0x11, 0, made.time_f1('2024-05-17 09:00:00.00'))
+    entry(one, 5, 'a')
+    one.packets.append(one.packets[-1])
+    entry(one, 9, 'b')
+    return (notes(['csv'], one.data()), len(times([], one.data()))), (
+        (0, ['channel 5, uart: 1 packet stands twice, and so do their entries']), 3)
+
+
+def wrong_sum() -> Found:
+    """The checksum that a packet declares is looked at in every type: a wrong one stops a filter there, and a catalogue and a
+    report say of such a recording, which the program calls lenient, that it is damaged."""
+    one = opened().add(20, 0x09, 5, made.pcm_throughput(bytes(64)), checksum=2)
+    entry(one, 9, 'a')
+    wrong = one.packets[1][:40] + b'\x01' + one.packets[1][41:]
+    data = one.packets[0] + wrong + one.packets[2]
+    with tempfile.TemporaryDirectory() as folder:
+        path, program = pathlib.Path(folder, 'flight.ch10'), pathlib.Path(folder, 'program')
+        path.write_bytes(data)
+        program.write_text('#!/bin/sh\n[ "$1" = --version ] && echo r10 0 || { cat > /dev/null; echo lenient 1; }\n')
+        program.chmod(0o755)
+        run(['catalogue', 'add', '--db', folder + '/many.db', '--program', str(program), '--jobs', '1', str(path)], b'')
+        found = run(['catalogue', 'find', '--db', folder + '/many.db'], b'')[1].decode()
+        page = run(['report', '--program', str(program), str(path)], b'')
+    said = 'a wrong data checksum at offset %d' % len(one.packets[0])
+    return (notes(['csv'], data), notes(['csv', '--keep-going'], data)[0], notes(['summary'], data), 'lenient 1, damaged' in found,
+            page[0], b'lenient 1, damaged' in page[1]), ((1, [said]), 1, (1, [said]), True, 1, True)
+
+
+def database_as_input() -> Found:
+    """A file that is given as a database and as an input is refused, and stays as it is."""
+    with tempfile.TemporaryDirectory() as folder:
+        path = pathlib.Path(folder, 'flight.ch10')
+        path.touch()
+        found = [notes([*words, '--db', str(path), '--unjudged', str(path)], b'') for words in (['catalogue', 'add'], ['load'])]
+        size = path.stat().st_size
+    return (found, size), ([(2, ['%r is the database itself, and no input' % str(path)])] * 2, 0)
+
+
+def long_front() -> Found:
+    """A recording behind more than 16 MiB of other bytes is one where the call says so."""
+    one = opened()
+    entry(one, 5, 'a')
+    data = bytes(17 << 20) + one.data()
+    return (run(['csv', '--keep-going'], data)[0], len(times(['--keep-going', '--front', '20'], data)),
+            run(['csv'], data)[2][:20]), (1, 1, 'neither a recording ')
+
+
 TRIALS: List[Callable[[], Found]] = [
     counter_back, counter_back_ends, counter_back_range, counter_back_states, counter_full, order_of_writing, session_without_times,
-    leap_second, leap_second_ranges, new_year]
+    leap_second, leap_second_ranges, new_year, invalid_format, no_source, qualities, qualities_of_many, best_channel,
+    unlocked_start, year_given, year_by_channel, year_guessed, left_out, no_setup, twice, wrong_sum, database_as_input, long_front]

@@ -597,9 +597,15 @@ def compare_others(data, rows, times):
     said = rows_in(ran(['summary', '--json'], data))
     keys = 'channel', 'type', 'packets', 'entries', 'jumps', 'opaque'
     agree([tuple(row[key] for key in keys) for row in said], rows, 'rows')
-    agree([json.loads(line)['time'] for line in ran(['json'], data).decode().splitlines()], times, 'times')
+    left = ['channel %d, %s: ' % row[:2] for row in rows if row[5] and row[1] in KEYS]
+    status, said_json, line = run(['json'], data)
+    agree([json.loads(line)['time'] for line in said_json.decode().splitlines()], times, 'times')
+    for name in left:
+        if name not in (line or ''):
+            raise Bad('%r does not say what of %s was not read' % (line, name))
+    agree(status, int(bool(left)), 'status')
     tree.fromstring(ran(['svg'], data))
-    ran(['csv'], data)
+    agree(run(['csv'], data)[0], status, 'status of csv')
     ran(['range', '--from', '0'], data)
 
 

@@ -128,7 +128,7 @@ def check_facts(folder: str, dsn: str, made: str) -> None:
                   'an image without a directory')
             continue
         done = subprocess.run([made, 'check'], input=data, stdout=subprocess.PIPE)
-        agree(find.verdict_text(facts), done.stdout.decode().strip(), 'the verdict on ' + path)
+        agree(find.verdict_text(dict(facts, damaged=0)), done.stdout.decode().strip(), 'the verdict on ' + path)
         survey = Survey(data, 0, len(data))
         agree([(one.offset, one.length) for one in survey.damage], damage_of(dsn, facts['sha256']), 'damaged stretches of ' + path)
         rows = [(row.channel, row.packets, row.entries if row.has_entries() else None, row.bytes, *row.counts(),

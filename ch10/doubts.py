@@ -1,0 +1,124 @@
+"""What a command could not read, and what of its times is doubtful: a line each."""
+from __future__ import annotations
+
+from typing import Any, Container, Iterator, List, NamedTuple, Optional
+
+from .inputs import Output, unread_text
+from .kinds import KINDS
+from .standard import INDEX, LOSS, Fault
+from .survey import REPORT_ROW, Survey, name_of
+
+KINDS_READ = frozenset(kind.type for kind in KINDS)
+
+
+class NotRead(Fault):
+    """Packets of a kind that a command writes, which it could not read."""
+
+    def __init__(self, lines: List[str]) -> None:
+        Fault.__init__(self, '%d channels have packets that were not read' % len(lines))
+        self.said = lines
+
+    def lines(self) -> List[str]:
+        return self.said
+
+
+class Unread(NamedTuple):
+    """Packets of a channel and type that were not read, how many, and why."""
+    channel: int
+    kind: int
+    packets: int
+    why: str
+
+    def text(self) -> str:
+        return unread_text(self.channel, name_of(self.kind), self.packets, self.why)
+
+
+def unread_in(survey: Survey) -> Iterator[Unread]:
+    """All packets of a recording that were not read, but for those of what a computer makes."""
+    for row in survey.rows:
+        for why, packets in sorted(row.unread.items()):
+            if row.kind not in (LOSS, INDEX, REPORT_ROW):
+                yield Unread(row.channel, row.kind, packets, why)
+
+
+def doubts_of(survey: Any) -> List[str]:
+    """What of a recording's times is doubtful, and which packets stand twice."""
+    clock, lines = survey.clock, []
+    ends = survey.ends() if survey.rows else []
+    if len(ends) > 1:
+        lines.append('times: the counter went back, so there are %d sessions, each with times of its own' % len(ends))
+        if clock:
+            lines += ['times: session %d has none' % number for number, (low, _) in enumerate(ends, 1) if not clock.text(low)]
+    for line in survey.times:
+        if line.invalid:
+            lines.append('times: %d of %d time packets of channel %d say that they are invalid, and are not used' % (
+                line.invalid, line.packets, line.channel))
+        free, out = len(line.told) - line.locked(), line.out()
+        if clock and line.channel in clock.channels:
+            if free:
+                lines.append('times: the clock of channel %d was not locked at %d of %d times' % (
+                    line.channel, free, len(line.told)))
+            if out:
+                lines.append('times: the counter was out of step at %d of %d times of channel %d' % (
+                    out, len(line.told), line.channel))
+        elif clock and line.told:
+            apart = max(abs(told.said.ticks - clock.at(told.instant)) if clock.text(told.instant) else 0 for told in line.told)
+            if apart > MOST_APART:
+                lines.append('times: they are those of channel %d; channel %d tells others, up to %d.%02d s apart' % (
+                    clock.channel, line.channel, *divmod(apart // 10 ** 5, 100)))
+    if getattr(survey, 'out_of_step', 0):
+        lines.append('times: %s packets say that their counter is out of step' % '{:,}'.format(survey.out_of_step))
+    lines += ['channel %d, %s: %d packet%s twice, and so do their entries' % (
+        row.channel, name_of(row.kind), row.doubled, ' stands' if row.doubled == 1 else 's stand')
+        for row in survey.rows if row.doubled]
+    if clock and clock.year and clock.year.is_guessed:
+        lines.append('times: the year %d is %s; --year gives another' % (clock.year.number, clock.year.source))
+    return lines
+
+
+MOST_APART = 500000  # two channels tell times to 10 ms each, and some recorders one of them late
+
+
+def judge(survey: Survey, out: Output, kinds: Container[int] = (), channels: Optional[Container[int]] = None,
+          only: Optional[int] = None) -> None:
+    """Says what is doubtful and what was not read, and raises what is wrong, when what is good is written: damage, or packets of
+    the kinds that a command writes which it could not read. Of some channels alone, or of one type, where a call asks for these."""
+    for line in doubts_of(survey):
+        out.note(line)
+    bad = []
+    if kinds:
+        for one in unread_in(survey):
+            if (channels is None or one.channel in channels) and only in (None, one.kind):
+                if one.kind in kinds:
+                    bad.append(one.text())
+                else:
+                    out.note(one.text())
+    if bad and not survey.damage and survey.fault is None:
+        say_no_setup(survey, out)
+        raise NotRead(bad)
+    for line in bad:
+        out.note(line)
+    say_no_setup(survey, out)
+    survey.judge()
+
+
+def say_no_setup(survey: Survey, out: Output) -> None:
+    """That the first packet is no setup, as chapter 11 has it."""
+    if has_no_setup(survey):
+        out.note(NO_SETUP)
+
+
+def has_no_setup(survey: Any) -> bool:
+    """Whether the first packet is read, and is no setup."""
+    return bool(survey.rows) and not survey.begins_with_setup and not (survey.damage and survey.damage[0].offset == 0)
+
+
+NO_SETUP = 'the first packet is no setup'
+
+
+def quality_of(survey: Any, instant: int, is_out: bool) -> str:
+    """How good the time of an entry is: locked or free, and what else is to be known of it, with + between them; invalid where it
+    has none and time packets say that they are invalid, and nothing where there are none. `is_out` is of an entry whose packet says
+    that its counter is out of step."""
+    said = survey.clock.quality(instant) if survey.clock else 'invalid' if any(line.invalid for line in survey.times) else ''
+    return said + '+counter error' if said and is_out and not said.endswith('counter error') else said
