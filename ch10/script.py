@@ -1,8 +1,9 @@
-"""A setup text of chapter 9 for the channels of a script of r10."""
+"""A setup text of chapter 9 for the channels of a script of r10, or of the settings of r10d."""
 from __future__ import annotations
 
 from argparse import Namespace
 import re
+import unicodedata
 from typing import Dict, Iterator, List, Tuple
 
 from .inputs import Output
@@ -35,10 +36,14 @@ def by_lines(text: str) -> Tuple[Dict[str, object], Dict[str, List[dict]]]:
     here = top
     for line in text.splitlines():
         head = re.match(r'\s*\[\[(\w+)\]\]\s*(#.*)?$', line)
+        table = re.match(r'\s*\[(\w+)\]\s*(#.*)?$', line)
         found = LINE.match(line)
         if head:
             here = {}
             tables.setdefault(head.group(1), []).append(here)
+        elif table:
+            here = {}
+            top[table.group(1)] = here
         elif found:
             plain, quoted, text_value, digits, rest = found.groups()
             here[plain or quoted] = int(digits.replace('_', '')) if digits else text_value if text_value is not None else rest
@@ -46,11 +51,14 @@ def by_lines(text: str) -> Tuple[Dict[str, object], Dict[str, List[dict]]]:
 
 
 def attributes_of(text: str) -> Iterator[Tuple[str, object]]:
-    """The attributes of a setup text for a script."""
+    """The attributes of a setup text for a script, or for the settings of r10d, which have a table `control` and may leave out the time."""
     top, tables = tables_of(text)
+    is_service = isinstance(top.get('control'), dict)
+    if is_service:
+        top.setdefault('time', 1)
     channels, volume, clock = tables.get('channel', []), top.get('volume'), top.get('time')
     if not isinstance(volume, str) or not volume or not channels or not isinstance(clock, int) or isinstance(clock, bool):
-        raise Fault('no script: it takes volume, time and tables [[channel]]')
+        raise Fault('no script, and no settings of r10d: it takes volume, time and tables [[channel]]')
     if any(mark in volume for mark in ';:\r\n'):
         raise Fault('the volume has a mark that a setup text cannot have in a value')
     for channel in channels:
@@ -71,6 +79,8 @@ def attributes_of(text: str) -> Iterator[Tuple[str, object]]:
     for number, channel in enumerate(channels, 2):
         kind = BY_NAME[channel['kind']]
         name = '%s-%d' % (channel['kind'].upper(), channel['id'])
+        if is_service and isinstance(channel.get('name'), str):
+            name = ''.join('_' if mark in ';:' or is_control(mark) else mark for mark in channel['name'])
         yield from track(number, channel['id'], name, kind)
         group = kind.tmats['group']
         if group:
@@ -78,6 +88,10 @@ def attributes_of(text: str) -> Iterator[Tuple[str, object]]:
             groups[group] += 1
             links += list(link('%s-%d' % (group, groups[group]), name, channel['id'], kind, tables))
     yield from links
+
+
+def is_control(mark: str) -> bool:
+    return unicodedata.category(mark) == 'Cc'
 
 
 def is_whole(value: object) -> bool:

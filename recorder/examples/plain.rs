@@ -13,6 +13,7 @@ use std::sync::mpsc::sync_channel;
 use std::time::{Duration, Instant};
 
 use r10_recorder::figures::Times;
+use r10_recorder::settings::{Header, Udp};
 
 fn main() -> Result<(), Box<dyn std::error::Error>> {
     let words: Vec<String> = std::env::args().skip(1).collect();
@@ -24,7 +25,9 @@ fn main() -> Result<(), Box<dyn std::error::Error>> {
     signal_hook::flag::register(signal_hook::consts::SIGTERM, ending.clone())?;
     let (to, from) = sync_channel::<(Instant, Vec<u8>)>(1 << 20);
     for port in &words[3..] {
-        let (socket, to) = (r10_recorder::udp::open(port.parse()?, None, 64)?, to.clone());
+        let at =
+            Udp { address: port.parse()?, group: None, receive_mib: 64, header: Header::None, stamp_limit: commit, card: None };
+        let (socket, to) = (r10_recorder::udp::open(&at)?, to.clone());
         std::thread::spawn(move || {
             let mut bytes = vec![0; 65536];
             // (a second without a datagram is an error too)

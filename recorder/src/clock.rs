@@ -1,4 +1,5 @@
 //! The two clocks: counts of 100 ns since the service was started, which never step, and civil time, which may.
+use std::collections::VecDeque;
 use std::time::{Duration, Instant};
 
 use time::OffsetDateTime;
@@ -6,8 +7,14 @@ use time::OffsetDateTime;
 /// Counts are below this.
 pub const COUNTS: u64 = 1 << 48;
 
-/// A step of the system's clock of more than this is an event.
-pub const STEP: Duration = Duration::from_millis(500);
+/// The counter begins here, a tenth of a second: so the count at which a hundredth of a second began is none below 0.
+pub const FIRST: u64 = 1_000_000;
+
+/// A step of the system's clock of so much is an event, and so is one of smaller ones that come to it together.
+pub const STEP: Duration = Duration::from_millis(10);
+
+/// A time packet's civil time is told to so many nanoseconds.
+const HUNDREDTH: i128 = 10_000_000;
 
 #[derive(Clone, Copy, Debug)]
 pub struct Counter {
@@ -24,7 +31,20 @@ impl Counter {
     }
 
     pub fn count_at(self, at: Instant) -> u64 {
-        (at.saturating_duration_since(self.start).as_nanos() / 100) as u64
+        self.count_of(self.nanos_at(at))
+    }
+
+    /// The nanoseconds from the counter's start to a time, which may lie before it.
+    pub fn nanos_at(self, at: Instant) -> i128 {
+        match at.checked_duration_since(self.start) {
+            Some(it) => it.as_nanos() as i128,
+            None => -(self.start.duration_since(at).as_nanos() as i128),
+        }
+    }
+
+    /// The count so many nanoseconds after the counter's start. What is before all counts has the least.
+    pub fn count_of(self, nanos: i128) -> u64 {
+        (nanos + i128::from(FIRST) * 100).max(0) as u64 / 100
     }
 }
 
@@ -34,16 +54,69 @@ impl Default for Counter {
     }
 }
 
-/// Both clocks at one time: a thread that has to wait for a processor between the two looks again.
-pub fn both() -> (Instant, OffsetDateTime) {
-    let (mut before, mut civil) = (Instant::now(), OffsetDateTime::now_utc());
-    for _ in 0..20 {
-        if before.elapsed() < Duration::from_millis(10) {
-            break;
+/// A time of the counter and of another clock, which were one.
+#[derive(Clone, Copy, Debug, PartialEq, Eq)]
+pub struct Pair {
+    /// in nanoseconds from the counter's start
+    pub counter: i128,
+    /// the other clock's, in nanoseconds
+    pub other: i128,
+    /// how far they may be off, in nanoseconds
+    pub uncertainty: i128,
+}
+
+impl Pair {
+    /// Looks at the other clock between two looks at the counter. Of three such pairs it is the one with the smallest
+    /// uncertainty, which is half of the time between the looks. Where even that had to wait for a processor there are more tries.
+    pub fn take<E>(counter: Counter, mut other: impl FnMut() -> Result<i128, E>) -> Result<Pair, E> {
+        const PATIENCE: i128 = 50_000;
+        let mut best = Pair::once(counter, &mut other)?;
+        for tried in 1..20 {
+            if tried >= 3 && best.uncertainty <= PATIENCE {
+                break;
+            }
+            let it = Pair::once(counter, &mut other)?;
+            if it.uncertainty < best.uncertainty {
+                best = it;
+            }
         }
-        (before, civil) = (Instant::now(), OffsetDateTime::now_utc());
+        Ok(best)
     }
-    (before, civil)
+
+    fn once<E>(counter: Counter, other: &mut impl FnMut() -> Result<i128, E>) -> Result<Pair, E> {
+        let before = Instant::now();
+        let other = other()?;
+        let (before, after) = (counter.nanos_at(before), counter.nanos_at(Instant::now()));
+        Ok(Pair { counter: (before + after) / 2, other, uncertainty: (after - before + 1) / 2 })
+    }
+
+    /// One with the system's clock, in nanoseconds since 1970 in UTC.
+    pub fn with_system(counter: Counter) -> Pair {
+        match Pair::take(counter, || Ok::<_, std::convert::Infallible>(now())) {
+            Ok(it) => it,
+        }
+    }
+
+    /// How far the other clock is ahead of the counter.
+    pub fn ahead(&self) -> i128 {
+        self.other - self.counter
+    }
+
+    /// The count at which the hundredth of a second of this pair began, and the civil time then.
+    pub fn hundredth(&self, counter: Counter) -> (u64, r10::Civil) {
+        let past = self.other.rem_euclid(HUNDREDTH);
+        (counter.count_of(self.counter - past), civil(at(self.other - past)))
+    }
+}
+
+/// The system's clock, in nanoseconds since 1970.
+pub fn now() -> i128 {
+    OffsetDateTime::now_utc().unix_timestamp_nanos()
+}
+
+/// The civil time so many nanoseconds after 1970. What no date has is the first of that year.
+pub fn at(nanos: i128) -> OffsetDateTime {
+    OffsetDateTime::from_unix_timestamp_nanos(nanos).unwrap_or(OffsetDateTime::UNIX_EPOCH)
 }
 
 pub fn civil(at: OffsetDateTime) -> r10::Civil {
@@ -84,15 +157,57 @@ pub fn parse(text: &str) -> Option<r10::Civil> {
 /// Notices steps of the system's clock: what it went beside the counts.
 #[derive(Debug, Default)]
 pub struct Steps {
-    last: Option<(Instant, OffsetDateTime)>,
+    /// how far it was ahead of the counter when it was last told
+    ahead: Option<i128>,
 }
 
 impl Steps {
-    /// How far the clock stepped since the last look, in seconds, where that is more than [`STEP`].
-    pub fn look(&mut self, now: Instant, civil: OffsetDateTime) -> Option<f64> {
-        let (then, before) = self.last.replace((now, civil))?;
-        let step = (civil - before).as_seconds_f64() - now.saturating_duration_since(then).as_secs_f64();
-        (step.abs() > STEP.as_secs_f64()).then_some(step)
+    /// How far the clock stepped since the last step that was told, in seconds, where that is [`STEP`] or more: so small ones that
+    /// come to it together are one.
+    pub fn look(&mut self, pair: &Pair) -> Option<f64> {
+        let ahead = *self.ahead.get_or_insert(pair.ahead());
+        let step = pair.ahead() - ahead;
+        // (a pair that had to wait is no measure: the next one is)
+        if pair.uncertainty > 1_000_000 || step.abs() + 50_000 < STEP.as_nanos() as i128 {
+            return None;
+        }
+        self.ahead = Some(pair.ahead());
+        Some(step as f64 / 1e9)
+    }
+}
+
+/// Notices that the system's clock is steered: how fast the counter goes beside the machine's own oscillator, which nobody steers.
+#[derive(Debug, Default)]
+pub struct Drift {
+    looks: VecDeque<(i128, i128)>,
+    is_told: bool,
+}
+
+impl Drift {
+    /// So many looks are kept, one a second.
+    const LOOKS: usize = 60;
+    /// An oscillator is off by less than so many millionths; who steers more than that has an error to take away.
+    pub const TOLD: f64 = 100.0;
+
+    /// The counter and the oscillator were at these nanoseconds. Whether there is something new to be told.
+    pub fn look(&mut self, pair: &Pair) -> bool {
+        self.looks.push_back((pair.counter, pair.other));
+        if self.looks.len() > Drift::LOOKS {
+            self.looks.pop_front();
+        }
+        let is_steered = self.looks.len() > 10 && self.rate().abs() > Drift::TOLD;
+        std::mem::replace(&mut self.is_told, is_steered) != is_steered
+    }
+
+    /// How many millionths the counter is faster, over the last minute.
+    pub fn rate(&self) -> f64 {
+        match (self.looks.front(), self.looks.back()) {
+            (Some(first), Some(last)) if last.1 > first.1 => {
+                let (counter, other) = (last.0 - first.0, last.1 - first.1);
+                (counter - other) as f64 / other as f64 * 1e6
+            }
+            _ => 0.0,
+        }
     }
 }
 
@@ -121,17 +236,69 @@ mod tests {
         }
     }
 
+    fn pair(counter: i128, other: i128) -> Pair {
+        Pair { counter, other, uncertainty: 40 }
+    }
+
     #[test]
     fn a_step_is_noticed_once() {
-        let (now, civil) = (Instant::now(), OffsetDateTime::from_unix_timestamp(1_709_210_096).unwrap());
-        let second = Duration::from_secs(1);
+        const SECOND: i128 = 1_000_000_000;
+        const MILLI: i128 = 1_000_000;
+        let start = 1_709_210_096 * SECOND;
         let mut steps = Steps::default();
-        assert_eq!(steps.look(now, civil), None);
-        assert_eq!(steps.look(now + second, civil + second), None);
-        assert_eq!(steps.look(now + 2 * second, civil + 2 * second + Duration::from_millis(400)), None);
-        let found = steps.look(now + 3 * second, civil + 63 * second).unwrap();
-        assert!((found - 59.6).abs() < 0.001, "{found}");
-        assert_eq!(steps.look(now + 4 * second, civil + 64 * second), None);
-        assert!(steps.look(now + 5 * second, civil).unwrap() < -64.0);
+        assert_eq!(steps.look(&pair(0, start)), None);
+        assert_eq!(steps.look(&pair(SECOND, start + SECOND + 9 * MILLI)), None);
+        // small ones come together
+        let found = steps.look(&pair(2 * SECOND, start + 2 * SECOND + 18 * MILLI)).unwrap();
+        assert!((found - 0.018).abs() < 1e-9, "{found}");
+        assert_eq!(steps.look(&pair(3 * SECOND, start + 3 * SECOND + 18 * MILLI)), None);
+        let found = steps.look(&pair(4 * SECOND, start + 4 * SECOND + 8 * MILLI)).unwrap();
+        assert!((found + 0.010).abs() < 1e-9, "{found}");
+        assert_eq!(steps.look(&pair(5 * SECOND, start + 3605 * SECOND)).map(|it| it.round()), Some(3600.0));
+        assert!(steps.look(&pair(6 * SECOND, start)).unwrap() < -3605.0);
+    }
+
+    /// The count of a time packet is the one at which its hundredth began, and the counter has it.
+    #[test]
+    fn a_hundredth_begins_at_its_count() {
+        let counter = Counter::new();
+        let start = 1_709_210_096_000_000_000;
+        for (past, centi) in [(0, 0), (1, 0), (9_999_999, 0), (10_000_000, 1), (789_123_456, 78), (999_999_999, 99)] {
+            let (count, civil) = pair(50, start + past).hundredth(counter);
+            assert_eq!(civil.centi, centi);
+            let off = i128::from(count) * 100 - (i128::from(FIRST) * 100 + 50 - past % 10_000_000);
+            assert!((-100..=0).contains(&off), "{past}: {off}");
+        }
+        // a clock before 1970
+        assert_eq!(text(&pair(0, -1).hundredth(counter).1), "1969-12-31 23:59:59.99");
+    }
+
+    #[test]
+    fn a_pair_has_its_uncertainty() {
+        let (counter, mut calls) = (Counter::new(), 0);
+        let it = Pair::take(counter, || {
+            calls += 1;
+            std::thread::sleep(Duration::from_micros(if calls == 2 { 100 } else { 3000 }));
+            Ok::<_, ()>(calls)
+        });
+        // (a test may have to wait for a processor)
+        assert!(calls >= 3 && it.unwrap().uncertainty >= 50_000, "{calls} {it:?}");
+        let (one, other) = (Pair::with_system(counter), Pair::with_system(counter));
+        assert!((one.ahead() - other.ahead()).abs() <= one.uncertainty + other.uncertainty + 1000, "{one:?} {other:?}");
+    }
+
+    #[test]
+    fn steering_is_told_when_it_begins_and_ends() {
+        const SECOND: i128 = 1_000_000_000;
+        let (mut drift, mut told, mut counter) = (Drift::default(), Vec::new(), 0);
+        for second in 0..300 {
+            counter += SECOND + if (100..200).contains(&second) { 500_000 } else { 20_000 };
+            if drift.look(&pair(counter, second * SECOND)) {
+                told.push(second);
+            }
+        }
+        assert_eq!(told.len(), 2);
+        assert!((100..130).contains(&told[0]) && (200..260).contains(&told[1]), "{told:?}");
+        assert!((drift.rate() - 20.0).abs() < 0.1, "{}", drift.rate());
     }
 }

@@ -49,6 +49,14 @@ pub struct Came {
     pub lost: AtomicU64,
     /// taken for no message: a line that cannot be read, or bytes that are none of the channel's kind
     pub bad: AtomicU64,
+    /// messages whose stamp was not later than the last one's, so that it is the last one's and one more
+    pub moved: AtomicU64,
+    /// messages whose stamp was not taken: it is the time at which they were read
+    pub unstamped: AtomicU64,
+    /// messages that came after a later one of their source
+    pub late: AtomicU64,
+    /// packets of chapter 10 whose messages are not recorded, as of another type or channel
+    pub others: AtomicU64,
 }
 
 const MOST_ITEMS: usize = 512;
@@ -88,10 +96,15 @@ pub fn feed(owner: Thread, counter: Counter, limit: usize, channels: &[(usize, A
 }
 
 impl Feed {
-    /// A message came, and so many of its channel were lost before it. `channel` is its number among the feed's channels. Where
-    /// there is no room it is lost too.
+    /// A message came now: see [`Feed::message_at`].
     pub fn message(&mut self, channel: usize, lost: u64, head: Head, bytes: &[u8]) {
-        let (count, has_room) = (self.counter.count(), self.has_room(bytes.len()));
+        self.message_at(channel, lost, self.counter.count(), head, bytes);
+    }
+
+    /// A message came at a count, and so many of its channel were lost before it. `channel` is its number among the feed's channels.
+    /// Where there is no room it is lost too.
+    pub fn message_at(&mut self, channel: usize, lost: u64, count: u64, head: Head, bytes: &[u8]) {
+        let has_room = self.has_room(bytes.len());
         let Some(it) = self.channels.get_mut(channel) else { return };
         it.came.messages.fetch_add(1, Relaxed);
         it.came.bytes.fetch_add(bytes.len() as u64, Relaxed);
@@ -102,7 +115,10 @@ impl Feed {
             it.came.lost.fetch_add(1, Relaxed);
             return;
         }
-        // no two messages of a channel have the same count, so each can be found by it
+        // no two messages of a channel have the same count, so each can be found by it, and none is before the last one
+        if count <= it.last {
+            it.came.moved.fetch_add(1, Relaxed);
+        }
         it.last = count.max(it.last + 1);
         self.batch.items.push(Item {
             place: it.place,
@@ -122,6 +138,16 @@ impl Feed {
         if let Some(it) = self.channels.get_mut(channel) {
             it.came.bad.fetch_add(1, Relaxed);
         }
+    }
+
+    /// The count of now.
+    pub fn counter(&self) -> Counter {
+        self.counter
+    }
+
+    /// What is counted of a channel.
+    pub fn came(&self, channel: usize) -> Option<&Came> {
+        self.channels.get(channel).map(|it| it.came.as_ref())
     }
 
     /// So many messages of a channel were lost before the next one.
@@ -245,6 +271,21 @@ mod tests {
             }
         }
         assert!(messages > 0 && messages + lost == 1000, "{messages} messages, {lost} lost");
+    }
+
+    /// A stamp that is not later than the last one of its channel takes that one's place and one more. Other channels are not touched.
+    #[test]
+    fn no_two_messages_of_a_channel_have_one_count() {
+        let came = [Arc::new(Came::default()), Arc::default()];
+        let (mut feed, outlet) =
+            feed(std::thread::current(), Counter::new(), 1 << 20, &[(3, came[0].clone()), (4, came[1].clone())]);
+        for (channel, count) in [(0, 500), (0, 500), (1, 500), (0, 400), (0, 503), (0, 502), (1, 501)] {
+            feed.message_at(channel, 0, count, HEAD, b"");
+        }
+        feed.flush();
+        let found: Vec<_> = outlet.take().unwrap().items.iter().map(|it| (it.place, it.count)).collect();
+        assert_eq!(found, [(3, 500), (3, 501), (4, 500), (3, 502), (3, 503), (3, 504), (4, 501)]);
+        assert_eq!((came[0].moved.load(Relaxed), came[1].moved.load(Relaxed)), (3, 0));
     }
 
     #[test]

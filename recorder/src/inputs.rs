@@ -8,7 +8,7 @@ use std::time::Duration;
 
 use crate::clock::Counter;
 use crate::feed::{Came, Feed, Outlet, feed};
-use crate::settings::{Input, Settings};
+use crate::settings::{Header, Input, Settings};
 use crate::{info, pipe, serial, udp, warning};
 
 /// How long an input waits before it opens its line or pipe again.
@@ -28,9 +28,16 @@ pub fn start(settings: &Settings, counter: Counter, came: &[Arc<Came>], owner: &
     for (place, channel) in settings.channels.iter().enumerate() {
         match &channel.input {
             None => info!("channel {}: it has no input", channel.id),
-            Some(Input::Udp { address, group, receive_mib }) => {
-                let (address, group, receive_mib) = (*address, *group, *receive_mib);
-                let open = move || udp::open(address, group, receive_mib);
+            Some(Input::Udp(it)) => {
+                let (from, address) = (it.clone(), it.address);
+                // with a header several channels may have one socket: it is the first one's
+                let places: Vec<usize> = (place..settings.channels.len())
+                    .filter(|at| *at == place || it.header != Header::None && settings.channels[*at].has(address))
+                    .collect();
+                if it.header != Header::None && settings.channels[..place].iter().any(|it| it.has(address)) {
+                    continue;
+                }
+                let open = move || udp::open(&from);
                 let what = format!("channel {}: UDP {address}", channel.id);
                 let socket = match open() {
                     Ok(it) => Some(it),
@@ -41,10 +48,11 @@ pub fn start(settings: &Settings, counter: Counter, came: &[Arc<Came>], owner: &
                         return Err(io::Error::new(error.kind(), text));
                     }
                 };
-                let (feed, channel) = (queue(&[place]), channel.clone());
+                let feed = queue(&places);
+                let channels: Vec<_> = places.iter().map(|it| settings.channels[*it].clone()).collect();
                 thread::Builder::new().name(format!("udp {}", channel.id)).spawn(move || {
                     let socket = socket.unwrap_or_else(|| udp::until_there(&what, open));
-                    udp::run(socket, feed, &channel);
+                    udp::run(socket, feed, &channels);
                 })?;
             }
             Some(Input::Serial { path, baud, end, length, pause }) => {

@@ -134,6 +134,24 @@ impl Kind {
         })
     }
 
+    /// What follows the header of a datagram is, with the header's words for this kind: a message, and how many of the bytes go with it;
+    /// or none.
+    pub fn of_header(self, bytes: &[u8], sub: u16, word: u32) -> Option<(Head, usize)> {
+        let (head, length) = self.of_bytes(bytes, sub)?;
+        let bit = |it: u32| word >> it & 1 == 1;
+        let (head, used) = match head {
+            Head::Uart { sub, .. } => (Head::Uart { parity: bit(0), sub }, 1),
+            Head::Bus1553 { .. } => (Head::Bus1553 { status: word as u16, gap_times: (word >> 16) as u16 }, 32),
+            Head::Arinc { word: data, .. } => {
+                (Head::Arinc { bus: word as u8, high: bit(8), parity: bit(9), format: bit(10), word: data }, 11)
+            }
+            Head::Discrete { .. } => (head, 0),
+            Head::Message { sub, .. } => (Head::Message { data_error: bit(0), format: bit(1), sub }, 2),
+        };
+        // what has no meaning is 0, so that it may have one later
+        (word.checked_shr(used).unwrap_or(0) == 0 && (sub == 0 || self.is_bytes())).then_some((head, length))
+    }
+
     /// What a line with these keys is: a message with its bytes, or why it is none.
     pub fn of_line(self, keys: &Keys) -> Result<(Head, Vec<u8>), String> {
         if let Some((key, _)) = keys.given().iter().find(|(key, is_there)| *is_there && !self.keys().contains(key)) {
@@ -323,6 +341,20 @@ mod tests {
         let word = Head::Arinc { bus: 0, format: false, parity: false, high: false, word: 0x6000_00c1 };
         assert_eq!(of(Kind::Arinc, &[0xc1, 0, 0, 0x60]), Some((word, 0)));
         assert_eq!((of(Kind::Arinc, &[0; 3]), of(Kind::Discrete, &[0; 8])), (None, None));
+    }
+
+    #[test]
+    fn the_words_of_a_header_are_of_a_kind() {
+        let of = |kind: Kind, sub, word, bytes: &[u8]| kind.of_header(bytes, sub, word).map(|it| it.0);
+        assert_eq!(of(Kind::Uart, 9, 1, b"a"), Some(Head::Uart { parity: true, sub: 9 }));
+        assert_eq!(of(Kind::Bus1553, 0, 0xffff_2000, &[1, 2]), Some(Head::Bus1553 { status: 0x2000, gap_times: 0xffff }));
+        let word = Head::Arinc { bus: 7, format: true, parity: false, high: true, word: 1 };
+        assert_eq!(of(Kind::Arinc, 0, 0x507, &[1, 0, 0, 0]), Some(word));
+        assert_eq!(of(Kind::Discrete, 0, 0, &[1, 0, 0, 0]), Some(Head::Discrete { states: 1 }));
+        assert_eq!(of(Kind::Message, 3, 2, b""), Some(Head::Message { data_error: false, format: true, sub: 3 }));
+        for (kind, sub, word) in [(Kind::Uart, 0, 2), (Kind::Arinc, 0, 0x800), (Kind::Arinc, 1, 0), (Kind::Discrete, 0, 1)] {
+            assert_eq!(of(kind, sub, word, &[0; 4]), None, "{kind:?}");
+        }
     }
 
     /// What a kind wants, or does not have, is said with the names of those that have it.

@@ -5,17 +5,25 @@
 #![forbid(unsafe_code)]
 
 pub mod acknowledge;
+pub mod bodies;
+pub mod chapter10;
+pub mod chapter6;
 pub mod clock;
+pub mod clock_programs;
+pub mod clock_state;
 pub mod control;
+pub mod dates;
 pub mod entries;
 pub mod feed;
 pub mod figures;
+pub mod header;
 pub mod inputs;
 pub mod kinds;
 pub mod live;
 pub mod log;
 pub mod medium;
 pub mod metrics;
+pub mod notes;
 pub mod owner;
 pub mod pipe;
 pub mod readers;
@@ -23,6 +31,8 @@ pub mod recording;
 pub mod recovery;
 pub mod serial;
 pub mod settings;
+pub mod setup_text;
+pub mod stamps;
 pub mod udp;
 pub mod watchdog;
 pub mod words;

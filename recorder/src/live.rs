@@ -4,12 +4,15 @@
 //! them.
 use std::io;
 use std::net::{SocketAddr, UdpSocket};
+use std::time::{Duration, Instant};
 
 use crate::inputs::Seldom;
 use crate::udp;
 
 /// The bytes of a packet that go into one datagram: with the headers they fit an Ethernet frame.
 const SEGMENT: usize = 1440;
+/// How often the setup packet goes out again, for who joins later.
+const SETUP_AGAIN: Duration = Duration::from_secs(5);
 /// How many may be sent to.
 const MOST: usize = 8;
 
@@ -18,6 +21,8 @@ struct To {
     socket: UdpSocket,
     /// of 24 bits, one for each datagram
     sequence: u32,
+    /// when it was told the setup last
+    told: Option<Instant>,
 }
 
 #[derive(Default)]
@@ -25,6 +30,8 @@ pub struct Live {
     to: Vec<To>,
     /// the bytes of the file that have gone out
     pub shown: u64,
+    /// the setup packet, with which the file begins
+    pub setup: Vec<u8>,
     pub datagrams: u64,
     /// datagrams that the system did not take
     pub dropped: u64,
@@ -45,7 +52,7 @@ impl Live {
         if self.to.len() >= MOST || self.to.iter().any(|it| it.address == address) {
             return Ok(false);
         }
-        self.to.push(To { address, socket: udp::sender(address)?, sequence: 0 });
+        self.to.push(To { address, socket: udp::sender(address)?, sequence: 0, told: None });
         Ok(true)
     }
 
@@ -67,27 +74,50 @@ impl Live {
     /// A file begins.
     pub fn begin(&mut self) {
         self.shown = 0;
+        self.setup.clear();
+        self.to.iter_mut().for_each(|it| it.told = None);
     }
 
-    /// These bytes of the file became durable: whole packets.
+    /// The bytes with which the file begins: its setup packet is one of them.
+    pub fn keep_setup(&mut self, front: &[u8]) {
+        self.setup = packets(front).next().unwrap_or_default().to_vec();
+    }
+
+    /// These bytes of the file became durable: whole packets. Before them goes the setup packet, to who did not get it for a while.
     pub fn send(&mut self, bytes: &[u8]) {
+        let is_front = self.shown == 0;
         self.shown += bytes.len() as u64;
+        let (now, setup) = (Instant::now(), std::mem::take(&mut self.setup));
+        for to in 0..self.to.len() {
+            let it = &mut self.to[to];
+            if it.told.is_none_or(|it| now.duration_since(it) >= SETUP_AGAIN) && !setup.is_empty() {
+                it.told = Some(now);
+                // (a file begins with it)
+                if !is_front {
+                    self.send_packet(to, &setup);
+                }
+            }
+            for packet in packets(bytes) {
+                self.send_packet(to, packet);
+            }
+        }
+        self.setup = setup;
+    }
+
+    fn send_packet(&mut self, to: usize, packet: &[u8]) {
+        let to = &mut self.to[to];
         let mut datagram = Vec::with_capacity(SEGMENT + 12);
-        for packet in packets(bytes) {
-            for to in &mut self.to {
-                for (number, part) in packet.chunks(SEGMENT).enumerate() {
-                    datagram.clear();
-                    header(&mut datagram, to.sequence, packet, (packet.len() > SEGMENT).then_some(SEGMENT * number));
-                    datagram.extend_from_slice(part);
-                    to.sequence = (to.sequence + 1) & 0xff_ffff;
-                    match to.socket.send_to(&datagram, to.address) {
-                        Ok(_) => self.datagrams += 1,
-                        Err(error) => {
-                            self.dropped += 1;
-                            let address = to.address;
-                            self.seldom.warn(|| format!("a datagram to {address} did not go out: {error}"));
-                        }
-                    }
+        for (number, part) in packet.chunks(SEGMENT).enumerate() {
+            datagram.clear();
+            header(&mut datagram, to.sequence, packet, (packet.len() > SEGMENT).then_some(SEGMENT * number));
+            datagram.extend_from_slice(part);
+            to.sequence = (to.sequence + 1) & 0xff_ffff;
+            match to.socket.send_to(&datagram, to.address) {
+                Ok(_) => self.datagrams += 1,
+                Err(error) => {
+                    self.dropped += 1;
+                    let address = to.address;
+                    self.seldom.warn(|| format!("a datagram to {address} did not go out: {error}"));
                 }
             }
         }
@@ -147,6 +177,29 @@ mod tests {
             found.extend(&bytes[if kind == 1 { 12 } else { 4 }..count]);
         }
         assert!(found == file && live.shown == file.len() as u64 && live.datagrams == 8);
+    }
+
+    /// Who joins later gets the setup packet first, and all get it again after a while.
+    #[test]
+    fn the_setup_packet_comes_first_and_again() {
+        let receiver = UdpSocket::bind("127.0.0.1:0").unwrap();
+        let mut live = Live::new(None).unwrap();
+        let file = [packet(0, 0, 28), packet(5, 0, 24), packet(5, 1, 32)];
+        live.keep_setup(&file.concat());
+        live.send(&file[0]);
+        live.add(receiver.local_addr().unwrap()).unwrap();
+        live.send(&file[1]);
+        live.send(&file[2]);
+        live.to[0].told = Instant::now().checked_sub(SETUP_AGAIN);
+        live.send(&file[2]);
+        live.begin();
+        live.keep_setup(&file.concat());
+        live.send(&file.concat());
+        let mut bytes = [0; 2000];
+        for wanted in [0, 1, 2, 0, 2, 0, 1, 2] {
+            let count = receiver.recv(&mut bytes).unwrap();
+            assert_eq!(bytes[4..count], file[wanted][..]);
+        }
     }
 
     #[test]

@@ -65,7 +65,7 @@ const WHOLE: [(&str, &str, &str, &str); 9] = [
     ("memory_kib", "memory_kibibytes", "gauge", "Memory of the service's own."),
 ];
 
-const OF_CHANNELS: [(&str, &str, &str); 7] = [
+const OF_CHANNELS: [(&str, &str, &str); 11] = [
     ("came", "messages_total", "Messages that came."),
     ("bytes", "bytes_total", "Bytes that came."),
     ("durable", "durable_total", "Messages that are durable."),
@@ -73,6 +73,10 @@ const OF_CHANNELS: [(&str, &str, &str); 7] = [
     ("refused", "refused_total", "Messages that the recorder refused."),
     ("bad", "bad_total", "Lines and datagrams that are no message."),
     ("passed", "passed_total", "Messages that came while nothing was recorded."),
+    ("moved", "moved_total", "Messages whose stamp was not later than the last one's."),
+    ("unstamped", "unstamped_total", "Messages whose stamp was not taken."),
+    ("others", "other_packets_total", "Packets of chapter 10 that are not recorded, as of another type."),
+    ("late", "late_total", "Messages that came after a later one of their source."),
 ];
 
 /// The metrics of the figures.
@@ -85,6 +89,7 @@ fn of(figures: &Value) -> String {
         let _ =
             writeln!(out, "# HELP r10_{name} {help}\n# TYPE r10_{name} {kind}\nr10_{name} {}", figures[key].as_u64().unwrap_or(0));
     }
+    out += &of_clock(&figures["clock"]);
     for (key, name, help) in OF_CHANNELS {
         let _ = writeln!(out, "# HELP r10_{name} {help}\n# TYPE r10_{name} counter");
         for channel in figures["channels"].as_array().map_or(&[][..], Vec::as_slice) {
@@ -102,23 +107,45 @@ fn of(figures: &Value) -> String {
     out
 }
 
+/// Of the clock. What is not known has no line.
+fn of_clock(clock: &Value) -> String {
+    let synchronised = clock["synchronised"].as_bool().map(|it| f64::from(u8::from(it)));
+    let mut out = String::new();
+    for (name, help, value) in [
+        ("clock_synchronised", "Whether the system's clock is in sync.", synchronised),
+        ("clock_error_seconds", "The most that it is off.", clock["error_ns"].as_f64().map(|it| it / 1e9)),
+        ("clock_drift_ppm", "How fast it is steered, in millionths.", clock["drift_ppm"].as_f64()),
+        ("clock_last_step_seconds", "Its last step.", clock["last_step_s"].as_f64()),
+        ("clock_pps", "Whether a pulse comes each second.", clock["pps"].as_bool().map(|it| f64::from(u8::from(it)))),
+        ("clock_pps_offset_seconds", "How far the pulse is off.", clock["pps_offset_ns"].as_f64().map(|it| it / 1e9)),
+    ] {
+        if let Some(value) = value {
+            let _ = writeln!(out, "# HELP r10_{name} {help}\n# TYPE r10_{name} gauge\nr10_{name} {value}");
+        }
+    }
+    out
+}
+
 #[cfg(test)]
 mod tests {
     use super::*;
 
     #[test]
     fn figures_become_lines() {
-        let figures = serde_json::json!({ "state": "recording", "free": 512, "channels": [{ "id": 5, "name": "GPS \"1\"",
+        let figures = serde_json::json!({ "state": "recording", "free": 512, "clock": { "synchronised": true,
+        "error_ns": 1500 }, "channels": [{ "id": 5, "name": "GPS \"1\"",
         "came": 7, "lost": 2 }] });
         let text = of(&figures);
         for line in [
             "r10_recording 1",
             "r10_free_bytes 512",
+            "r10_clock_synchronised 1",
+            "r10_clock_error_seconds 0.0000015",
             "r10_messages_total{channel=\"5\",name=\"GPS 1\"} 7",
             "r10_lost_total{channel=\"5\",name=\"GPS 1\"} 2",
         ] {
             assert!(text.lines().any(|it| it == line), "{line} in\n{text}");
         }
-        assert_eq!(text.lines().filter(|it| it.starts_with("# TYPE")).count(), 1 + WHOLE.len() + OF_CHANNELS.len());
+        assert_eq!(text.lines().filter(|it| it.starts_with("# TYPE")).count(), 1 + 2 + WHOLE.len() + OF_CHANNELS.len());
     }
 }

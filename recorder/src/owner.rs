@@ -10,7 +10,9 @@ use std::time::{Duration, Instant};
 use r10::{Error, Recorder};
 
 use crate::acknowledge::Acknowledge;
-use crate::clock::{Counter, Steps};
+use crate::chapter6::{CRITICAL, Noted};
+use crate::clock::Counter;
+use crate::clock_state::Keeper;
 use crate::control::Command;
 use crate::feed::{Batch, Came, Item, Outlet};
 use crate::figures::Times;
@@ -63,6 +65,8 @@ pub enum State {
     Full,
     /// the disk failed: at this moment it is tried again, if at all
     Failed(Option<Instant>),
+    /// the medium was given up by a command
+    Dismounted,
 }
 
 /// A message that was accepted and is not durable.
@@ -132,11 +136,17 @@ pub struct Owner {
     pub(crate) began: Instant,
     pub(crate) committed: Instant,
     pub(crate) ticked: Instant,
+    /// those of the file that is or was recorded
+    pub(crate) noted: VecDeque<Noted>,
+    /// by feature, which bits of its health are critical
+    pub(crate) critical: Vec<u32>,
     pub has_news: bool,
     /// whether a recording goes on after a failure
     pub(crate) wants: bool,
-    pub(crate) steps: Steps,
+    pub clock: Keeper,
     pub clock_steps: u64,
+    /// a recording begins by itself once the clock is in sync, at this moment at the latest
+    pub(crate) waits: Option<Instant>,
     pub failures: u32,
     /// failures since the last commit that went through
     pub(crate) tries: u32,
@@ -184,7 +194,11 @@ impl Owner {
             seldom: Seldom::default(),
         });
         let now = Instant::now();
+        let critical = std::iter::once(CRITICAL).chain(settings.channels.iter().map(|_| 0)).collect();
+        let clock = Keeper::new(&settings, counter);
+        clock.start(&settings)?;
         Ok(Owner {
+            clock,
             medium: Medium::new(&settings),
             lanes: lanes.collect(),
             live: Live::new(settings.publish)?,
@@ -206,10 +220,12 @@ impl Owner {
             began: now,
             committed: now,
             ticked: now,
+            noted: VecDeque::new(),
+            critical,
             has_news: false,
             wants: false,
-            steps: Steps::default(),
             clock_steps: 0,
+            waits: None,
             failures: 0,
             tries: 0,
             why: String::new(),
@@ -224,6 +240,9 @@ impl Owner {
     pub fn begin(&mut self) -> Result<bool, Refusal> {
         self.medium.make()?;
         self.medium.describe();
+        let look = self.clock.look();
+        let found = self.clock.judge(&look.pair);
+        found.notes.iter().for_each(|(is_warning, text)| self.note(*is_warning, text));
         let goes_on = self.medium.goes_on();
         let begins = |was_cut: bool, begin: Begin| begin == Begin::Record || begin == Begin::Resume && (was_cut || goes_on);
         match self.open() {
@@ -245,7 +264,7 @@ impl Owner {
     pub fn run(&mut self, outlets: Vec<Outlet>, records: bool) -> bool {
         self.outlets = outlets;
         if records {
-            self.resume();
+            self.begin_in_time();
         }
         loop {
             let done = self.turn();
@@ -273,6 +292,7 @@ impl Owner {
     fn turn(&mut self) -> Result<(), Trouble> {
         watchdog::beat();
         self.retry();
+        self.wait_for_time();
         let mut has_more = self.take_in()?;
         // who asks without an end has a turn too, and what comes has the next one
         let until = Instant::now() + TURN;
@@ -465,6 +485,10 @@ impl Owner {
         let _ = sd_notify::notify(false, &[sd_notify::NotifyState::Stopping]);
         let done = self.take_in_all();
         self.mind(done);
+        if self.state == State::Dismounted {
+            info!("the service has ended; the medium was dismounted before");
+            return true;
+        }
         if self.recorder.is_none() {
             warning!("the service ends; recording was down: {}", self.why);
             return false;
@@ -631,9 +655,11 @@ mod tests {
         it.owner.take_in_all().unwrap();
         assert_eq!((it.owner.state, it.owner.medium.goes_on()), (State::Full, true));
         assert!(it.ask(".EVENT 1").starts_with("E 04 MEMORY FULL: there is no room for another file, and the event is in none"));
-        assert!(it.ask(".STATUS").starts_with("S 01 1 1 "));
+        // (a clock that is not in sync is a warning)
+        let warnings = 1 + u32::from(it.owner.clock.known.is_synchronised() != Some(true));
+        assert!(it.ask(".STATUS").starts_with(&format!("S 01 {warnings} 1 ")));
         assert_eq!((it.ask(".STOP"), it.owner.state, it.owner.medium.goes_on()), (String::new(), State::Idle, false));
-        assert!(it.ask(".STATUS").starts_with("S 01 1 0 "));
+        assert!(it.ask(".STATUS").starts_with(&format!("S 01 {warnings} 0 ")));
         assert_eq!((it.ask(".ERASE"), it.ask(".RECORD"), it.ask(".EVENT 1")), (String::new(), String::new(), String::new()));
     }
 

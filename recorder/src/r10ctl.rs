@@ -220,9 +220,21 @@ fn of_line(word: &str, line: &str) -> Value {
             "state": number(state), "name": state_name(state), "warnings": number(warnings), "critical": number(critical),
             "used_percent": number(used.trim_end_matches('%')),
         }),
-        ("files", [file, name, block, bytes, state]) => {
+        ("files", [file, name, block, bytes, state, date, begin, end]) => {
             json!({ "file": number(file), "name": name, "block": number(block), "bytes": number(bytes),
-            "closed": *state == "closed" })
+            "closed": *state == "closed", "date": date, "begin": begin, "end": end })
+        }
+        ("media", ["MEDIA", size, used, left]) => {
+            json!({ "block_bytes": number(size), "used_blocks": number(used), "left_blocks": number(left) })
+        }
+        ("event", [event, date, time, count, ..]) => json!({
+            "event": number(event), "time": format!("{date} {time}"), "count": number(count), "text": parts[4..].join(" "),
+        }),
+        ("bit", ["BIT", test, is @ ("ok" | "FAILED"), ..]) => {
+            json!({ "test": number(test), "ok": *is == "ok", "text": parts[3..].join(" ") })
+        }
+        ("critical", [feature, bits, ..]) => {
+            json!({ "feature": number(feature), "mask": u32::from_str_radix(bits, 16).ok(), "text": parts[2..].join(" ") })
         }
         ("health", [feature, bits, ..]) => {
             json!({ "feature": number(feature), "bits": u32::from_str_radix(bits, 16).ok(), "text": parts[2..].join(" ") })
@@ -234,6 +246,7 @@ fn of_line(word: &str, line: &str) -> Value {
         ("medium", [.., blocks, directory]) if parts.len() > 2 => {
             json!({ "path": parts[..parts.len() - 2].join(" "), "blocks": number(blocks), "directory": number(directory) })
         }
+        ("time", [key, ..]) => json!({ "key": key.to_ascii_lowercase(), "value": parts[1..].join(" ") }),
         ("figures", _) => serde_json::from_str(line).unwrap_or(Value::Null),
         _ => json!({ "text": line }),
     }
@@ -324,6 +337,24 @@ fn drawn(it: &Value, before: Option<(f64, &Value)>) -> String {
         mib(number(&it["queued_bytes"])),
         mib(number(&it["memory_kib"]) << 10)
     );
+    let clock = &it["clock"];
+    let is = match clock["synchronised"].as_bool() {
+        Some(true) => "in sync",
+        Some(false) => "NOT IN SYNC",
+        None => "not known to be in sync",
+    };
+    let error = clock["error_ns"].as_f64().map_or("error not known".to_string(), |it| format!("error at most {:.3} ms", it / 1e6));
+    let pulse = match (clock["pps"].as_bool(), clock["pps_offset_ns"].as_f64()) {
+        (Some(true), Some(it)) => format!(", pulse {:+.3} ms off", it / 1e6),
+        (Some(_), _) => ", NO PULSE".to_string(),
+        (None, _) => String::new(),
+    };
+    let _ = writeln!(
+        out,
+        "clock {is} ({}), {error}, steered by {:+.1} ppm{pulse}",
+        clock["source"].as_str().unwrap_or("?"),
+        clock["drift_ppm"].as_f64().unwrap_or(0.0)
+    );
     if it["why"] != "" {
         let _ = writeln!(out, "last failure: {}", it["why"].as_str().unwrap_or(""));
     }
@@ -369,8 +400,9 @@ mod tests {
             json!({ "state": 5, "name": "RECORD", "warnings": 1, "critical": 0, "used_percent": 12 })
         );
         assert_eq!(
-            of_line("files", "2 FLT1 66 704 closed"),
-            json!({ "file": 2, "name": "FLT1", "block": 66, "bytes": 704, "closed": true })
+            of_line("files", "2 FLT1 66 704 closed 2024-02-29 12:34:56.78 -"),
+            json!({ "file": 2, "name": "FLT1", "block": 66, "bytes": 704, "closed": true, "date": "2024-02-29",
+            "begin": "12:34:56.78", "end": "-" })
         );
         assert_eq!(of_line("health", "0 80000001 a b"), json!({ "feature": 0, "bits": 0x8000_0001u32, "text": "a b" }));
         assert_eq!(of_line("medium", "/a b/m 99 2"), json!({ "path": "/a b/m", "blocks": 99, "directory": 2 }));
@@ -406,12 +438,14 @@ mod tests {
     fn a_picture_has_rates() {
         let figures = |came: u64| {
             json!({ "state": "recording", "file": null, "free": 1 << 20, "medium_bytes": 2 << 20, "why": "",
+            "clock": { "synchronised": false, "source": "the kernel", "error_ns": null, "drift_ppm": -3.25 },
             "channels": [{ "id": 5, "name": "GPS", "kind": "message", "came": came, "bytes": 1024 * came, "durable": came,
             "lost": 3, "bad": 0, "refused": 0,
                            "last_count": 9, "last_length": 2, "last_bytes": "4142" }] })
         };
         let text = drawn(&figures(300), Some((2.0, &figures(100))));
         assert!(text.starts_with("RECORDING; 1.0 MiB free of 2.0 MiB\n"), "{text}");
+        assert!(text.contains("\nclock NOT IN SYNC (the kernel), error not known, steered by -3.2 ppm\n"), "{text}");
         assert!(
             text.contains("    5 GPS          message         100     100.0          300        3        0  2 bytes 4142\n"),
             "{text}"

@@ -78,6 +78,9 @@ impl Owner {
         if self.live.is_on()
             && let (Some(recorder), Some((number, _))) = (&mut self.recorder, &self.file)
         {
+            if self.live.setup.is_empty() {
+                self.live.keep_setup(recorder.shown(self.settings.directory, *number, 0)?);
+            }
             let bytes = recorder.shown(self.settings.directory, *number, self.live.shown)?;
             self.live.send(bytes);
         }

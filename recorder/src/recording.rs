@@ -94,14 +94,14 @@ impl Owner {
     }
 
     pub(crate) fn tick(&mut self) -> Result<(), Trouble> {
-        let (now, civil) = clock::both();
-        self.ticked = now;
-        let count = self.counter.count_at(now);
-        self.recorder()?.tick(count, &clock::civil(civil))?;
+        let look = self.clock.look();
+        self.ticked = Instant::now();
+        self.recorder()?.tick(look.count, &look.civil)?;
         // (a time that has no room in the file comes again at the begin of the next one: so it is looked at for a step after it)
-        if let Some(step) = self.steps.look(now, civil) {
+        let found = self.clock.judge(&look.pair);
+        found.notes.iter().for_each(|(is_warning, text)| self.note(*is_warning, text));
+        if found.step.is_some() {
             self.clock_steps += 1;
-            warning!("the system's clock stepped by {step:+.3} s; recordings have times before and after it");
             if self.state == State::Recording {
                 match self.note_event(self.settings.clock_event) {
                     Err(Trouble::Full(_)) => (),
@@ -125,14 +125,39 @@ impl Owner {
         Ok(())
     }
 
+    /// Begins the recording that begins by itself: once the clock is in sync, where the settings say so.
+    pub(crate) fn begin_in_time(&mut self) {
+        match self.settings.wait_for_time {
+            Some(patience) => {
+                self.wants = true;
+                self.waits = Some(Instant::now() + patience);
+                self.note(false, &format!("the recording waits until the clock is in sync, {} s at most", patience.as_secs()));
+            }
+            None => self.resume(),
+        }
+    }
+
+    /// Whether the clock lets a recording begin, where one has to wait for it.
+    pub(crate) fn wait_for_time(&mut self) {
+        let Some(until) = self.waits else { return };
+        let is_synchronised = self.clock.known.is_synchronised() == Some(true);
+        if self.recorder.is_none() || !is_synchronised && Instant::now() < until {
+            return;
+        }
+        self.waits = None;
+        let what = if is_synchronised { "the clock is in sync" } else { "the clock is not in sync, and the wait for it is over" };
+        self.note(!is_synchronised, &format!("{what}: the recording begins"));
+        self.resume();
+    }
+
     /// Records an event. One that has no room in the file comes into the next one.
     pub(crate) fn note_event(&mut self, number: u16) -> Result<(), Trouble> {
-        let count = self.count();
+        let mut count = self.count();
         let mut done = self.recorder()?.event(number, count);
         if done == Err(Error::MEDIUM_FULL) {
             self.next_file("is full")?;
             if self.state == State::Recording {
-                let count = self.count();
+                count = self.count();
                 done = self.recorder()?.event(number, count);
             }
         }
@@ -140,6 +165,7 @@ impl Owner {
             warning!("event {number} had no room, and is in no file");
         }
         done?;
+        self.list_event(number, count);
         self.events += 1;
         self.has_news = true;
         Ok(())
@@ -182,6 +208,7 @@ impl Owner {
         self.has_news = true;
         self.lanes.iter_mut().for_each(|it| it.durable_in_file = 0);
         self.events = 0;
+        self.noted.clear();
         Ok(())
     }
 

@@ -3,9 +3,7 @@
 use std::time::{Duration, Instant};
 
 use r10::{Error, Recorder};
-use time::OffsetDateTime;
 
-use crate::clock;
 use crate::medium::{Refusal, printed};
 use crate::owner::{Owner, State, Trouble};
 use crate::settings::Begin;
@@ -17,7 +15,8 @@ impl Owner {
         let failed = |it: Error| Refusal::Failed(it.to_string());
         let mut recorder = self.medium.mount()?;
         self.place = self.medium.place();
-        recorder.tick(self.counter.count(), &clock::civil(OffsetDateTime::now_utc())).map_err(failed)?;
+        let look = self.clock.look();
+        recorder.tick(look.count, &look.civil).map_err(failed)?;
         let files = recorder.files().map_err(failed)?;
         let (start, cut) = (Instant::now(), files.last().filter(|it| !it.closed));
         // what is closed now, or looked into for messages that were not committed, is read plainly first

@@ -9,15 +9,21 @@ use std::time::Duration;
 use serde::Deserialize;
 use toml::Spanned;
 
+use crate::clock_programs::PROGRAMS;
 use crate::kinds::{self, Kind};
-use crate::udp;
+use crate::{setup_text, udp};
 
 impl Channel {
+    /// Whether it has the socket at this address.
+    pub fn has(&self, at: SocketAddr) -> bool {
+        matches!(&self.input, Some(Input::Udp(it)) if it.address == at)
+    }
+
     /// Whether its socket hears what is sent to this address of this machine.
     pub fn hears(&self, to: SocketAddr) -> bool {
         match &self.input {
             // (a group is one address of many machines: its socket may have no other)
-            Some(Input::Udp { address, group, .. }) if address.port() == to.port() => {
+            Some(Input::Udp(Udp { address, group, .. })) if address.port() == to.port() => {
                 let is_here = || to.ip() == address.ip() || to.ip().is_unspecified() || udp::comes_here(to.ip());
                 *group == Some(to.ip()) || !to.ip().is_multicast() && has(address.ip(), to.ip()) && is_here()
             }
@@ -36,11 +42,35 @@ fn are_one(one: SocketAddr, other: SocketAddr) -> bool {
     one.port() == other.port() && (has(one.ip(), other.ip()) || has(other.ip(), one.ip()))
 }
 
+/// What a datagram begins with.
+#[derive(Clone, Copy, Debug, PartialEq, Eq)]
+pub enum Header {
+    /// it is the message
+    None,
+    /// this recorder's own header: channel, stamp, number
+    R10,
+    /// a transfer header of chapter 10, and packets
+    Chapter10,
+}
+
+/// A socket, which several channels may have where a datagram says of which it is.
+#[derive(Clone, Debug, PartialEq, Eq)]
+pub struct Udp {
+    pub address: SocketAddr,
+    pub group: Option<IpAddr>,
+    pub receive_mib: u64,
+    pub header: Header,
+    /// how far a source's stamp may be from its arrival
+    pub stamp_limit: Duration,
+    /// the clock of a card that stamps datagrams
+    pub card: Option<PathBuf>,
+}
+
 /// Where a channel's messages come from.
 #[derive(Clone, Debug, PartialEq, Eq)]
 pub enum Input {
-    /// A datagram is a message.
-    Udp { address: SocketAddr, group: Option<IpAddr>, receive_mib: u64 },
+    /// A datagram is a message, or has some.
+    Udp(Udp),
     /// A message ends at a byte, a length or a pause.
     Serial { path: PathBuf, baud: Option<u32>, end: Option<u8>, length: usize, pause: Option<Duration> },
     /// A line is an entry, in the form of a script's offers. None is standard input.
@@ -66,6 +96,8 @@ pub struct Channel {
     /// bytes that may wait between the input's thread and the recorder
     pub queue: usize,
     pub sub: u16,
+    /// its channel in packets of chapter 10 that come
+    pub source: u16,
 }
 
 #[derive(Clone, Debug)]
@@ -82,6 +114,12 @@ pub struct Settings {
     pub file_for: Duration,
     pub tries: u32,
     pub clock_event: u16,
+    /// how long a recording that begins by itself waits for the clock to be in sync
+    pub wait_for_time: Option<Duration>,
+    /// the programs that are asked about the clock
+    pub ask_for_time: Vec<String>,
+    /// where the kernel has the times of a pulse each second
+    pub pps: Option<PathBuf>,
     pub socket: PathBuf,
     pub tcp: Option<SocketAddr>,
     pub peers: Vec<IpAddr>,
@@ -121,6 +159,9 @@ struct Document {
     file_minutes: Option<Spanned<u64>>,
     tries: Option<Spanned<u64>>,
     clock_event: Option<Spanned<u64>>,
+    wait_for_time: Option<Spanned<u64>>,
+    ask_for_time: Option<Vec<Spanned<String>>>,
+    pps: Option<Spanned<PathBuf>>,
     acknowledge: Option<Spanned<PathBuf>>,
     control: ControlTable,
     metrics: Option<Spanned<String>>,
@@ -159,6 +200,10 @@ struct InputTable {
     udp: Option<Spanned<String>>,
     group: Option<Spanned<String>>,
     receive_mib: Option<Spanned<u64>>,
+    header: Option<Spanned<String>>,
+    stamp_limit_ms: Option<Spanned<u64>>,
+    card: Option<Spanned<PathBuf>>,
+    source: Option<Spanned<u64>>,
     serial: Option<Spanned<PathBuf>>,
     baud: Option<Spanned<u64>>,
     end: Option<Spanned<u64>>,
@@ -192,7 +237,7 @@ pub fn read(text: &str, folder: &Path) -> Result<Settings, Vec<Fault>> {
         let line = line.or(error.line_col().map(|it| it.0 + 1)).unwrap_or(1);
         vec![Fault { line, text: in_words(said) }]
     })?;
-    let mut reader = Reader { text, folder, faults: Vec::new() };
+    let mut reader = Reader { text, folder, faults: Vec::new(), sockets: BTreeMap::new() };
     let settings = reader.settings(document);
     // whatever the limits here let through, the library has the last word
     if reader.faults.is_empty() && !is_taken(&settings.script) {
@@ -265,6 +310,8 @@ struct Reader<'a> {
     text: &'a str,
     folder: &'a Path,
     faults: Vec<Fault>,
+    /// sockets that several channels may have, and of which channels of packets they are
+    sockets: BTreeMap<SocketAddr, (Udp, BTreeSet<u64>)>,
 }
 
 impl Reader<'_> {
@@ -386,6 +433,9 @@ impl Reader<'_> {
             file_for: Duration::from_secs(60 * self.number_or("file_minutes", &it.file_minutes, 60, 1..=1440)),
             tries: self.number_or("tries", &it.tries, 5, 1..=100) as u32,
             clock_event: self.number_or("clock_event", &it.clock_event, 4095, 0..=4095) as u16,
+            wait_for_time: it.wait_for_time.as_ref().map(|at| Duration::from_secs(self.number("wait_for_time", at, 1..=86_400))),
+            ask_for_time: self.ask_for_time(&it),
+            pps: it.pps.as_ref().map(|it| self.path(it.get_ref())),
             socket: self.path(it.control.socket.get_ref()),
             tcp,
             peers,
@@ -394,6 +444,16 @@ impl Reader<'_> {
             acknowledge: it.acknowledge.as_ref().map(|it| self.path(it.get_ref())),
             channels,
         }
+    }
+
+    fn ask_for_time(&mut self, it: &Document) -> Vec<String> {
+        let Some(names) = &it.ask_for_time else { return PROGRAMS.map(str::to_string).to_vec() };
+        for at in names {
+            if !PROGRAMS.contains(&at.get_ref().as_str()) {
+                self.fault(at, format!("ask_for_time has {:?}: give some of {PROGRAMS:?}, or []", at.get_ref()));
+            }
+        }
+        names.iter().map(|it| it.get_ref().clone()).collect()
     }
 
     /// No two things have one path: what one writes the other would read, or take away.
@@ -428,7 +488,16 @@ impl Reader<'_> {
     }
 
     fn setup(&mut self, it: &Document) -> Vec<u8> {
-        let Some(at) = &it.setup else { return Vec::new() };
+        let Some(at) = &it.setup else {
+            // a file describes itself all the same
+            let mut channels = Vec::new();
+            for it in &it.channel {
+                let name = it.name.as_ref().map(|it| it.get_ref().as_str());
+                channels.extend(Kind::of(it.kind.get_ref()).map(|kind| (*it.id.get_ref(), kind, name)));
+            }
+            let time = it.time.as_ref().map_or(1, |it| *it.get_ref());
+            return setup_text::of(it.volume.get_ref(), time, &channels).into_bytes();
+        };
         let path = self.path(at.get_ref());
         match std::fs::read(&path) {
             Ok(bytes) if bytes.len() > 524_260 => {
@@ -514,6 +583,7 @@ impl Reader<'_> {
             input,
             queue: (queue_mib as usize) << 20,
             sub: sub as u16,
+            source: it.input.as_ref().and_then(|it| it.get_ref().source.as_ref()).map_or(id, |it| *it.get_ref()) as u16,
         }
     }
 
@@ -527,6 +597,10 @@ impl Reader<'_> {
         for (key, is_there, needs, needed) in [
             ("group", it.group.is_some(), "udp", it.udp.is_some()),
             ("receive_mib", it.receive_mib.is_some(), "udp", it.udp.is_some()),
+            ("header", it.header.is_some(), "udp", it.udp.is_some()),
+            ("stamp_limit_ms", it.stamp_limit_ms.is_some(), "udp", it.udp.is_some()),
+            ("card", it.card.is_some(), "udp", it.udp.is_some()),
+            ("source", it.source.is_some(), "udp", it.udp.is_some()),
             ("baud", it.baud.is_some(), "serial", it.serial.is_some()),
             ("end", it.end.is_some(), "serial", it.serial.is_some()),
             ("length", it.length.is_some(), "serial", it.serial.is_some()),
@@ -567,8 +641,26 @@ impl Reader<'_> {
                 let text = format!("input udp {address}: channel {other} has {what} already; give each channel a port of its own");
                 self.fault(at, text);
             }
-            let receive_mib = self.number_or("receive_mib", &it.receive_mib, 32, 1..=1024);
-            (Input::Udp { address, group, receive_mib }, format!("udp {address}"))
+            let udp = self.udp(it, address, group);
+            let source = it.source.as_ref().map_or(id, |at| self.number("source", at, 1..=65_535));
+            if udp.header != Header::None {
+                if let Some((other, sources)) = self.sockets.get_mut(&address) {
+                    let (is_one, is_new) = (*other == udp, sources.insert(source));
+                    if !is_one {
+                        let text = format!("input udp {address}: another channel has it with other keys; give both the same");
+                        self.fault(at, text);
+                    }
+                    if !is_new {
+                        self.fault(
+                            at,
+                            format!("input udp {address}: another channel takes channel {source} of it; give another source"),
+                        );
+                    }
+                    return Some(Input::Udp(udp));
+                }
+                self.sockets.insert(address, (udp.clone(), BTreeSet::from([source])));
+            }
+            (Input::Udp(udp), format!("udp {address}"))
         } else if let Some(at) = &it.serial {
             if !kind.is_bytes() {
                 self.fault(
@@ -586,6 +678,35 @@ impl Reader<'_> {
             self.fault(at, format!("input {what}: channel {other} has it already; give each channel an input of its own"));
         }
         Some(found)
+    }
+
+    fn udp(&mut self, it: &InputTable, address: SocketAddr, group: Option<IpAddr>) -> Udp {
+        let header = it.header.as_ref().map_or(Header::None, |at| match at.get_ref().as_str() {
+            "r10" => Header::R10,
+            "ch10" => Header::Chapter10,
+            other => {
+                self.fault(at, format!("header = {other:?}: give \"r10\" or \"ch10\""));
+                Header::None
+            }
+        });
+        if let Some(at) = &it.stamp_limit_ms
+            && header == Header::None
+        {
+            self.fault(at, format!("stamp_limit_ms = {}: only datagrams with a header have stamps; take it out", at.get_ref()));
+        }
+        if let Some(at) = &it.source
+            && header != Header::Chapter10
+        {
+            self.fault(at, format!("source = {}: only with header = \"ch10\"; take it out", at.get_ref()));
+        }
+        Udp {
+            address,
+            group,
+            receive_mib: self.number_or("receive_mib", &it.receive_mib, 32, 1..=1024),
+            header,
+            stamp_limit: Duration::from_millis(self.number_or("stamp_limit_ms", &it.stamp_limit_ms, 1000, 1..=60_000)),
+            card: it.card.as_ref().map(|it| self.path(it.get_ref())),
+        }
     }
 
     fn serial(&mut self, at: &Spanned<PathBuf>, it: &InputTable, id: u64) -> Input {
@@ -634,6 +755,7 @@ input = { udp = \"127.0.0.1:20005\" }
         assert_eq!((it.medium, it.socket), (PathBuf::from("/f/m"), PathBuf::from("/f/c")));
         assert_eq!((it.commit, it.begin, it.channels.len()), (Duration::from_millis(100), Begin::Resume, 1));
         assert!(it.script.contains("blocks = 4096\ndirectory = 63\n"));
+        assert!(it.setup.starts_with(b"G\\PN:VOL;\r\n"));
     }
 
     /// Each level is read one call deeper, and the stack has an end.
@@ -746,6 +868,19 @@ input = { udp = \"127.0.0.1:20005\" }
                 "line 9: udp = \"239.0.0.1:20005\": a multicast address is given by the key group; here give one of this machine",
             ),
             ("id = 5", "id = 5\nname = \"a\\n*\"", "line 8: name = \"a\\n*\": give a text without control characters"),
+            ("20005\" }", "20005\", header = \"ptp\" }", "line 9: header = \"ptp\": give \"r10\" or \"ch10\""),
+            (
+                "20005\" }",
+                "20005\", stamp_limit_ms = 5 }",
+                "line 9: stamp_limit_ms = 5: only datagrams with a header have stamps; take it out",
+            ),
+            ("20005\" }", "20005\", source = 5 }", "line 9: source = 5: only with header = \"ch10\"; take it out"),
+            (
+                "volume",
+                "ask_for_time = [\"chrony\", \"sundial\"]\nvolume",
+                "line 3: ask_for_time has \"sundial\": give some of [\"chrony\", \"ntpd\", \"ptp4l\"], or []",
+            ),
+            ("volume", "wait_for_time = 0\nvolume", "line 3: wait_for_time = 0: give a number from 1 to 86400"),
             ("\"m\"", "\"\"", "line 1: medium = \"\": give a path"),
             ("volume", "start = \"now\"\nvolume", "line 3: start = \"now\": give \"record\", \"resume\" or \"wait\""),
             ("volume", "commit_ms = 0\nvolume", "line 3: commit_ms = 0: give a number from 1 to 10000"),
@@ -777,6 +912,23 @@ input = { udp = \"127.0.0.1:20005\" }
             faults(&twice),
             ["line 13: input udp 127.0.0.1:20005: channel 5 has it already; give each channel an input of its own"]
         );
+        // with a header several channels may have one socket
+        let with = |one: &str, other: &str| {
+            let [one, other] = [one, other].map(|it| format!("20005\"{it} }}"));
+            let (first, second) = twice.split_at(GOOD.len());
+            faults(&format!("{}{}", first.replace("20005\" }", &one), second.replace("20005\" }", &other)))
+        };
+        assert_eq!(with(", header = \"r10\"", ", header = \"r10\""), [""; 0]);
+        assert_eq!(with(", header = \"ch10\"", ", header = \"ch10\", source = 7"), [""; 0]);
+        assert_eq!(
+            with(", header = \"r10\"", ", header = \"r10\", stamp_limit_ms = 5"),
+            ["line 13: input udp 127.0.0.1:20005: another channel has it with other keys; give both the same"]
+        );
+        assert_eq!(
+            with(", header = \"ch10\"", ", header = \"ch10\", source = 5"),
+            ["line 13: input udp 127.0.0.1:20005: another channel takes channel 5 of it; give another source"]
+        );
+        assert_eq!(with(", header = \"r10\"", "").len(), 1);
         // the system takes this one, and one byte more would be too many
         let socket = |length: usize| GOOD.replace("\"c\"", &format!("\"/{}\"", "x".repeat(length - 1)));
         assert!(faults(&socket(107)).is_empty());

@@ -5,12 +5,18 @@ use std::net::{IpAddr, Ipv4Addr, Ipv6Addr, SocketAddr, UdpSocket};
 use std::os::fd::AsRawFd;
 
 use nix::errno::Errno;
-use nix::sys::socket::{ControlMessageOwned, MsgFlags, SockaddrStorage, recvmsg, setsockopt, sockopt};
+use nix::sys::socket::{
+    ControlMessageOwned, MsgFlags, SockaddrStorage, TimestampingFlag, Timestamps, recvmsg, setsockopt, sockopt,
+};
+use nix::sys::time::TimeSpec;
 
 use crate::feed::Feed;
 use crate::inputs::{AGAIN, Seldom};
-use crate::settings::Channel;
+use crate::settings::{Channel, Header, Input, Udp};
+use crate::stamps::{Stamps, nanos};
+use crate::{chapter10, header};
 use crate::{info, warning};
+use std::sync::atomic::Ordering::Relaxed;
 use std::time::Duration;
 
 /// Whether an address may be this machine's a little later: its network is not up yet, as when the machine has just started.
@@ -42,7 +48,8 @@ pub fn until_there<T>(what: &str, mut open: impl FnMut() -> io::Result<T>) -> T 
 }
 
 /// Opens the socket, with so many MiB for what the system holds. An unprivileged user gets as much as net.core.rmem_max says.
-pub fn open(address: SocketAddr, group: Option<IpAddr>, receive_mib: u64) -> io::Result<UdpSocket> {
+pub fn open(it: &Udp) -> io::Result<UdpSocket> {
+    let (address, group) = (it.address, it.group);
     // a socket at one address of this machine gets nothing of a group: so the socket is the group's, and the address says on which
     // network that is heard
     let at = group.filter(|_| !address.ip().is_unspecified()).unwrap_or(address.ip());
@@ -52,7 +59,7 @@ pub fn open(address: SocketAddr, group: Option<IpAddr>, receive_mib: u64) -> io:
         (Some(IpAddr::V6(group)), _) => socket.join_multicast_v6(&group, 0)?,
         _ => (),
     }
-    let wanted = (receive_mib as usize) << 20;
+    let wanted = (it.receive_mib as usize) << 20;
     let fd = socket.as_raw_fd();
     if setsockopt(fd, sockopt::RcvBufForce, &wanted).is_err() {
         setsockopt(fd, sockopt::RcvBuf, &wanted)?;
@@ -63,9 +70,21 @@ pub fn open(address: SocketAddr, group: Option<IpAddr>, receive_mib: u64) -> io:
         }
     }
     setsockopt(fd, sockopt::RxqOvfl, &1)?;
+    setsockopt(fd, sockopt::ReceiveTimestampns, &true)?;
+    if it.card.is_some() {
+        use TimestampingFlag as Flag;
+        let wanted = Flag::SOF_TIMESTAMPING_RX_HARDWARE
+            | Flag::SOF_TIMESTAMPING_RAW_HARDWARE
+            | Flag::SOF_TIMESTAMPING_RX_SOFTWARE
+            | Flag::SOF_TIMESTAMPING_SOFTWARE;
+        setsockopt(fd, sockopt::Timestamping, &wanted)?;
+    }
     socket.set_read_timeout(Some(SILENCE))?;
     Ok(socket)
 }
+
+/// After so many datagrams the clock is looked at.
+const LOOK: u32 = 64;
 
 /// After so long without a datagram the system is asked what it dropped since the last one.
 const SILENCE: Duration = Duration::from_secs(1);
@@ -90,49 +109,150 @@ fn dropped(last: &mut u32, now: u32) -> u64 {
     more.into()
 }
 
-pub fn run(socket: UdpSocket, mut feed: Feed, channel: &Channel) {
+/// What the datagrams of a socket are read by.
+enum Reader {
+    Plain(Seldom),
+    R10(header::Reader),
+    Chapter10(chapter10::Reader),
+}
+
+impl Reader {
+    fn new(it: Option<&Udp>, feed: &Feed) -> Reader {
+        match it {
+            Some(it) if it.header == Header::R10 => Reader::R10(header::Reader::new(feed, it.stamp_limit)),
+            Some(it) if it.header == Header::Chapter10 => Reader::Chapter10(chapter10::Reader::new(feed, it.stamp_limit)),
+            _ => Reader::Plain(Seldom::default()),
+        }
+    }
+
+    /// A datagram came at a count, and the system dropped so many before it.
+    fn datagram(&mut self, feed: &mut Feed, channels: &[Channel], from: Option<SocketAddr>, lost: u64, count: u64, bytes: &[u8]) {
+        match self {
+            Reader::R10(it) => it.datagram(feed, channels, from, count, bytes),
+            Reader::Chapter10(it) => it.datagram(feed, channels, from, count, bytes),
+            Reader::Plain(bad) => {
+                let (channel, length) = (&channels[0], bytes.len());
+                match channel.kind.of_bytes(bytes, channel.sub) {
+                    Some((head, length)) => feed.message_at(0, lost, count, head, &bytes[..length]),
+                    None => {
+                        // something was sent that is in no file
+                        feed.bad(0);
+                        feed.lost(0, lost + 1);
+                        bad.warn(|| {
+                            let (id, name) = (channel.id, channel.kind.name());
+                            format!("channel {id}: a datagram of {length} bytes is no message of kind {name}")
+                        });
+                    }
+                }
+            }
+        }
+    }
+
+    /// The system dropped so many, and none came since. (The numbers of a source's own messages, and of packets, tell of them too.)
+    fn dropped(&mut self, feed: &mut Feed, channels: &[Channel], lost: u64) {
+        match self {
+            Reader::Plain(_) => feed.lost(0, lost),
+            Reader::R10(it) => it.dropped(feed, channels, lost),
+            Reader::Chapter10(_) => (),
+        }
+    }
+}
+
+/// The stamps of a socket's datagrams: those of a card where it gives them, else the kernel's.
+struct Clocks {
+    system: Stamps,
+    card: Option<Stamps>,
+}
+
+impl Clocks {
+    fn new(it: Option<&Udp>, feed: &Feed) -> Clocks {
+        let card = it.and_then(|it| it.card.as_ref()).and_then(|device| {
+            let found = Stamps::of_card(feed.counter(), device);
+            if let Err(error) = &found {
+                warning!("card = {device:?}: {error}; the kernel's stamps are taken");
+            }
+            found.ok()
+        });
+        Clocks { system: Stamps::of_system(feed.counter()), card }
+    }
+
+    fn look(&mut self) {
+        self.system.look();
+        self.card.iter_mut().for_each(Stamps::look);
+    }
+
+    fn drained(&mut self) {
+        self.system.drained();
+        self.card.iter_mut().for_each(Stamps::drained);
+    }
+
+    fn count_of(&mut self, kernel: Option<TimeSpec>, card: Option<TimeSpec>) -> Option<u64> {
+        let of = |stamps: &mut Stamps, it: Option<TimeSpec>| stamps.count_of(it.map(nanos).filter(|it| *it != 0)?);
+        let by_card = self.card.as_mut().and_then(|it| of(it, card));
+        // (both are asked, so that both know what was read)
+        of(&mut self.system, kernel).filter(|_| by_card.is_none()).or(by_card)
+    }
+}
+
+fn address_of(it: &SockaddrStorage) -> Option<SocketAddr> {
+    let v4 = it.as_sockaddr_in().map(|it| SocketAddr::from((Ipv4Addr::from(it.ip()), it.port())));
+    v4.or_else(|| it.as_sockaddr_in6().map(|it| SocketAddr::from((it.ip(), it.port()))))
+}
+
+pub fn run(socket: UdpSocket, mut feed: Feed, channels: &[Channel]) {
+    let from = channels.iter().find_map(|it| if let Some(Input::Udp(it)) = &it.input { Some(it) } else { None });
     let mut bytes = vec![0; 1 << 16];
-    let mut space = nix::cmsg_space!(u32);
-    let (mut drops, mut bad, mut failed) = (0, Seldom::default(), Seldom::default());
+    let mut space = nix::cmsg_space!(u32, TimeSpec, Timestamps);
+    let (mut reader, mut clocks) = (Reader::new(from, &feed), Clocks::new(from, &feed));
+    let (mut drops, mut failed) = (0, Seldom::default());
     let (mut flags, mut has_heard) = (MsgFlags::empty(), false);
+    let mut taken = 0u32;
     loop {
         let mut slices = [IoSliceMut::new(&mut bytes)];
-        let (length, lost) = match recvmsg::<SockaddrStorage>(socket.as_raw_fd(), &mut slices, Some(&mut space), flags) {
+        let (mut lost, mut kernel, mut card) = (0, None, None);
+        let (length, from) = match recvmsg::<SockaddrStorage>(socket.as_raw_fd(), &mut slices, Some(&mut space), flags) {
             Ok(it) => {
-                let count = it.cmsgs().find_map(|it| if let ControlMessageOwned::RxqOvfl(count) = it { Some(count) } else { None });
-                (it.bytes, count.map_or(0, |count| dropped(&mut drops, count)))
+                for it in it.cmsgs() {
+                    match it {
+                        ControlMessageOwned::RxqOvfl(count) => lost = dropped(&mut drops, count),
+                        ControlMessageOwned::ScmTimestampns(it) => kernel = Some(it),
+                        ControlMessageOwned::ScmTimestampsns(it) => card = Some(it.hw_raw),
+                        _ => (),
+                    }
+                }
+                (it.bytes, it.address.as_ref().and_then(address_of))
             }
             Err(Errno::EAGAIN) => {
                 // nothing more is there: what came goes over, and then the thread waits; after a while without any it asks what was
                 // dropped
                 if flags.is_empty() && std::mem::take(&mut has_heard) {
                     let lost = all_dropped(&socket).map_or(0, |count| dropped(&mut drops, count));
-                    feed.lost(0, lost);
+                    reader.dropped(&mut feed, channels, lost);
                 }
                 feed.flush();
+                clocks.drained();
                 flags = MsgFlags::empty();
                 continue;
             }
             Err(Errno::EINTR) => continue,
             Err(error) => {
-                failed.warn(|| format!("channel {}: the socket failed: {error}", channel.id));
+                failed.warn(|| format!("channel {}: the socket failed: {error}", channels[0].id));
                 std::thread::sleep(crate::inputs::AGAIN);
                 continue;
             }
         };
+        // the clock is looked at after a wait, and in a flood every so often
+        if flags.is_empty() || taken.is_multiple_of(LOOK) {
+            clocks.look();
+        }
+        taken = taken.wrapping_add(1);
         flags = MsgFlags::MSG_DONTWAIT;
         has_heard = true;
-        match channel.kind.of_bytes(&bytes[..length], channel.sub) {
-            Some((head, length)) => feed.message(0, lost, head, &bytes[..length]),
-            None => {
-                // something was sent that is in no file
-                feed.bad(0);
-                feed.lost(0, lost + 1);
-                bad.warn(|| {
-                    format!("channel {}: a datagram of {length} bytes is no message of kind {}", channel.id, channel.kind.name())
-                });
-            }
-        }
+        let count = clocks.count_of(kernel, card).unwrap_or_else(|| {
+            feed.came(0).inspect(|it| _ = it.unstamped.fetch_add(1, Relaxed));
+            feed.counter().count()
+        });
+        reader.datagram(&mut feed, channels, from, lost, count, &bytes[..length]);
     }
 }
 
@@ -186,7 +306,7 @@ mod tests {
         let text =
             "medium = \"m\"\nblocks = 99\nvolume = \"V\"\n[control]\nsocket = \"c\"\n[[channel]]\nid = 5\nkind = \"message\"\n";
         let channel = crate::settings::read(text, std::path::Path::new("/")).unwrap().channels.remove(0);
-        std::thread::spawn(move || run(socket, feed, &channel));
+        std::thread::spawn(move || run(socket, feed, &[channel]));
         let (mut messages, mut lost, start) = (0, 0, std::time::Instant::now());
         let mut take = |wanted: u64| {
             while messages + lost < wanted && start.elapsed().as_secs() < 120 {

@@ -10,7 +10,6 @@ use serde_json::json;
 use crate::clock::{self, COUNTS};
 use crate::control::{Command, Origin, Reply};
 use crate::figures::Times;
-use crate::medium::printed;
 use crate::owner::{Lane, Owner, State, Trouble};
 use crate::readers::{self, MOST};
 use crate::{entries, figures, info};
@@ -41,33 +40,53 @@ impl No {
 }
 
 /// The words, what follows them, and what they do: `.HELP` prints them.
-pub const WORDS: [(&str, &str, &str); 15] = [
+pub const WORDS: [(&str, &str, &str); 25] = [
     (".STATUS", "", "state, warnings, and how much of the medium is used"),
     (".RECORD", "[NAME]", "begins a file"),
     (".STOP", "", "ends the recording"),
     (".ERASE", "", "takes all files from the medium; over the UNIX socket alone"),
-    (".EVENT", "NUMBER", "records an event, 0 to 4095"),
-    (".FILES", "", "number, name, first block, bytes and closed or open of each file"),
+    (".EVENT", "[NUMBER [TEXT]]", "records an event, 0 to 4095, or lists those of the file"),
+    (".FILES", "", "number, name, first block, bytes, closed or open, date, begin and end of each file"),
     (".HEALTH", "[FEATURE]", "the recorder and each channel, with bits for what is wrong"),
     (".FIND", "[FILE [COUNT|TIME]]", "where it records and where a replay begins, or sets that"),
     (".REPLAY", "[CHANNEL..]", "prints the file of the last .FIND from there on"),
     (".PUBLISH", "[START|STOP ADDRESS PORT | LIST]", "sends what became durable by UDP"),
     (".FOLLOW", "[CHANNEL..]", "prints entries as they become durable"),
     (".FIGURES", "", "all figures in one line of JSON"),
+    (".TIME", "", "the clock: time, whether it is in sync, by whom, and how far it may be off"),
+    (".SETUP", "[0]", "which setup is used: there is one"),
+    (".TMATS", "READ | VERSION", "the setup text, or its release of the standard"),
+    (".MEDIA", "", "bytes of a block, blocks used, blocks left"),
+    (".MOUNT", "", "takes the medium up again"),
+    (".DISMOUNT", "", "gives the medium up, so that it can be taken away; over the UNIX socket alone"),
+    (".BIT", "", "tries medium, clock and channels, without touching what is recorded"),
+    (".CRITICAL", "[FEATURE [MASK]]", "which bits of .HEALTH are critical, or sets that"),
+    (".IRIG106", "", "the release of the standard"),
+    (".VERSION", "", "of the service, and of the library below it"),
     (".MEDIUM", "", "what the medium is, and where"),
     (".SHUTDOWN", "", "ends the service; over the UNIX socket alone"),
     (".HELP", "", "these lines"),
 ];
 
 /// Bits of `.HEALTH`.
-const BITS: [(u32, &str); 6] = [
+const BITS: [(u32, &str); 7] = [
     (1, "messages were lost"),
     (2, "messages were refused, or could not be read"),
     (4, "nothing came in the last ten seconds"),
     (8, "the system's clock stepped"),
+    (0x10, "the system's clock is not in sync, or nobody can say"),
     (0x4000_0000, "the medium is full"),
     (0x8000_0000, "the disk failed"),
 ];
+
+/// The bit of a channel that is silent, which is no warning.
+const SILENT: u32 = 4;
+
+/// What bits of `.HEALTH` say.
+pub(crate) fn in_words(bits: u32) -> String {
+    let said: Vec<&str> = BITS.iter().filter(|it| bits & it.0 != 0).map(|it| it.1).collect();
+    if said.is_empty() { "nothing is wrong".to_string() } else { said.join("; ") }
+}
 
 /// Where a replay begins: it is kept for all who ask, as the standard's recorder has one place to play from.
 #[derive(Clone, Copy, Debug, Default)]
@@ -121,7 +140,7 @@ impl Owner {
         if wanted.is_empty() && !words.is_empty() {
             return Ok(Err(No::Parameter(format!("{word} has nothing after it"))));
         }
-        if origin == Origin::Tcp && matches!(word.as_str(), ".ERASE" | ".SHUTDOWN") {
+        if origin == Origin::Tcp && matches!(word.as_str(), ".ERASE" | ".SHUTDOWN" | ".DISMOUNT") {
             return Ok(Err(No::Mode(format!("{word} is for the UNIX socket of the recorder's own machine"))));
         }
         let text = match word.as_str() {
@@ -135,6 +154,14 @@ impl Owner {
                 let _ = writeln!(out, "{:36} {}", format!("{} {}", it.0, it.1), it.2);
                 out
             }),
+            ".TIME" => self.clock.lines(),
+            ".IRIG106" => Owner::irig106(),
+            ".VERSION" => Owner::version(),
+            ".BIT" => self.bit()?,
+            ".SETUP" => return Ok(Owner::setup_word(&words).map(Reply::Text)),
+            ".TMATS" => return Ok(self.tmats(&words).map(Reply::Text)),
+            ".CRITICAL" => return Ok(self.critical(&words).map(Reply::Text)),
+            ".MOUNT" => return Ok(self.mount()),
             ".MEDIUM" => format!("{} {} {}\n", self.medium.name(), self.settings.blocks, self.settings.directory),
             ".SHUTDOWN" => {
                 info!("the service was asked to end");
@@ -142,12 +169,18 @@ impl Owner {
                 String::new()
             }
             ".PUBLISH" => return Ok(self.publish(&words).map(Reply::Text)),
+            _ if self.state == State::Dismounted => return Ok(Err(No::NoMedia(self.why.clone()))),
             _ if self.recorder.is_none() && word != ".RECORD" => {
                 return Ok(Err(No::NoMedia(format!("recording is down: {}; once that is mended, give .RECORD", self.why))));
             }
             ".RECORD" => return self.record(&words),
             ".STOP" if matches!(self.state, State::Recording | State::Full) => {
                 self.finish("was stopped by a command")?;
+                String::new()
+            }
+            ".STOP" if self.waits.take().is_some() => {
+                self.wants = false;
+                self.note(false, "the recording that waits for the clock was stopped by a command");
                 String::new()
             }
             ".STOP" => return Ok(Err(No::Mode("no file is recorded; .RECORD begins one".to_string()))),
@@ -167,6 +200,8 @@ impl Owner {
             }
             ".EVENT" => return self.event(&words),
             ".FILES" => self.files()?,
+            ".MEDIA" => self.media()?,
+            ".DISMOUNT" => return self.dismount(),
             ".FIND" => return self.find(&words),
             ".REPLAY" => return self.replay(&words),
             _ => return self.follow(&words),
@@ -175,6 +210,12 @@ impl Owner {
     }
 
     fn record(&mut self, words: &[&str]) -> Result<Result<Reply, No>, Trouble> {
+        if let Some(until) = self.waits {
+            let left = until.saturating_duration_since(std::time::Instant::now()).as_secs() + 1;
+            return Ok(Err(No::Mode(format!(
+                "the clock is not in sync; a recording begins once it is, within {left} s (wait_for_time)"
+            ))));
+        }
         if self.state == State::Recording {
             return Ok(Err(No::Mode("a file is recorded already; .STOP ends it".to_string())));
         }
@@ -189,41 +230,6 @@ impl Owner {
         }
         self.start(words.first().copied())?;
         Ok(Ok(Reply::Text(String::new())))
-    }
-
-    fn event(&mut self, words: &[&str]) -> Result<Result<Reply, No>, Trouble> {
-        let [number] = words else { return Ok(Err(No::Parameter("give the number of the event, 0 to 4095".to_string()))) };
-        let Ok(number) = number.parse::<u16>() else {
-            return Ok(Err(No::Parameter(format!("{number} is no event: give 0 to 4095"))));
-        };
-        match self.state {
-            State::Recording => self.note_event(number)?,
-            State::Full => {
-                return Ok(Err(No::Full(
-                    "there is no room for another file, and the event is in none; copy the files, then give .ERASE and .RECORD"
-                        .to_string(),
-                )));
-            }
-            _ => return Ok(Err(No::Mode("no file is recorded; give .RECORD first".to_string()))),
-        }
-        Ok(Ok(Reply::Text(String::new())))
-    }
-
-    fn files(&mut self) -> Result<String, Trouble> {
-        let files = self.recorder()?.files()?;
-        let mut text = String::new();
-        for (number, file) in files.iter().enumerate() {
-            let first = self.medium.first_block(&files[..number]);
-            let _ = writeln!(
-                text,
-                "{} {} {first} {} {}",
-                number + 1,
-                printed(&file.name),
-                file.size,
-                if file.closed { "closed" } else { "open" }
-            );
-        }
-        Ok(text)
     }
 
     /// The used part of the medium, in percent.
@@ -241,20 +247,24 @@ impl Owner {
             _ if self.is_read() => "06",
             _ => "01",
         };
-        let losses = self.lanes.iter().filter(|it| health_of(it) & 3 != 0).count() + usize::from(self.clock_steps > 0);
-        let critical =
-            u32::from(self.state == State::Full) + u32::from(self.failures > 0) + u32::from(self.state == State::Failed(None));
-        format!("S {state} {losses} {critical} {}%\n", self.used())
+        let all = self.all_health();
+        let warnings = all.iter().zip(&self.critical).filter(|((bits, _), mask)| bits & !(**mask) & !SILENT != 0).count();
+        let critical: u32 = all.iter().zip(&self.critical).map(|((bits, _), mask)| (bits & mask).count_ones()).sum();
+        let critical = critical + u32::from(self.state == State::Failed(None));
+        format!("S {state} {warnings} {critical} {}%\n", self.used())
+    }
+
+    /// The bits of the recorder and of each channel, with their names.
+    fn all_health(&self) -> Vec<(u32, String)> {
+        let mut whole = self.clock_bits();
+        whole |= if self.state == State::Full { 0x4000_0000 } else { 0 };
+        whole |= if self.failures > 0 || matches!(self.state, State::Failed(_)) { 0x8000_0000 } else { 0 };
+        let of = |it: &Lane| (self.silence(it) | health_of(it), it.channel.name.clone());
+        std::iter::once((whole, "RECORDER".to_string())).chain(self.lanes.iter().map(of)).collect()
     }
 
     fn health(&mut self, words: &[&str]) -> Result<String, No> {
-        let mut whole = if self.clock_steps > 0 { 8 } else { 0 };
-        whole |= if self.state == State::Full { 0x4000_0000 } else { 0 };
-        whole |= if self.failures > 0 || matches!(self.state, State::Failed(_)) { 0x8000_0000 } else { 0 };
-        let all: Vec<(u32, &str)> = [(whole, "RECORDER")]
-            .into_iter()
-            .chain(self.lanes.iter().map(|it| (self.silence(it) | health_of(it), it.channel.name.as_str())))
-            .collect();
+        let all = self.all_health();
         let mut text = String::new();
         match words {
             [] => {
@@ -278,7 +288,12 @@ impl Owner {
         Ok(text)
     }
 
-    fn silence(&self, lane: &Lane) -> u32 {
+    fn clock_bits(&self) -> u32 {
+        let is_right = self.clock.known.is_synchronised() == Some(true);
+        u32::from(self.clock_steps > 0) << 3 | u32::from(!is_right) << 4
+    }
+
+    pub(crate) fn silence(&self, lane: &Lane) -> u32 {
         let since = lane.last.as_ref().map(|it| self.count().saturating_sub(it.0));
         if lane.channel.input.is_some() && since.is_none_or(|it| it > 10 * 10_000_000) { 4 } else { 0 }
     }
@@ -417,6 +432,7 @@ impl Owner {
             State::Full => "full",
             State::Failed(Some(_)) => "retrying",
             State::Failed(None) => "failed",
+            State::Dismounted => "dismounted",
         };
         self.drop_gone();
         let queued: Vec<usize> = self.outlets.iter().map(crate::feed::Outlet::queued).collect();
@@ -431,7 +447,7 @@ impl Owner {
             entries::to_hex(&mut hex, &bytes);
             let input = match &lane.channel.input {
                 None => String::new(),
-                Some(crate::settings::Input::Udp { address, .. }) => format!("udp {address}"),
+                Some(crate::settings::Input::Udp(it)) => format!("udp {}", it.address),
                 Some(crate::settings::Input::Serial { path, .. }) => format!("serial {}", path.display()),
                 Some(crate::settings::Input::Lines { path }) => {
                     path.as_ref().map_or("standard input".to_string(), |it| format!("lines {}", it.display()))
@@ -440,7 +456,9 @@ impl Owner {
             channels.push(json!({
                 "id": lane.channel.id, "name": lane.channel.name, "kind": lane.channel.kind.name(), "input": input,
                 "came": lane.came.messages.load(Relaxed), "bytes": lane.came.bytes.load(Relaxed),
-                "bad": lane.came.bad.load(Relaxed),
+                "bad": lane.came.bad.load(Relaxed), "moved": lane.came.moved.load(Relaxed),
+                "unstamped": lane.came.unstamped.load(Relaxed), "late": lane.came.late.load(Relaxed),
+                "others": lane.came.others.load(Relaxed),
                 "durable": lane.durable, "in_file": lane.durable_in_file, "lost": lane.lost + overflow,
                 "refused": lane.refused, "passed": lane.passed, "waiting": lane.waiting,
                 "last_count": count, "last_length": length, "last_bytes": hex,
@@ -455,7 +473,7 @@ impl Owner {
             "state": state, "why": self.why, "count": self.count(), "file": file, "files": files.len(), "free": free,
             "left_in_file": left,
             "medium_bytes": self.settings.blocks as u64 * 512, "commits": self.commits, "failures": self.failures,
-            "clock_steps": self.clock_steps,
+            "clock_steps": self.clock_steps, "clock": self.clock.value(),
             "queued_bytes": queued.iter().sum::<usize>(), "readers": self.readers.len(), "datagrams_out": self.live.datagrams,
             "datagrams_dropped": self.live.dropped,
             "memory_kib": figures::own_memory(), "commit_us": self.settings.commit.as_micros() as u64,
@@ -474,7 +492,7 @@ pub(crate) fn too_long() -> No {
     )
 }
 
-fn health_of(lane: &Lane) -> u32 {
+pub(crate) fn health_of(lane: &Lane) -> u32 {
     let lost = lane.lost + lane.came.lost.load(Relaxed);
     let wrong = lane.refused + lane.came.bad.load(Relaxed);
     u32::from(lost > 0) | u32::from(wrong > 0) << 1

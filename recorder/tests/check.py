@@ -13,13 +13,14 @@ from typing import Optional
 import trials_of_disks
 import trials_of_inputs
 import trials_of_service
+import trials_of_time
 from trying import R10, NotTried, Room, fault, must, report, tidy_up_at_signals
 
 
 # the trials stand in these modules, each under its name
 TRIALS = {
     name.replace('_', '-'): function
-    for module in (trials_of_inputs, trials_of_disks, trials_of_service)
+    for module in (trials_of_inputs, trials_of_disks, trials_of_service, trials_of_time)
     for name, function in vars(module).items()
     if getattr(function, 'is_trial', False)
 }
@@ -59,7 +60,7 @@ def main() -> None:
     with concurrent.futures.ThreadPoolExecutor(3) as pool:
         failed = [
             it
-            for it in pool.map(run, sorted(names, key=lambda it: it not in ('disk-failures', 'a-flood', 'power-cuts', 'kills')))
+            for it in pool.map(run, sorted(names, key=lambda it: it not in ('an-hour-of-a-clock', 'disk-failures', 'a-flood', 'power-cuts', 'kills')))
             if it
         ]
     if failed:

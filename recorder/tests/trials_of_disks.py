@@ -103,7 +103,7 @@ def full_medium(room: Room) -> str:
     load.kill()
     load.wait()
     must(
-        service.ask('.STATUS')[0].startswith('S 01 1 1') and service.ask('.HEALTH')[0].startswith('0 40000000'),
+        service.ask('.STATUS')[0].startswith(f'S 01 {1 + service.clock()} 1') and service.ask('.HEALTH')[0].startswith(f'0 400000{service.clock()}0'),
         'a full medium is no warning',
     )
     must(service.ask('.RECORD')[0].startswith('E 04'), 'a recording begins on a full medium')
@@ -112,7 +112,7 @@ def full_medium(room: Room) -> str:
         lambda it: all(at['came'] == at['durable'] + at['lost'] + at['waiting'] for at in it['channels']), 'some are not counted'
     )['channels'][0]
     must(full['waiting'] > 0, 'nothing waits for room')
-    must(service.ask('.STOP', '.STATUS')[0].startswith('S 01 1 0'), 'a recording on a full medium is not stopped')
+    must(service.ask('.STOP', '.STATUS')[0].startswith(f'S 01 {1 + service.clock()} 0'), 'a recording on a full medium is not stopped')
     image = (room.folder / 'medium').read_bytes()
     found = judge(image, lines_of((room.folder / 'lines').read_text()), [5])
     must(found['files'] > 1 and found['untold'] == found['untold_before'] == 0, f'{found}')
@@ -194,7 +194,7 @@ def a_full_directory(room: Room) -> str:
     service.end()
     service = Service(room, text.replace('"wait"', '"record"'))
     service.wait_for('error: the directory is full: nothing is recorded')
-    must(service.ask('.STATUS')[0].startswith('S 01 0 1'), f"the status is {service.ask('.STATUS')}")
+    must(service.ask('.STATUS')[0].startswith(f'S 01 {service.clock()} 1'), f"the status is {service.ask('.STATUS')}")
     service.end()
     return 'four files'
 

@@ -5,11 +5,14 @@ import random
 import re
 import socket
 import subprocess
+import sys
 import termios
 import time
+from typing import Any
 
 from kinds import KINDS, LONGEST
 from trying import (
+    CH10,
     HOST,
     LONG,
     NotTried,
@@ -244,11 +247,14 @@ def chapter_6_words(room: Room) -> str:
     mode = (room.folder / 'control').stat().st_mode & 0o777
     must(mode == 0o660, f'the socket has mode {mode:o}')
     ask = service.ask
-    must(ask('.STATUS') == ['S 01 0 0 0%'] and ask('.FILES') == [], 'a new medium')
+    # (a clock that is not in sync is a warning)
+    clock = service.clock()
+    must(ask('.STATUS') == [f'S 01 {clock} 0 0%'] and ask('.FILES') == [], 'a new medium')
+    must(ask('.HEALTH')[0] == f'0 {16 * clock:08X} RECORDER', f"health of the clock: {ask('.HEALTH')}")
     for line, number in (
         ('.STOP', 2),
         ('.EVENT 1', 2),
-        ('.EVENT', 1),
+        ('.EVENT x', 1),
         ('.RECORD a b', 1),
         ('.RECORD A/B', 1),
         ('.FLY', 0),
@@ -268,7 +274,7 @@ def chapter_6_words(room: Room) -> str:
     load = room.load([port], count=100, rate=100000)
     service.until_durable(100)
     load.wait()
-    must(ask('.STATUS')[0].startswith('S 05 0 0') and ask('.ERASE')[0].startswith('E 02'), 'recording')
+    must(ask('.STATUS')[0].startswith(f'S 05 {clock} 0') and ask('.ERASE')[0].startswith('E 02'), 'recording')
     must(ask('.EVENT 4095', '.EVENT 4095') == [] and ask('.EVENT 4096')[0].startswith('E 01'), 'events')
     # (on a slow machine the last message may be ten seconds old)
     must(ask('.HEALTH')[1].split(' ')[:2] in (['1', '00000000'], ['1', '00000004']), f"health {ask('.HEALTH')}")
@@ -282,13 +288,14 @@ def chapter_6_words(room: Room) -> str:
     must(len(ask(f'.FIND 1 {count}', '.REPLAY 5')) == 1 + 51, 'a replay from a count on')
     must(len([it for it in ask('.FIND 1 2000-01-01 00:00:00', '.REPLAY') if ' event ' in it]) == 2, 'a replay from a time on')
     must(
-        ask('.STOP', '.FILES')[0].split(' ')[1::3] == ['FLT1', 'closed'] and ask('.RECORD FLT1')[0].startswith('E 01'),
+        ask('.STOP', '.FILES')[0].split(' ')[1:5:3] == ['FLT1', 'closed'] and ask('.RECORD FLT1')[0].startswith('E 01'),
         'a file and its name',
     )
     ctl = [str(room.programs / 'r10ctl'), '--socket', str(room.folder / 'control')]
     for words, wanted in (
         (['files', '--json'], '"name":"FLT1"'),
-        (['status'], 'IDLE, 0 warnings'),
+        (['status'], f'IDLE, {clock} warnings'),
+        (['time', '--json'], '"key":"time"'),
         (['event', '1'], 'E 02'),
         (['--json', 'health'], '"feature":0'),
         (['watch', '--json'], '"state":"idle"'),
@@ -299,12 +306,12 @@ def chapter_6_words(room: Room) -> str:
         one.wait()
         must(wanted in line, f'r10ctl {words}: {line}')
     there = (HOST, tcp)
-    must(ask('.STATUS', path=there) == ['S 01 0 0 0%'], 'over TCP')
+    must(ask('.STATUS', path=there) == [f'S 01 {clock} 0 0%'], 'over TCP')
     # (README.md has a shell that knows the socket: over TCP it asks all the same)
     ran = subprocess.run(
         [ctl[0], '--tcp', f'{HOST}:{tcp}', 'status'], env=dict(os.environ, R10_SOCKET='elsewhere'), capture_output=True, text=True
     )
-    must(ran.stdout.startswith('S 01 0 0 0%'), f'r10ctl --tcp, where R10_SOCKET is set: {ran}')
+    must(ran.stdout.startswith(f'S 01 {clock} 0 0%'), f'r10ctl --tcp, where R10_SOCKET is set: {ran}')
     must(
         ask('.ERASE', path=there)[0].startswith('E 02')
         and ask('.SHUTDOWN', path=there)[0].startswith('E 02')
@@ -324,7 +331,8 @@ def chapter_6_words(room: Room) -> str:
     must(ask('.FOLLOW 77')[0].startswith('E 01'), 'a channel that is not there')
     words = ['STATUS', 'RECORD', 'STOP', 'ERASE', 'EVENT', 'FILES', 'HEALTH', 'FIND', 'REPLAY', 'PUBLISH', 'FOLLOW', 'FIGURES']
     listed = [it.split(' ')[0] for it in ask('.HELP')]
-    must(listed == [f'.{it}' for it in (*words, 'MEDIUM', 'SHUTDOWN', 'HELP')], f'help has {listed}')
+    words += ['TIME', 'SETUP', 'TMATS', 'MEDIA', 'MOUNT', 'DISMOUNT', 'BIT', 'CRITICAL', 'IRIG106', 'VERSION', 'MEDIUM', 'SHUTDOWN', 'HELP']
+    must(listed == [f'.{it}' for it in words], f'help has {listed}')
     # each word that it lists is one, and none is an invalid command (asked with a word too many, so that nothing is done)
     for word in listed:
         found = ask(f'{word} a b c d e') if word != '.FOLLOW' else ask('.FOLLOW x')
@@ -347,18 +355,25 @@ def chapter_6_words(room: Room) -> str:
 @trial
 def live_out(room: Room) -> str:
     """What goes out as UDP in transfer format 1, put together again, is the file byte for byte."""
-    port, out = room.ports(2)
-    with socket.socket(socket.AF_INET, socket.SOCK_DGRAM) as it:
+    port, out, joins = room.ports(3)
+    with socket.socket(socket.AF_INET, socket.SOCK_DGRAM) as it, socket.socket(socket.AF_INET, socket.SOCK_DGRAM) as late:
         it.setsockopt(socket.SOL_SOCKET, socket.SO_RCVBUF, 32 << 20)
         it.bind((HOST, out))
         it.setblocking(False)
         service = Service(room, settings(udp_channels([port]), publish=f'{HOST}:{out}'))
+        late.bind((HOST, joins))
+        late.settimeout(LONG)
+        service.until(lambda it: it['datagrams_out'] > 2, 'nothing goes out')
+        must(service.ask(f'.PUBLISH START {HOST} {joins}') == [], 'another one does not join')
+        service.setup = service.ask('.TMATS READ')
         # (what goes out has to fit the buffer of a system as it is set up)
         load = room.load([port], count=1000, rate=20000, size=100)
         service.until_durable(1000)
         load.wait()
         service.end()
         found, sequence, segments = b'', 0, 0
+        # (who joined in the file gets the setup first)
+        joined = late.recv(65536)
         while True:
             try:
                 datagram = it.recv(65536)
@@ -371,9 +386,104 @@ def live_out(room: Room) -> str:
             found += datagram[12 if head >> 4 & 15 else 4 :]
     image = (room.folder / 'medium').read_bytes()
     size = int(files(image)[0][1])
+    # (the setup packet, with which the file begins, goes out again every few seconds)
+    setup = found[: int.from_bytes(found[4:8], 'little')]
+    packets, at = [], 0
+    while at < len(found):
+        length = int.from_bytes(found[at + 4 : at + 8], 'little')
+        packets.append(found[at : at + length])
+        at += length
+    found = setup + b''.join(it for it in packets[1:] if it != setup)
     must(found == image[512 * 9 : 512 * 9 + size], f'{len(found)} bytes came, the file has {size}')
+    must(joined[12 if joined[0] >> 4 else 4 :] == setup[:1440], f'who joins later gets {joined[:40]!r} first')
+    text = setup[28 : 24 + int.from_bytes(setup[8:12], 'little')].decode()
+    must(service.setup == text.split('\r\n')[:-1] and 'G\\PN:TRIAL;' in service.setup, f'the setup is {text}')
+    by_filter = [sys.executable, str(CH10), 'tmats']
+    ran = subprocess.run(by_filter, input=(room.folder / 'settings.toml').read_bytes(), capture_output=True)
+    must(ran.stdout.decode() == text, f'ch10 tmats writes another text of the same settings: {ran}')
     must(segments > 0 and r10(['check'], found)[1].strip() == 'strict', 'no packet was cut, or the stream is no file')
     return f'{sequence} datagrams, {size} bytes'
+
+
+@trial
+def more_words_of_chapter_6(room: Room) -> str:
+    """The words beside recording, by a plain socket and by r10ctl: what they answer, what they refuse, and that a medium can be taken
+    away and put back."""
+    (tcp,) = room.ports(1)
+    text = channel(5, 'message', 'lines = "pipe"', 'name = "NAV;1"\n') + channel(6, 'arinc', 'lines = "pipe"')
+    service = Service(room, settings(text, start='wait', control=f'tcp = "{HOST}:{tcp}"'))
+    ask, ctl = service.ask, [str(room.programs / 'r10ctl'), '--socket', str(room.folder / 'control')]
+
+    def by_ctl(*words: str) -> list[str]:
+        ran = subprocess.run([*ctl, *words], capture_output=True, text=True)
+        return (ran.stdout if ran.returncode == 0 else ran.stderr).splitlines()
+
+    def refused(line: str, number: int, path: Any = None) -> None:
+        found = ask(line, path=path)
+        must(len(found) == 1 and found[0].startswith(f'E {number:02} '), f'{line}: {found}')
+
+    said = ask('.TIME')
+    must(re.fullmatch(r'TIME \d{3}-\d\d:\d\d:\d\d\.\d{3}', said[0]), f'.TIME: {said}')
+    at = time.strftime('%j', time.gmtime(time.time()))
+    must(said[0][5:8] in (at, f'{int(at) - 1:03}', '001'), f'.TIME has another day than {at}: {said[0]}')
+    unix = int(next(it for it in said if it.startswith('UNIX_NS')).split(' ')[1])
+    must(abs(unix - time.time_ns()) < 60 * 10**9, f'.TIME is {unix}')
+    keys = ['TIME', 'DATE', 'LOOK', 'COUNT', 'UNIX_NS', 'SYNC', 'SOURCE', 'ERROR_NS', 'KERNEL', 'DRIFT_PPM', 'LAST_STEP_S']
+    must([it.split(' ')[0] for it in said] == keys, f'.TIME: {said}')
+    must(ask('.SETUP') == ['SETUP 0'] == ask('.SETUP 0') and by_ctl('setup') == ['SETUP 0'], '.SETUP')
+    setup = ask('.TMATS READ')
+    must('R-1\\DSI-2:NAV_1;' in setup and 'B-1\\BT-1:A429;' in setup and by_ctl('tmats', 'read') == setup, f'.TMATS READ: {setup}')
+    must(ask('.TMATS VERSION') == ['12'] and ask('.IRIG106') == ['IRIG106 12'] == by_ctl('irig106'), 'the release')
+    must([it.split(' ')[:2] for it in ask('.VERSION')] == [['VERSION', 'r10d'], ['VERSION', 'libr10']] , '.VERSION')
+    must(len({it.split(' ')[2] for it in by_ctl('version')}) == 1, 'service and library have two versions')
+    used = 1 + 8
+    must(ask('.MEDIA') == [f'MEDIA 512 {used} {65536 - used}'] == by_ctl('media'), f".MEDIA: {ask('.MEDIA')}")
+    must(ask('.CRITICAL') == ['0 C0000000 RECORDER', '1 00000000 NAV;1', '2 00000000 CH6'], f".CRITICAL: {ask('.CRITICAL')}")
+    clock = service.clock()
+    must(by_ctl('status')[0] == f'S 01 {clock} 0 0%', 'before a bit is made critical')
+    must(ask('.CRITICAL 1 00000002') == ['1 00000002 NAV;1'] == ask('.CRITICAL 1'), 'a mask')
+    with open(room.folder / 'pipe', 'w') as pipe:
+        pipe.write('nonsense\n')
+    service.until(lambda it: it['channels'][0]['bad'] == 1, 'a line that is none')
+    must(ask('.STATUS') == [f'S 01 {clock} 1 0%'] and ask('.HEALTH 1')[0].endswith('could not be read'), 'a critical bit')
+    must(ask('.CRITICAL 1 0', '.STATUS')[-1] == f'S 01 {clock + 1} 0 0%', 'the bit is a warning again')
+    bits = ask('.BIT')
+    must(bits[0] == 'BIT 0 ok medium: its directory can be read' and bits[-1] == f'BIT {clock + 2} of 6 failed', f'.BIT: {bits}')
+    must(bits[4] == 'BIT 4 FAILED channel 5: messages were refused, or could not be read; nothing came in the last ten seconds', f'{bits}')
+    must(by_ctl('--json', 'bit')[0] == '{"ok":true,"test":0,"text":"medium: its directory can be read"}', f"{by_ctl('--json', 'bit')}")
+    for line, number in (('.SETUP 1', 1), ('.TMATS', 1), ('.TMATS WRITE', 2), ('.TMATS FLY', 1), ('.TIME 001-00:00:00', 1),
+                         ('.CRITICAL 3', 1), ('.CRITICAL 0 x', 1), ('.CRITICAL 0 0 0', 1), ('.MOUNT', 2), ('.MEDIA 1', 1), ('.EVENT', 5)):
+        if line != '.EVENT':
+            refused(line, number)
+    must(ask('.EVENT') == [], 'events without a file')
+    ask('.RECORD FLT1')
+    must(ask('.EVENT 7 engine   start', '.EVENT 8') == [] and by_ctl('event', '7', 'gear up') == [], 'events with a text')
+    refused('.EVENT 9 ' + 'x' * 201, 1)
+    listed = [it.split(' ', 4) for it in ask('.EVENT')]
+    must([(it[0], it[4]) for it in listed] == [('7', 'engine start'), ('8', ''), ('7', 'gear up')], f'.EVENT: {listed}')
+    must('event 7: engine start' in service.log() and '"text":"gear up"' in by_ctl('--json', 'event')[2], 'texts of events')
+    refused('.DISMOUNT', 2)
+    one = ask('.FILES')[0].split(' ')
+    must(one[4] == 'open' and one[7] == '-' and re.fullmatch(r'\d{4}-\d\d-\d\d \d\d:\d\d:\d\d\.\d\d', ' '.join(one[5:7])), f'.FILES: {one}')
+    ask('.STOP')
+    one = ask('.FILES')[0].split(' ')
+    must(len(one) == 8 and one[4] == 'closed' and one[7] >= one[6], f'.FILES: {one}')
+    must('"begin":"' + one[6] in by_ctl('--json', 'files')[0], 'r10ctl files')
+    refused('.DISMOUNT', 2, (HOST, tcp))
+    must(ask('.DISMOUNT') == [] and ask('.STATUS')[0].startswith('S 01'), 'a dismount')
+    for line in ('.RECORD', '.FILES', '.DISMOUNT', '.MEDIA', '.ERASE', '.STOP'):
+        refused(line, 3)
+    must(ask('.BIT')[0].startswith('BIT 0 FAILED medium: the medium is dismounted'), '.BIT without a medium')
+    must(service.figures()['state'] == 'dismounted', 'the state')
+    # another program may have it meanwhile
+    (room.folder / 'medium').rename(room.folder / 'away')
+    refused('.MOUNT', 3)
+    (room.folder / 'away').rename(room.folder / 'medium')
+    must(by_ctl('mount') == [] and [it.split(' ')[1] for it in ask('.FILES')] == ['FLT1'] and ask('.RECORD') == [], 'a mount')
+    ask('.STOP', '.DISMOUNT')
+    service.end()
+    must([it[3] for it in files((room.folder / 'medium').read_bytes())] == ['1', '1'], 'files are not closed')
+    return f'{len(keys)} lines of .TIME, and ten words'
 
 
 @trial
@@ -392,6 +502,11 @@ def wrong_input_does_nothing(room: Room) -> str:
         '.STOP',
         '.FILES',
         '.FOLLOW',
+        '.TIME',
+        '.BIT',
+        '.CRITICAL',
+        '.TMATS READ',
+        '.MEDIA',
         '1',
         '-1',
         '99999999999999999999',

@@ -340,7 +340,7 @@ def a_clock_that_steps(room: Room) -> str:
     service.wait_for('clock stepped by +3600')
     (room.folder / 'clock').write_text('-86400')
     service.wait_for('clock stepped by -90000')
-    must(service.ask('.HEALTH')[0].startswith('0 00000008'), 'no warning of the clock')
+    must(int(service.ask('.HEALTH')[0].split(' ')[1], 16) & ~16 == 8, 'no warning of the clock')
     service.end()
     found = entries((room.folder / 'medium').read_bytes(), 0)
     must([it.words[0] for it in found if it.kind == 'event'] == ['4000', '4000'], f'{found}')

@@ -21,6 +21,7 @@ from typing import Any, Callable, Iterable, Optional
 from kinds import KINDS
 
 TOP = pathlib.Path(__file__).resolve().parent.parent.parent
+CH10 = TOP / 'scripts' / ('tools' if (TOP / 'scripts' / 'tools').is_dir() else '.') / 'ch10.py'
 R10 = os.environ.get('R10', str(TOP / 'r10'))
 # An address of this machine that no other run has: so ports that are free stay so.
 HOST = '127.' + '.'.join(str(random.SystemRandom().randrange(1, 255)) for _ in range(3))
@@ -203,6 +204,8 @@ class Service:
                 }
             )
             around.update({f'DISK_{key.upper()}': str(value) for key, value in disk.items()})
+        # what `.TMATS READ` says
+        self.setup: list[str] = []
         self.log_path = self.folder / 'log'
         self.log_start = self.log_path.stat().st_size if self.log_path.exists() else 0
         with open(self.log_path, 'ab') as to:
@@ -257,6 +260,10 @@ class Service:
 
     def figures(self) -> dict[str, Any]:
         return json.loads(self.ask('.FIGURES')[0])
+
+    def clock(self) -> int:
+        """Whether the machine's clock is not in sync, which is one warning of `.STATUS`."""
+        return 0 if self.figures()['clock']['synchronised'] else 1
 
     def until(self, holds: Callable[[dict[str, Any]], Any], text: str, patience: float = LONG) -> dict[str, Any]:
         """Until something holds of the figures."""

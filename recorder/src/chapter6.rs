@@ -1,0 +1,216 @@
+//! More words of chapter 6: what a chapter 10 recorder is asked for beside recording. `docs/RECORDER.md` says of each how far it goes.
+use std::fmt::Write;
+
+use crate::clock;
+use crate::control::Reply;
+use crate::dates::Dates;
+use crate::info;
+use crate::medium::printed;
+use crate::owner::{Owner, State, Trouble};
+use crate::words::No;
+
+/// The release of the standard that the setup record names: 12 is IRIG 106-17.
+const RELEASE: u32 = 12;
+/// Bits of `.HEALTH` that are critical, where nobody said otherwise: a full medium and a disk that failed.
+pub const CRITICAL: u32 = 0xc000_0000;
+/// How many events of a file are listed.
+const MOST: usize = 1000;
+/// The longest text of an event.
+const LONGEST: usize = 200;
+
+/// An event of the file that is recorded.
+pub struct Noted {
+    number: u16,
+    count: u64,
+    civil: String,
+    text: String,
+}
+
+impl Owner {
+    /// `.EVENT`: lists the events of the file, or records one.
+    pub(crate) fn event(&mut self, words: &[&str]) -> Result<Result<Reply, No>, Trouble> {
+        let Some((number, text)) = words.split_first() else {
+            let line = |mut out: String, it: &Noted| {
+                let _ = writeln!(out, "{} {} {} {}", it.number, it.civil, it.count, it.text);
+                out
+            };
+            return Ok(Ok(Reply::Text(self.noted.iter().fold(String::new(), line))));
+        };
+        let Ok(number) = number.parse::<u16>() else {
+            return Ok(Err(No::Parameter(format!("{number} is no event: give 0 to 4095, and a text if you like"))));
+        };
+        let text = text.join(" ");
+        if text.len() > LONGEST || text.contains(char::is_control) {
+            return Ok(Err(No::Parameter(format!("the text of an event has at most {LONGEST} bytes, and no control characters"))));
+        }
+        match self.state {
+            State::Recording => self.note_event(number)?,
+            State::Full => {
+                return Ok(Err(No::Full(
+                    "there is no room for another file, and the event is in none; copy the files, then give .ERASE and .RECORD"
+                        .to_string(),
+                )));
+            }
+            _ => return Ok(Err(No::Mode("no file is recorded; give .RECORD first".to_string()))),
+        }
+        if !text.is_empty() {
+            self.note(false, &format!("event {number}: {text}"));
+        }
+        if let Some(it) = self.noted.back_mut() {
+            it.text = text;
+        }
+        Ok(Ok(Reply::Text(String::new())))
+    }
+
+    /// Keeps an event for the list.
+    pub(crate) fn list_event(&mut self, number: u16, count: u64) {
+        if self.noted.len() >= MOST {
+            self.noted.pop_front();
+        }
+        let civil = clock::text(&clock::civil(clock::at(clock::now())));
+        self.noted.push_back(Noted { number, count, civil, text: String::new() });
+    }
+
+    /// `.FILES`: with the dates and times that the directory has.
+    pub(crate) fn files(&mut self) -> Result<String, Trouble> {
+        let files = self.recorder()?.files()?;
+        let dates = self.recorder.as_ref().map(|it| Dates::read(it, files.len())).unwrap_or_default();
+        let mut text = String::new();
+        for (number, file) in files.iter().enumerate() {
+            let (first, name) = (self.medium.first_block(&files[..number]), printed(&file.name));
+            let state = if file.closed { "closed" } else { "open" };
+            let _ = writeln!(text, "{} {name} {first} {} {state} {}", number + 1, file.size, dates.line(number));
+        }
+        Ok(text)
+    }
+
+    /// `.SETUP`: there is one setup, that of the settings.
+    pub(crate) fn setup_word(words: &[&str]) -> Result<String, No> {
+        match words {
+            [] | ["0"] => Ok("SETUP 0\n".to_string()),
+            _ => Err(No::Parameter("there is one setup, 0: that of the settings".to_string())),
+        }
+    }
+
+    /// `.TMATS`: the setup text.
+    pub(crate) fn tmats(&self, words: &[&str]) -> Result<String, No> {
+        let upper: Vec<String> = words.iter().map(|it| it.to_ascii_uppercase()).collect();
+        match upper.iter().map(String::as_str).collect::<Vec<_>>().as_slice() {
+            ["READ"] | ["READ", "0"] => {
+                let text = String::from_utf8_lossy(&self.settings.setup).into_owned();
+                // (a line of a star alone would end the answer)
+                let line = |it: &str| format!("{}{it}\n", if it == "*" { " " } else { "" });
+                Ok(text.lines().map(|it| it.trim_end_matches('\r')).map(line).collect())
+            }
+            ["VERSION"] => Ok(format!("{RELEASE}\n")),
+            ["WRITE" | "SAVE" | "GET" | "DELETE", ..] => Err(No::Mode(
+                "the setup text is that of the settings: change `setup` there, and start the service anew".to_string(),
+            )),
+            _ => Err(No::Parameter("give .TMATS READ or .TMATS VERSION".to_string())),
+        }
+    }
+
+    /// `.MEDIA`: bytes of a block, blocks used, blocks left.
+    pub(crate) fn media(&mut self) -> Result<String, Trouble> {
+        let files = self.recorder()?.files()?;
+        let used = self.medium.first_block(&files).min(self.settings.blocks as u64);
+        Ok(format!("MEDIA 512 {used} {}\n", self.settings.blocks as u64 - used))
+    }
+
+    /// `.DISMOUNT`: the medium can be taken away then.
+    pub(crate) fn dismount(&mut self) -> Result<Result<Reply, No>, Trouble> {
+        if self.state == State::Recording {
+            return Ok(Err(No::Mode("a file is recorded; give .STOP first".to_string())));
+        }
+        self.medium.keep(false);
+        self.wants = false;
+        self.waits = None;
+        self.readers.clear();
+        self.recorder()?.dismount()?;
+        self.settle()?;
+        self.recorder = None;
+        self.file = None;
+        self.state = State::Dismounted;
+        self.why = "the medium is dismounted; .MOUNT takes it up again".to_string();
+        info!("the medium was dismounted by a command, and can be taken away");
+        Ok(Ok(Reply::Text(String::new())))
+    }
+
+    /// `.MOUNT`: takes a medium up again, or another one at the same path.
+    pub(crate) fn mount(&mut self) -> Result<Reply, No> {
+        if self.recorder.is_some() {
+            return Err(No::Mode("a medium is mounted already; .DISMOUNT gives it up".to_string()));
+        }
+        self.open_again().map_err(|it| No::NoMedia(it.text().to_string()))?;
+        self.why.clear();
+        info!("the medium was mounted by a command");
+        Ok(Reply::Text(String::new()))
+    }
+
+    /// `.CRITICAL`: which bits of `.HEALTH` are critical warnings, or sets that.
+    pub(crate) fn critical(&mut self, words: &[&str]) -> Result<String, No> {
+        let names: Vec<String> =
+            std::iter::once("RECORDER".to_string()).chain(self.lanes.iter().map(|it| it.channel.name.clone())).collect();
+        let feature = |word: &str| {
+            let found = word.parse::<usize>().ok().filter(|it| *it < names.len());
+            found.ok_or_else(|| No::Parameter(format!("there is no feature {word}; .HEALTH lists them")))
+        };
+        let line = |at: usize, masks: &[u32]| format!("{at} {:08X} {}\n", masks[at], names[at]);
+        match words {
+            [] => Ok((0..names.len()).map(|at| line(at, &self.critical)).collect()),
+            [at] => feature(at).map(|at| line(at, &self.critical)),
+            [at, mask] => {
+                let at = feature(at)?;
+                let mask = u32::from_str_radix(mask.trim_start_matches("0x"), 16)
+                    .map_err(|_| No::Parameter(format!("{mask} is no mask: give up to eight hex digits")))?;
+                self.critical[at] = mask;
+                Ok(line(at, &self.critical))
+            }
+            _ => Err(No::Parameter("give a feature and a mask, a feature, or nothing".to_string())),
+        }
+    }
+
+    /// `.BIT`: tries what can be tried without touching what is recorded.
+    pub(crate) fn bit(&mut self) -> Result<String, Trouble> {
+        let mut found: Vec<(bool, String)> = Vec::new();
+        let directory = 1 + self.settings.directory as u64;
+        let read = self.recorder.as_ref().map(|it| self.medium.read_plainly(it, 0..directory));
+        found.push(match read {
+            Some(Ok(())) => (true, "medium: its directory can be read".to_string()),
+            Some(Err(refusal)) => (false, format!("medium: {}", refusal.text())),
+            None => (false, format!("medium: {}", self.why)),
+        });
+        let is_there = self.recorder.is_some() && self.medium.place() == self.place;
+        found.push((is_there, "medium: what is recorded on has its path".to_string()));
+        let free = match &mut self.recorder {
+            Some(it) => it.status()?.free,
+            None => 0,
+        };
+        found.push((free > 0, format!("medium: {free} bytes are left for the next file, or in this one")));
+        let is_right = self.clock.known.is_synchronised() == Some(true);
+        found.push((is_right, format!("clock: {}", self.clock.known.line())));
+        for lane in &self.lanes {
+            let bits = self.silence(lane) | crate::words::health_of(lane);
+            let id = lane.channel.id;
+            found.push((bits == 0, format!("channel {id}: {}", crate::words::in_words(bits))));
+        }
+        let failed = found.iter().filter(|it| !it.0).count();
+        let mut text = String::new();
+        for (number, (is_right, what)) in found.iter().enumerate() {
+            let _ = writeln!(text, "BIT {number} {} {what}", if *is_right { "ok" } else { "FAILED" });
+        }
+        let _ = writeln!(text, "BIT {} of {} failed", failed, found.len());
+        Ok(text)
+    }
+
+    /// `.VERSION`: of the service, and of the library below it.
+    pub(crate) fn version() -> String {
+        let it = r10::version();
+        format!("VERSION r10d {}\nVERSION libr10 {}.{}.{}\n", env!("CARGO_PKG_VERSION"), it / 10_000, it / 100 % 100, it % 100)
+    }
+
+    /// `.IRIG106`: the release that the setup record names.
+    pub(crate) fn irig106() -> String {
+        format!("IRIG106 {RELEASE}\n")
+    }
+}
