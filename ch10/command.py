@@ -44,7 +44,7 @@ public standard alone.
   ch10 range < INPUT          a range of time (--from, --to) as a recording
   ch10 file NAME < IMAGE      one file of an image, as a recording
   ch10 sqlite < INPUT         the entries as a database of SQLite (--out FILE)
-  ch10 tmats < SCRIPT         a setup text for the channels of a script of r10
+  ch10 tmats < SCRIPT         a setup text for the channels of a script of r10, or of r10d's settings
   ch10 catalogue add|find|show    a catalogue of many recordings
   ch10 load INPUT ..          entries of many recordings into a database
   ch10 report INPUT ..        one HTML page about recordings
@@ -180,7 +180,8 @@ def parser_of() -> 'Parser':
                             'Writes the setup text, byte for byte; several packets one after the other.'))
     made.add_argument('--tree', action='store_true', help='the attributes of chapter 9 as a tree, '
                       'and which channels of the recording they do not name or name otherwise')
-    made = command('tmats', run_of('script', 'as_tmats'), 'Writes a setup text of chapter 9 for the channels of a script.',
+    made = command('tmats', run_of('script', 'as_tmats'),
+                   'Writes a setup text of chapter 9 for the channels of a script, or of settings of r10d.',
                    'As in: ch10 tmats --hex < SCRIPT, which is what setup = "..." takes.')
     made.add_argument('--hex', action='store_true', help='as hex digits')
     made = going_on(command('sqlite', run_of('database', 'as_sqlite'), 'Writes the entries into a new database of SQLite.',

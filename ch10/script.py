@@ -51,7 +51,7 @@ def by_lines(text: str) -> Tuple[Dict[str, object], Dict[str, List[dict]]]:
 
 
 def attributes_of(text: str) -> Iterator[Tuple[str, object]]:
-    """The attributes of a setup text for a script, or for the settings of r10d, which have a table `control` and may leave out the time."""
+    """The attributes of a setup text for a script, or for settings of r10d, which have a table `control` and may lack a time."""
     top, tables = tables_of(text)
     is_service = isinstance(top.get('control'), dict)
     if is_service:

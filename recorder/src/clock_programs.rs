@@ -93,10 +93,10 @@ fn name(text: &str) -> String {
 /// dispersion, and half of the root delay.
 fn chrony(text: &str) -> Option<Program> {
     let parts: Vec<&str> = text.trim().split(',').collect();
-    let [_, by, _, _, offset, _, _, _, _, _, delay, dispersion, _, leap] = parts.as_slice() else { return None };
+    let [id, by, _, _, offset, _, _, _, _, _, delay, dispersion, _, leap] = parts.as_slice() else { return None };
     let error = time(offset, 1e9)? + time(dispersion, 1e9)? + time(delay, 1e9)? / 2;
     let is_synchronised = *leap != "Not synchronised";
-    Some(Program { name: "chrony", is_synchronised, is_of_card: false, source: name(by), error })
+    Some(Program { name: "chrony", is_synchronised, is_of_card: false, source: name(if by.is_empty() { id } else { by }), error })
 }
 
 /// Of `ntpq -c rv`: `leap=00, offset=0.123, ..`, in thousandths of a second.
@@ -140,6 +140,9 @@ mod tests {
         let text = "C0A80101,192.168.1.1,2,1764555600.1,0.000001000,0.0,0.0,-3.2,0.0,0.1,0.000400000,0.000050000,64.2,Normal\n";
         let it = chrony(text).unwrap();
         assert_eq!((it.is_synchronised, it.source.as_str(), it.error), (true, "192.168.1.1", 251_000));
+        // as chronyd 4.3 answers that is its own source
+        let text = "7F7F0101,,8,1796096476.337449623,0.0,0.0,0.0,0.000,0.000,0.000,0.000000000,0.000000000,0.0,Normal\n";
+        assert_eq!(chrony(text).map(|it| (it.is_synchronised, it.source, it.error)), Some((true, "7F7F0101".to_string(), 0)));
         let it = chrony("00000000,,0,0.0,0.0,0.0,0.0,0.0,0.0,0.0,1.0,1.0,0.0,Not synchronised").unwrap();
         assert!(!it.is_synchronised);
         assert_eq!((chrony(""), chrony("506 Cannot talk to daemon"), chrony(&"x,".repeat(13))), (None, None, None));

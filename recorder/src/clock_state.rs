@@ -27,6 +27,8 @@ const PULSE: i128 = 2_500_000_000;
 const ROUNDED: i128 = 200;
 /// The kernel lets an error grow by so much, in millionths, until a program sets the clock again; so does this service until the next look.
 const GROWS: i128 = 500;
+/// What a program said grows by so much, as an error does in NTP (RFC 5905), until it is asked again.
+const SAID_GROWS: i128 = 15;
 
 /// A pulse each second, as the kernel saw the last one.
 #[derive(Clone, Copy, Debug, PartialEq, Eq)]
@@ -60,7 +62,8 @@ struct Heard {
 pub struct Known {
     at: Instant,
     kernel: Result<KernelClock, String>,
-    program: Option<Program>,
+    /// and when it was asked
+    program: Option<(Program, Instant)>,
     pulse: Option<Pulse>,
     wants_pulse: bool,
     uncertainty: i128,
@@ -74,8 +77,8 @@ impl Known {
     pub fn is_synchronised(&self) -> Option<bool> {
         let kernel = self.kernel.as_ref().ok().map(|it| it.is_synchronised);
         match &self.program {
-            Some(it) if it.is_of_card => Some(it.is_synchronised && kernel.unwrap_or(false)),
-            Some(it) => Some(it.is_synchronised),
+            Some((it, _)) if it.is_of_card => Some(it.is_synchronised && kernel.unwrap_or(false)),
+            Some((it, _)) => Some(it.is_synchronised),
             None => kernel,
         }
     }
@@ -87,14 +90,15 @@ impl Known {
             return None;
         }
         let kernel = self.kernel.as_ref().ok().filter(|it| it.is_synchronised).map(|it| i128::from(it.most_error) * 1000);
+        let grown = |since: Instant, by: i128| now.saturating_duration_since(since).as_nanos() as i128 * by / 1_000_000;
         let said = match &self.program {
-            Some(it) if it.is_of_card => it.error + kernel.unwrap_or(0),
-            Some(it) => it.error,
-            None => kernel?,
+            Some((it, asked)) if it.is_of_card => it.error + grown(*asked, SAID_GROWS) + kernel? + grown(self.at, GROWS),
+            Some((it, asked)) => it.error + grown(*asked, SAID_GROWS),
+            None => kernel? + grown(self.at, GROWS),
         };
         let off = self.pulse().map_or(0, |it| it.offset.abs());
-        let grown = now.saturating_duration_since(self.at).as_nanos() as i128 * GROWS / 1_000_000;
-        Some(said.max(off) + self.uncertainty + ROUNDED + grown + self.leap(grown * 1_000_000 / GROWS))
+        let past = now.saturating_duration_since(self.at).as_nanos() as i128;
+        Some(said.max(off) + self.uncertainty + ROUNDED + self.leap(past))
     }
 
     /// A second, where a leap second may come before the next look: what is read back by the time packet before it is off by that.
@@ -115,7 +119,7 @@ impl Known {
     /// Who says so.
     pub fn source(&self) -> String {
         match (&self.program, &self.kernel) {
-            (Some(it), _) => it.text(),
+            (Some((it, _)), _) => it.text(),
             (None, Ok(it)) if it.is_synchronised => "the kernel, set by a program that was not asked".to_string(),
             (None, Ok(_)) => "the kernel".to_string(),
             (None, Err(why)) => format!("nobody: the kernel cannot be asked, {why}"),
@@ -133,7 +137,7 @@ impl Known {
 
     /// What of it is told when it changes: whether it is in sync, by whom, and whether the pulse comes.
     fn news(&self) -> (Option<bool>, String, Option<bool>) {
-        let by = self.program.as_ref().map_or_else(|| self.source(), |it| it.name.to_string());
+        let by = self.program.as_ref().map_or_else(|| self.source(), |it| it.0.name.to_string());
         (self.is_synchronised(), by, self.wants_pulse.then(|| self.pulse().is_some()))
     }
 
@@ -271,7 +275,7 @@ impl Keeper {
         self.known = Known {
             at: now,
             kernel: kernel_clock::ask().map_err(|it| it.to_string()),
-            program: heard.program.filter(|it| counts(it.1)).map(|it| it.0),
+            program: heard.program.filter(|it| counts(it.1)),
             pulse: heard.pulse,
             wants_pulse: self.wants_pulse,
             uncertainty: pair.uncertainty,
@@ -328,7 +332,7 @@ impl Keeper {
             ),
             Err(why) => line("KERNEL", format!("not asked: {why}")),
         }
-        if let Some(it) = &it.program {
+        if let Some((it, _)) = &it.program {
             line("PROGRAM", it.text());
         }
         if self.wants_pulse {
@@ -368,8 +372,8 @@ mod tests {
 
     fn known(kernel: Option<bool>, program: Option<Program>) -> Known {
         let kernel = kernel.map(|it| KernelClock { is_synchronised: it, most_error: 1500, ..KernelClock::default() });
-        let kernel = kernel.ok_or("no".to_string());
-        Known { at: Instant::now(), kernel, program, pulse: None, wants_pulse: false, uncertainty: 40, time: 0 }
+        let (kernel, at) = (kernel.ok_or("no".to_string()), Instant::now());
+        Known { at, kernel, program: program.map(|it| (it, at)), pulse: None, wants_pulse: false, uncertainty: 40, time: 0 }
     }
 
     fn program(is_synchronised: bool, is_of_card: bool) -> Option<Program> {
@@ -405,6 +409,8 @@ mod tests {
         // it grows until the next look
         let it = known(Some(true), None);
         assert_eq!(it.error(it.at + Duration::from_secs(2)), Some(1_500_000 + 40 + ROUNDED + 1_000_000));
+        let it = known(None, program(true, false));
+        assert_eq!(it.error(it.at + Duration::from_secs(2)), Some(20_000 + 40 + ROUNDED + 30_000));
     }
 
     #[test]

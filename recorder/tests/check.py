@@ -26,6 +26,9 @@ TRIALS = {
 }
 
 
+LONG_ONES = ('an-hour-of-a-clock', 'disk-failures', 'a-flood', 'power-cuts', 'kills')
+
+
 def main() -> None:
     programs, names = sys.argv[1], sys.argv[2:] or list(TRIALS)
     if unknown := [it for it in names if it not in TRIALS]:
@@ -60,7 +63,7 @@ def main() -> None:
     with concurrent.futures.ThreadPoolExecutor(3) as pool:
         failed = [
             it
-            for it in pool.map(run, sorted(names, key=lambda it: it not in ('an-hour-of-a-clock', 'disk-failures', 'a-flood', 'power-cuts', 'kills')))
+            for it in pool.map(run, sorted(names, key=lambda it: it not in LONG_ONES))
             if it
         ]
     if failed:

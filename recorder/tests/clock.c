@@ -2,9 +2,9 @@
  * What it does is in its environment.
  *
  *     CLOCK_PLAN=PATH      lines `SECOND WORD VALUE`, by rising seconds of made time since the start:
- *                          step S      the system's clock steps by S seconds, and the kernel no longer holds it to be in sync
+ *                          step S      the system's clock steps by S seconds, and is in sync no longer
  *                          leap S      it steps so at a leap second, and is in sync still
- *                          coming N    the kernel says that a second is put in (1) or taken out (-1) at the end of the day, or not (0)
+ *                          coming N    the kernel says that a second is put in (1) or taken out (-1) at the end of the day
  *                          rate R      it is steered by R millionths from here on, and CLOCK_MONOTONIC with it
  *                          sync E      a program sets it: it is off by E microseconds at most, and 500 millionths more from here on
  *     CLOCK_START=NS       when made time starts: CLOCK_MONOTONIC of the machine

@@ -1,4 +1,5 @@
 """Trials of what comes in and of what goes out: each kind of input, settings, the words of control, live out."""
+import json
 import os
 import pty
 import random
@@ -331,7 +332,8 @@ def chapter_6_words(room: Room) -> str:
     must(ask('.FOLLOW 77')[0].startswith('E 01'), 'a channel that is not there')
     words = ['STATUS', 'RECORD', 'STOP', 'ERASE', 'EVENT', 'FILES', 'HEALTH', 'FIND', 'REPLAY', 'PUBLISH', 'FOLLOW', 'FIGURES']
     listed = [it.split(' ')[0] for it in ask('.HELP')]
-    words += ['TIME', 'SETUP', 'TMATS', 'MEDIA', 'MOUNT', 'DISMOUNT', 'BIT', 'CRITICAL', 'IRIG106', 'VERSION', 'MEDIUM', 'SHUTDOWN', 'HELP']
+    words += ['TIME', 'SETUP', 'TMATS', 'MEDIA', 'MOUNT', 'DISMOUNT', 'BIT', 'CRITICAL', 'IRIG106', 'VERSION', 'MEDIUM']
+    words += ['SHUTDOWN', 'HELP']
     must(listed == [f'.{it}' for it in words], f'help has {listed}')
     # each word that it lists is one, and none is an invalid command (asked with a word too many, so that nothing is done)
     for word in listed:
@@ -407,8 +409,8 @@ def live_out(room: Room) -> str:
 
 @trial
 def more_words_of_chapter_6(room: Room) -> str:
-    """The words beside recording, by a plain socket and by r10ctl: what they answer, what they refuse, and that a medium can be taken
-    away and put back."""
+    """The words beside recording, by a plain socket and by r10ctl: what they answer, what they refuse, and that a medium can be
+    taken away and put back."""
     (tcp,) = room.ports(1)
     text = channel(5, 'message', 'lines = "pipe"', 'name = "NAV;1"\n') + channel(6, 'arinc', 'lines = "pipe"')
     service = Service(room, settings(text, start='wait', control=f'tcp = "{HOST}:{tcp}"'))
@@ -448,13 +450,14 @@ def more_words_of_chapter_6(room: Room) -> str:
     must(ask('.STATUS') == [f'S 01 {clock} 1 0%'] and ask('.HEALTH 1')[0].endswith('could not be read'), 'a critical bit')
     must(ask('.CRITICAL 1 0', '.STATUS')[-1] == f'S 01 {clock + 1} 0 0%', 'the bit is a warning again')
     bits = ask('.BIT')
-    must(bits[0] == 'BIT 0 ok medium: its directory can be read' and bits[-1] == f'BIT {clock + 2} of 6 failed', f'.BIT: {bits}')
-    must(bits[4] == 'BIT 4 FAILED channel 5: messages were refused, or could not be read; nothing came in the last ten seconds', f'{bits}')
-    must(by_ctl('--json', 'bit')[0] == '{"ok":true,"test":0,"text":"medium: its directory can be read"}', f"{by_ctl('--json', 'bit')}")
+    directory = 'medium: its directory can be read'
+    must(bits[0] == f'BIT 0 ok {directory}' and bits[-1] == f'BIT {clock + 2} of 6 failed', f'.BIT: {bits}')
+    wrong = 'messages were refused, or could not be read; nothing came in the last ten seconds'
+    must(bits[4] == f'BIT 4 FAILED channel 5: {wrong}', f'{bits}')
+    must(json.loads(by_ctl('--json', 'bit')[0]) == {'ok': True, 'test': 0, 'text': directory}, f"{by_ctl('--json', 'bit')}")
     for line, number in (('.SETUP 1', 1), ('.TMATS', 1), ('.TMATS WRITE', 2), ('.TMATS FLY', 1), ('.TIME 001-00:00:00', 1),
-                         ('.CRITICAL 3', 1), ('.CRITICAL 0 x', 1), ('.CRITICAL 0 0 0', 1), ('.MOUNT', 2), ('.MEDIA 1', 1), ('.EVENT', 5)):
-        if line != '.EVENT':
-            refused(line, number)
+                         ('.CRITICAL 3', 1), ('.CRITICAL 0 x', 1), ('.CRITICAL 0 0 0', 1), ('.MOUNT', 2), ('.MEDIA 1', 1)):
+        refused(line, number)
     must(ask('.EVENT') == [], 'events without a file')
     ask('.RECORD FLT1')
     must(ask('.EVENT 7 engine   start', '.EVENT 8') == [] and by_ctl('event', '7', 'gear up') == [], 'events with a text')
@@ -464,7 +467,8 @@ def more_words_of_chapter_6(room: Room) -> str:
     must('event 7: engine start' in service.log() and '"text":"gear up"' in by_ctl('--json', 'event')[2], 'texts of events')
     refused('.DISMOUNT', 2)
     one = ask('.FILES')[0].split(' ')
-    must(one[4] == 'open' and one[7] == '-' and re.fullmatch(r'\d{4}-\d\d-\d\d \d\d:\d\d:\d\d\.\d\d', ' '.join(one[5:7])), f'.FILES: {one}')
+    at = re.fullmatch(r'\d{4}-\d\d-\d\d \d\d:\d\d:\d\d\.\d\d', ' '.join(one[5:7]))
+    must(one[4] == 'open' and one[7] == '-' and at, f'.FILES: {one}')
     ask('.STOP')
     one = ask('.FILES')[0].split(' ')
     must(len(one) == 8 and one[4] == 'closed' and one[7] >= one[6], f'.FILES: {one}')

@@ -134,8 +134,8 @@ class Plan:
 
 
 def hour_of_steps() -> list[tuple[float, str, float]]:
-    """An hour: a clock that is wrong at first, and steered, and stepped by hand there and back, with a leap second at its half. Where it
-    is said to be in sync it is."""
+    """An hour: a clock that is wrong at first, and steered, and stepped by hand there and back, with a leap second at its half.
+    Where it is said to be in sync it is."""
     lines: list[tuple[float, str, float]] = []
     off, rate, last = 0.0, 0.0, 0.0
 
@@ -246,22 +246,24 @@ def by_a_plan(room: Room, lines: list[tuple[float, str, float]], base: int, seco
     must(len(events) == len(steps), f'{len(steps)} steps, {len(events)} events: {log}')
     for value in steps:
         must(f'clock stepped by {value:+.3f} s' in log, f'no word of a step of {value} s: {log}')
-    must({it[2] for it in said.values()} == ({'yes', 'no'} if any(it[1] == 'step' for it in plan.lines) else {'yes'}), 'words of .TIME')
+    wanted = {'yes', 'no'} if any(it[1] == 'step' for it in plan.lines) else {'yes'}
+    must({it[2] for it in said.values()} == wanted, 'words of .TIME')
     must(figures['channels'][0]['unstamped'] <= 2 * len(steps), f"stamps that were not taken: {figures['channels'][0]}")
     return {'messages': len(of_messages), 'held': held, 'steps': len(steps), 'first': first, 'percent': int(100 * worst)}
 
 
 @trial
 def an_hour_of_a_clock(room: Room) -> str:
-    """Over an hour of a clock that is steered and stepped by 10 ms to an hour both ways, and over leap seconds, times that are read back
-    are within what .TIME says of their error. No recording begins before the clock is in sync."""
+    """Over an hour of a clock that is steered and stepped by 10 ms to an hour both ways, and over leap seconds, times that are read
+    back are within what .TIME says of their error. No recording begins before the clock is in sync."""
     # 23:30 and 23:58 of the last day of a year
     hour = by_a_plan(room, hour_of_steps(), 1798759800, 3600, 90, True)
     must(120 <= hour['first'] <= 180, f"the recording began after {hour['first']} s, and the clock was in sync after 120")
     must(hour['steps'] == 15 and hour['held'] * 4 > hour['messages'], f'{hour}')
     leap = by_a_plan(room, minutes_of_a_leap(), 1798761480, 240, 40, False)
     must(leap['steps'] == 1 and leap['held'] * 4 > leap['messages'], f'{leap}')
-    return f"{hour['held']} of {hour['messages']} messages have a claim, at most {hour['percent']}% of it; {hour['steps'] + leap['steps']} steps"
+    steps, percent = hour['steps'] + leap['steps'], hour['percent']
+    return f"{hour['held']} of {hour['messages']} messages have a claim, and are off by {percent}% of it at most; {steps} steps"
 
 
 def captured(path: pathlib.Path, port: int) -> dict[int, int]:
@@ -294,7 +296,8 @@ def a_burst(room: Room, count: int, load: int) -> tuple[float, float, int]:
         raise NotTried(f'dumpcap captures nothing here: {capture.stderr.read().decode() if capture.stderr else ""}')
     service = Service(room, settings(udp_channels([port], more='capacity = 65536\n'), commit_ms=100))
     # (each ends by itself, whatever becomes of this program)
-    busy = [room.start([sys.executable, '-c', 'import time\nend = time.time() + 20\nwhile time.time() < end: pass']) for _ in range(load)]
+    loop = 'import time\nend = time.time() + 20\nwhile time.time() < end: pass'
+    busy = [room.start([sys.executable, '-c', loop]) for _ in range(load)]
     time.sleep(0.2)
     took = float(subprocess.run([burst, HOST, str(port), str(count)], stdout=subprocess.PIPE, check=True).stdout)
     for it in busy:
@@ -334,10 +337,11 @@ def a_burst_and_a_capture(room: Room, count: int = 10_000) -> str:
 
 @trial
 def sources_with_stamps(room: Room) -> str:
-    """The examples of a sender, in Python and C: their messages have bus, status and time as they were sent; what is missing is told; a
-    stamp an hour off spoils nothing."""
+    """The examples of a sender, in Python and C: their messages have bus, status and time as they were sent; what is missing is
+    told; a stamp an hour off spoils nothing."""
     (port,) = room.ports(1)
-    text = ''.join(channel(number, kind, f'udp = "{HOST}:{port}", header = "r10"') for number, kind in ((20, '1553'), (30, 'arinc')))
+    where = f'udp = "{HOST}:{port}", header = "r10"'
+    text = channel(20, '1553', where) + channel(30, 'arinc', where)
     examples, number = pathlib.Path(__file__).parent.parent / 'examples', 200
     senders: list[list[str]] = [[str(examples / 'sender.py')]]
     if (compiler := shutil.which('cc')) is not None:
@@ -371,10 +375,10 @@ def sources_with_stamps(room: Room) -> str:
     found = entries((room.folder / 'medium').read_bytes(), 0)
     times = Times(found)
     buses, words = ([it for it in found if it.channel == number] for number in (20, 30))
-    must([it.words for it in buses] == [['2000', '0007', f'2842{n & 0xffff:04x}{n >> 16:04x}'] for n in range(number)] * len(senders),
-         f'1553: {buses[:3]}')
-    must([it.words for it in words[:total]] == [['5', '0', '0', '1', f'{n << 10 | 0xc1:08x}'] for n in range(number)] * len(senders),
-         f'ARINC: {words[:3]}')
+    of_buses = [['2000', '0007', f'2842{n & 0xffff:04x}{n >> 16:04x}'] for n in range(number)]
+    of_words = [['5', '0', '0', '1', f'{n << 10 | 0xc1:08x}'] for n in range(number)]
+    must([it.words for it in buses] == of_buses * len(senders), f'1553: {buses[:3]}')
+    must([it.words for it in words[:total]] == of_words * len(senders), f'ARINC: {words[:3]}')
     must([it.gap for it in words[total:]] == ['0', '2', '0'], f'{words[total:]}')
     last = [times.of(it.count) for it in words[-3:]]
     must(all(abs(a - b) < SECOND for a, b in zip(last, last[1:])), f'a stamp an hour ahead: {last}')
@@ -387,11 +391,12 @@ def sources_with_stamps(room: Room) -> str:
 
 @trial
 def packets_that_come_in(room: Room) -> str:
-    """Packets that one recorder sends live are recorded by another: the messages of each kind, with their times; the first packet that
-    goes out is the setup."""
+    """Packets that one recorder sends live are recorded by another: the messages of each kind, with their times; setup and time are
+    counted."""
     kinds = list(KINDS)
     ports = room.ports(2)
-    text = ''.join(channel(10 + n, kind, f'udp = "{HOST}:{ports[0]}", header = "ch10", source = {50 + n}') for n, kind in enumerate(kinds))
+    where = f'udp = "{HOST}:{ports[0]}", header = "ch10", source = '
+    text = ''.join(channel(10 + n, kind, f'{where}{50 + n}') for n, kind in enumerate(kinds))
     other = Service(room, settings(text))
     first = Room(str(room.programs))
     try:
@@ -418,7 +423,8 @@ def packets_that_come_in(room: Room) -> str:
     of_came, of_sent, worst = Times(came), Times(sent), 0
     for n in range(len(kinds)):
         one, two = ([it for it in of if it.channel == number] for of, number in ((came, 10 + n), (sent, 50 + n)))
-        must([it.words for it in one] == [it.words for it in two] and len(one) == 20, f'{kinds[n]}: {one[:2]}, and {two[:2]} were sent')
+        is_one = [it.words for it in one] == [it.words for it in two]
+        must(is_one and len(one) == 20, f'{kinds[n]}: {one[:2]}, and {two[:2]} were sent')
         worst = max(worst, *(abs(of_came.of(a.count) - of_sent.of(b.count)) for a, b in zip(one, two)))
     must(worst < 1_000_000, f'times are {worst / 1e6:.3f} ms off')
     return f'{20 * len(kinds)} messages, at most {worst / 1e6:.4f} ms off'
@@ -426,8 +432,8 @@ def packets_that_come_in(room: Room) -> str:
 
 @trial
 def programs_that_set_the_clock(room: Room) -> str:
-    """Tools of chrony, ntpd and ptp4l, and a pulse, are stood in for: what they say is in .TIME, the metrics and the log. One that hangs
-    holds up nothing."""
+    """Tools of chrony, ntpd and ptp4l, and a pulse, are stood in for: what they say is in .TIME, the metrics and the log. One that
+    hangs holds up nothing."""
     tools, (port,) = room.folder / 'tools', room.ports(1)
     tools.mkdir()
 
@@ -468,7 +474,8 @@ def programs_that_set_the_clock(room: Room) -> str:
     with socket.create_connection((HOST, port)) as it:
         it.sendall(b'GET /metrics HTTP/1.0\r\n\r\n')
         metrics = b''.join(iter(lambda: it.recv(65536), b'')).decode()
-    for wanted in ('r10_clock_synchronised 1', 'r10_clock_pps 1', 'r10_clock_pps_offset_seconds 0.00075', 'r10_clock_error_seconds 0.00'):
+    for wanted in ('synchronised 1', 'pps 1', 'pps_offset_seconds 0.00075', 'error_seconds 0.00'):
+        wanted = f'r10_clock_{wanted}'
         must(f'\n{wanted}' in metrics, f'{wanted} is not among the metrics: {metrics}')
     until(lambda: said()['PPS'] == 'none', 'a pulse that ends is still there')
     service.end()

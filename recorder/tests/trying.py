@@ -21,7 +21,7 @@ from typing import Any, Callable, Iterable, Optional
 from kinds import KINDS
 
 TOP = pathlib.Path(__file__).resolve().parent.parent.parent
-CH10 = TOP / 'scripts' / ('tools' if (TOP / 'scripts' / 'tools').is_dir() else '.') / 'ch10.py'
+CH10 = TOP / 'scripts' / 'ch10.py'
 R10 = os.environ.get('R10', str(TOP / 'r10'))
 # An address of this machine that no other run has: so ports that are free stay so.
 HOST = '127.' + '.'.join(str(random.SystemRandom().randrange(1, 255)) for _ in range(3))

@@ -4,7 +4,8 @@
 #     under_systemd.sh PROGRAMS    # the folder with r10d and r10ctl; half a minute. Status 1 where something is not as it has to be
 #
 # Tried are: no start without settings; the user; readiness; what the hardening leaves; inputs by UDP and by a pipe; a restart after
-# kill -9 and by the watchdog; a stop under load; no restart with wrong settings. NSPAWN names another systemd-nspawn.
+# kill -9 and by the watchdog; whether it may ask about the clock; a stop under load; no restart with wrong settings. NSPAWN names
+# another systemd-nspawn.
 set -u
 
 top=$(cd "$(dirname "$(readlink -f "${BASH_SOURCE[0]}")")/../.." && pwd)
@@ -56,6 +57,9 @@ found=$(ps -o user= -p "$pid") caps=$(sed -n 's/^CapEff:\t//p' /proc/"$pid"/stat
 must "it runs as its user, and has no capabilities" "$found $caps" "r10 0000000000000000"
 found=$(stat -c '%U %a' /run/r10/control /run/r10/lines /var/lib/r10/medium | tr '\n' ' ')
 must "socket, pipe and medium are for user and group" "$found" "r10 660 r10 660 r10 640 "
+found=$(r10ctl time | sed -n 's/^KERNEL \([a-z]*\) .*/\1/p')
+must "it may ask the kernel whether the clock is right" "$(grep -cx '\(un\)\?synchronised' <<<"$found")" 1
+must "and may not set it" "$(setpriv --reuid=r10 --clear-groups --bounding-set=-all date -s @0 2>&1 | grep -c 'not permitted')" 1
 for i in $(seq 1000); do printf 'm%07d' "$i" >/dev/udp/127.0.0.1/20005; done
 for i in $(seq 100); do echo "states = $i"; done >/run/r10/lines
 setpriv --reuid=65534 --regid=r10 --clear-groups sh -c 'echo "states = 200" >/run/r10/lines'
