@@ -44,7 +44,7 @@ else
     echo "lint: NOT TRIED: there is no pyflakes3 and no ruff for the Python scripts"
 fi
 if command -v shellcheck >/dev/null; then
-    shellcheck --severity=warning "${shells[@]}" || bad=1
+    printf '%s\0' "${shells[@]}" | xargs -0 -n 8 -P "$(nproc)" shellcheck -x --severity=warning || bad=1
 else
     echo "lint: NOT TRIED: there is no shellcheck for the shell scripts"
 fi
