@@ -151,9 +151,10 @@ def of_one_size(batch: Batch, step: Union[int, Array], number: Array, rest: Unio
     return places, number, bad
 
 
-def of_own_size(batch: Batch, head: Union[int, Array], of_size: Union[int, Array], is_even: bool, most: Optional[Array]) -> Places:
-    """The places of entries with so many bytes before their own, whose length of two bytes stands at such a place; of so many in
-    each packet, or of as many as it has."""
+def of_own_size(batch: Batch, head: Union[int, Array], of_size: Union[int, Array], is_even: bool, most: Optional[Array],
+                mask: int = 0xFFFF) -> Places:
+    """The places of entries with so many bytes before their own, whose length, these bits of two bytes, stands at such a place; of
+    so many in each packet, or of as many as it has."""
     octets, at, end = batch.octets, batch.starts.copy(), batch.ends
     number, bad = numpy.zeros(len(at), numpy.int64), numpy.zeros(len(at), bool)
     heads, sizes_at = numpy.broadcast_to(head, at.shape), numpy.broadcast_to(of_size, at.shape)
@@ -165,7 +166,7 @@ def of_own_size(batch: Batch, head: Union[int, Array], of_size: Union[int, Array
     here, stop, left = at[live], end[live], None if most is None else most[live]
     step = 0
     while len(live) >= FEW:
-        behind = here + sizes[numpy.minimum(here + (of_size if is_one else sizes_at[live]), last)]
+        behind = here + (sizes[numpy.minimum(here + (of_size if is_one else sizes_at[live]), last)] & mask)
         behind += head if is_one else heads[live]
         fits = behind <= stop
         if not fits.all():
@@ -183,7 +184,7 @@ def of_own_size(batch: Batch, head: Union[int, Array], of_size: Union[int, Array
             left = None if left is None else left[more]
     number[live], at[live] = step, here
     rest = [(int(place), *one_by_one(octets, int(at[place]), int(end[place]), None if most is None else int(most[place]) - step,
-                                     int(heads[place]), int(sizes_at[place]), is_even)) for place in live]
+                                     int(heads[place]), int(sizes_at[place]), is_even, mask)) for place in live]
     for place, found, is_bad in rest:
         number[place] += len(found)
         bad[place] |= is_bad
@@ -196,15 +197,15 @@ def of_own_size(batch: Batch, head: Union[int, Array], of_size: Union[int, Array
     return places, number, bad
 
 
-def one_by_one(octets: Array, at: int, end: int, number: Optional[int], head: int, of_size: int,
-               is_even: bool) -> Tuple[List[int], bool]:
+def one_by_one(octets: Array, at: int, end: int, number: Optional[int], head: int, of_size: int, is_even: bool,
+               mask: int) -> Tuple[List[int], bool]:
     """The places of the entries of one packet, and whether they do not fit."""
     places: List[int] = []
     data, begin = octets[at:max(end, at)].tobytes(), at
     while at < end if number is None else len(places) < number:
         if at + head > end:
             return places, True
-        size = data[at - begin + of_size] | data[at - begin + of_size + 1] << 8
+        size = (data[at - begin + of_size] | data[at - begin + of_size + 1] << 8) & mask
         if at + head + size > end:
             return places, True
         places.append(at)

@@ -43,6 +43,7 @@ public standard alone.
   ch10 setup < INPUT          the setup text, or --tree
   ch10 range < INPUT          a range of time (--from, --to) as a recording
   ch10 file NAME < IMAGE      one file of an image, as a recording
+  ch10 export --as FORM < INPUT   Ethernet, video, analog or PCM as a file
   ch10 sqlite < INPUT         the entries as a database of SQLite (--out FILE)
   ch10 tmats < SCRIPT         a setup text for the channels of a script of r10, or of r10d's settings
   ch10 catalogue add|find|show    a catalogue of many recordings
@@ -196,6 +197,14 @@ def parser_of() -> 'Parser':
     made = command('file', run_of('cuts', 'as_file'), 'Writes one file of an image, byte for byte.',
                    'As in: ch10 file FLT1 < medium.img | r10 check')
     made.add_argument('name', nargs='?', metavar='NAME', help='its name, as r10 files prints it')
+    made = going_on(command('export', run_of('exports', 'export'), 'Writes what channels carry as a file of other programs.',
+                            EXPORT_MORE))
+    made.add_argument('--as', dest='form', required=True, choices=('pcapng', 'ts', 'wav', 'samples', 'frames'), metavar='FORM',
+                      help='pcapng, ts, wav, samples or frames')
+    made.add_argument('--channel', type=channel_number, metavar='C', help='this channel alone')
+    made.add_argument('--bits', type=number, metavar='N', help='frames: the bits of a minor frame, where the setup text has none')
+    made.add_argument('--signed', action='store_true', help="wav: samples are of two's complement")
+    with_clock(made)
     add_words(commands, Parser, channel_number, with_clock)
     COMMANDS.extend(commands.choices)
     return top
@@ -241,6 +250,15 @@ RANGE_MORE = """Packets stand as they are, each one whole that has an entry in t
 where it is not read, its own count), and the loss report before it; before them
 stand the setup and the last time before the range. The index is left out, for
 it would name other places.
+"""
+
+
+EXPORT_MORE = """FORM is one of these; the packets stay in their order in the recording.
+  pcapng   Ethernet frames (format 0), an interface for each channel
+  ts       the transport stream of a video channel (formats 0 to 2)
+  wav      the samples of an analog channel (format 1), 16 bits each
+  samples  the same as CSV, a line for each sample
+  frames   PCM (format 1) as CSV: packed minor frames, and throughput
 """
 
 

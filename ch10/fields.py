@@ -15,7 +15,8 @@ from .tmats import Names
 
 FRONT = ('channel', 'name', 'count', 'time', 'lost', 'type')
 SHARED = ('value', 'text', 'sub', 'bus', 'bus_name', 'errors')
-COLUMNS = tuple(dict.fromkeys(FRONT + SHARED + tuple(column for kind in KINDS for column in kind.column_names)))
+COLUMNS = tuple(dict.fromkeys(FRONT + SHARED + tuple(
+    column for kind in KINDS if not kind.is_later for column in kind.column_names)))
 
 
 class Reader:

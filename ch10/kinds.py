@@ -25,7 +25,7 @@ from typing import Any, Dict, Optional, Sequence
 
 from .standard import EVENT, TIME
 
-BUS, DISCRETE, MESSAGE, ARINC, UART = 0x19, 0x29, 0x30, 0x38, 0x50
+BUS, DISCRETE, MESSAGE, ARINC, UART, CAN = 0x19, 0x29, 0x30, 0x38, 0x50, 0x78
 WHOLE, REAL, TRUTH, TEXT, VALUE = 'INTEGER', 'REAL', 'BOOLEAN', 'TEXT', 'value'  # VALUE: a text, what the message itself is
 Columns = Dict[str, str]  # of each its form by its name
 
@@ -40,6 +40,7 @@ class Kind:
     .columns   of csv, json and sqlite, each with its form; those that other kinds have too in the order of `ch10.fields.SHARED`
     .own       the columns of its table in a database, each with its type; those that may be NULL or vary in length at the end
     .together  how many of these stand together, each such group at the end of a row
+    .is_later  whether csv of all kinds has those of its columns alone that were there before it
     .step      the step that makes this table (`ch10.store_schema`): for a kind that is new one of its own, after all others
     .tmats     how a setup text (chapter 9) describes its channels, or None: `data_type`, the channel data type; `format_name`, the
                attribute of the format; `format`, the one that r10 writes; `group`, of what a channel carries, or None: S, messages,
@@ -47,8 +48,10 @@ class Kind:
     """
 
     def __init__(self, data_type: int, name: str, module: str, keys: Columns, columns: Columns, own: Columns,
-                 together: Sequence[int] = (), step: int = 2, tmats: Optional[Dict[str, Any]] = None) -> None:
+                 together: Sequence[int] = (), step: int = 2, tmats: Optional[Dict[str, Any]] = None,
+                 is_later: bool = False) -> None:
         self.type, self.name, self.module, self.together, self.step, self.tmats = data_type, name, module, together, step, tmats
+        self.is_later = is_later
         self.keys, self.columns, self.own = tuple(keys.items()), tuple(columns.items()), tuple(own.items())
         self.column_names = tuple(columns)
         self.table = 'entry_' + name  # in a database of many recordings
@@ -97,6 +100,12 @@ KINDS = (
          keys={'number': WHOLE, 'occurrence': WHOLE},
          columns={'number': WHOLE, 'occurrence': WHOLE},
          own={'number': 'SMALLINT', 'occurrence': 'INTEGER'}),
+    Kind(CAN, 'can', 'kind_can',
+         keys={'data_error': TRUTH, 'format': TRUTH, 'sub': WHOLE, 'bytes': VALUE},
+         columns={'value': TEXT, 'sub': WHOLE, 'errors': TEXT, 'id': WHOLE, 'extended': TRUTH, 'remote': TRUTH},
+         own={'sub': 'SMALLINT', 'id': 'INTEGER', 'extended': 'BOOLEAN', 'remote': 'BOOLEAN', 'errors': '{text}',
+              'value': '{bytes}'},
+         together=(1, 1), step=5, is_later=True),
 )
 BY_NAME = {kind.name: kind for kind in KINDS}
 

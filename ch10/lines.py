@@ -61,7 +61,11 @@ class Csv:
         return '%d,%s,' % (channel, csv_text(self.reader.names.channel(channel)))
 
     def groups(self, kind: int, block: Block) -> List[Group]:
-        return MEANT[kind](block, self.reader)
+        groups = MEANT[kind](block, self.reader)
+        if self.columns is COLUMNS and BY_TYPE[kind].is_later:
+            names = iter(BY_TYPE[kind].column_names)
+            groups = [group for group in groups if [next(names) in COLUMNS for _ in range(group.number)][0]]
+        return groups
 
     def cell(self, _kind: int, _place: int, value: Any) -> str:
         return '' if value is None else csv_text(value) if value.__class__ is str else str(value)
@@ -111,7 +115,7 @@ class Json(Csv):
     quote = b'"'
 
     def __init__(self, reader: Reader, only: Optional[Kind] = None) -> None:
-        self.reader, self.numbering, self.shapes, self.forms = reader, reader.numbering, {}, {}
+        self.reader, self.numbering, self.columns, self.shapes, self.forms = reader, reader.numbering, (), {}, {}
         for kind in KINDS:
             if only in (None, kind):
                 self.shape(kind, kind.columns)

@@ -8,6 +8,7 @@ from typing import Dict, Iterable, List, Optional, Sequence, Tuple
 from . import walk
 from .bodies import BODIES
 from .clocks import BITS, COUNTLESS, NOTHING, Asked, Sessions, TimeLine, Timing
+from .data_types import family_of
 from .kinds import by_type
 from .packets import KNOWN, UNTOLD, Packet, Resync, Stretch, loss_of, lost_before, packet_at
 from .standard import COUNT_BITS, INDEX, NONE_LATER, SETUP, SPAN, TIME, Damaged, Data, Fault, let_go
@@ -16,9 +17,6 @@ from .tmats import Names
 
 STATES = by_type('last_state')
 REPORT_ROW = 0x100  # in place of its data type, 0x00, which others have for something else
-FAMILIES = {0x00: 'computer', 0x08: 'pcm', 0x10: 'time', 0x18: '1553', 0x20: 'analog', 0x28: 'discrete', 0x30: 'message',
-            0x38: 'arinc',
-            0x40: 'video', 0x48: 'image', 0x50: 'uart', 0x58: '1394', 0x60: 'parallel', 0x68: 'ethernet', 0x70: 'tspi', 0x78: 'can'}
 
 
 def name_of(kind: int) -> str:
@@ -27,7 +25,7 @@ def name_of(kind: int) -> str:
         return BODIES[kind].name
     if kind == REPORT_ROW:
         return 'report'
-    return '%s-%02x' % (FAMILIES.get(kind & 0xF8, 'type'), kind)
+    return '%s-%02x' % (family_of(kind), kind)
 
 
 class Row:

@@ -5,15 +5,17 @@ import re
 from collections import OrderedDict
 from typing import Dict, Iterator, List, Optional, Tuple
 
+from .data_types import FIBRE, family_of
+
 MOST_NAME = 40
 ATTRIBUTE = re.compile(r'[A-Z](-[0-9]+)?\\[^\s;:]+$').match
 TRACK = re.compile(r'(R-[0-9]+)\\TK1-([0-9]+)$').match
 LINK = re.compile(r'(B-[0-9]+)\\DLN$').match
 
 # The channel data types of the recorder attributes, and the families of data types of packets that they are.
-FAMILY = {'TIMEIN': 0x10, 'PCMIN': 0x08, '1553IN': 0x18, 'ANAIN': 0x20, 'DISIN': 0x28, 'MSGIN': 0x30, '429IN': 0x38, 'VIDIN': 0x40,
-          'IMGIN': 0x48, 'UARTIN': 0x50,
-          '1394IN': 0x58, 'PARIN': 0x60, 'ETHIN': 0x68, 'TSPIN': 0x70, 'CANIN': 0x78}
+FAMILY = {'TIMEIN': 'time', 'PCMIN': 'pcm', '1553IN': '1553', 'ANAIN': 'analog', 'DISIN': 'discrete', 'MSGIN': 'message',
+          '429IN': 'arinc', 'VIDIN': 'video', 'IMGIN': 'image', 'UARTIN': 'uart', '1394IN': '1394', 'PARIN': 'parallel',
+          'ETHIN': 'ethernet', 'TSPIN': 'tspi', 'CANIN': 'can', 'FBCHIN': FIBRE}
 
 
 def attributes(data: bytes) -> 'OrderedDict[str, str]':
@@ -77,7 +79,7 @@ class Names:
                 said.append('channel %d is not named' % channel)
             else:
                 named = self.channels[channel][1].upper()
-                others = sorted(kind for kind in kinds[channel] if named in FAMILY and FAMILY[named] != kind & 0xF8)
+                others = sorted(kind for kind in kinds[channel] if named in FAMILY and FAMILY[named] != family_of(kind))
                 if others:
                     said.append('channel %d is named %s, and has packets of type %s'
                                 % (channel, named, ', '.join('%02x' % kind for kind in others)))

@@ -16,7 +16,7 @@ import play_cases
 from ch10 import command, script
 from ch10_damage import one_damaged
 from ch10_meanings import MOMENT, run
-from ch10_recordings import SECOND, Maker, civil_body, flight
+from ch10_recordings import SECOND, Maker, civil_body, flight, foreign
 from check_cases import FIRST, letters, number
 
 TOP = pathlib.Path(__file__).resolve().parents[2]
@@ -221,14 +221,15 @@ def outputs_without_room() -> Tuple[object, object]:
     with tempfile.TemporaryDirectory() as folder:
         path, base = os.path.join(folder, 'flight.ch10'), os.path.join(folder, 'range.db')
         data = b''.join(flight(random.Random('room'), 3))
+        analog = b''.join(foreign())
         pathlib.Path(path).write_bytes(data)
         text = (TOP / 'examples' / 'first.toml').read_bytes()
         run(['catalogue', 'add', '--unjudged', '--jobs', '1', '--db', base, path], b'')
         for words in (['summary'], ['csv'], ['json'], ['svg'], ['setup'], ['range'], ['tmats'], ['file', 'FLT1'],
                       ['catalogue', 'find', '--db', base], ['catalogue', 'add', '--unjudged', '--jobs', '1', '--db', base, path],
                       ['load', '--unjudged', '--jobs', '1', '--db', base, path], ['report', '--unjudged', path], ['--help'],
-                      ['--version']):
-            given = text if words[0] == 'tmats' else play_cases.alone(FIRST) if words[0] == 'file' else data
+                      ['--version'], ['export', '--as', 'samples']):
+            given = {'tmats': text, 'export': analog, 'file': play_cases.alone(FIRST)}.get(words[0], data)
             done.add(words[0])
             with open('/dev/full', 'wb', buffering=0) as to:
                 found[' '.join(words[:2 if words[0] == 'catalogue' else 1])] = command.answer(words, lambda: given, lambda: to)

@@ -162,6 +162,50 @@ def second_headers_damaged() -> Found:
     return found, [(1, ['a wrong checksum of the secondary header'])] * 3 + [(1, ['a wrong data checksum'])] * 3
 
 
+# ---- stamps in the format of the secondary header (11.2.1.1, flag bits 6, 3 and 2)
+
+def time_of(form: int, ticks: int) -> bytes:
+    """A time of so many units of 100 ns in a format of the secondary header: chapter 4, IEEE 1588, the extended counter."""
+    if form == 0:
+        return bytes(2) + word(ticks % 100000 // 10, 2) + word(ticks // 100000, 4)
+    if form == 1:
+        return word(ticks % 10 ** 7 * 100, 4) + word(ticks // 10 ** 7, 4)
+    return word(ticks * 100, 8)
+
+
+def stamps_of_second_headers() -> Found:
+    """Stamps in each format are counted from the packet's counter on, by their time after that of the secondary header: UART,
+    messages, 1553, discretes and events, also where a packet with plain stamps stands beside it."""
+    found, wanted = [], []
+    for form in range(3):
+        start = (77 * 65536 * 100000 - 30, 1700000000 * 10 ** 7 - 40, 987654321)[form]  # whose words are full soon
+        flags, second = 0x40 | form << 2, second_header(time_of(form, start))
+        at = [time_of(form, start + past) for past in (0, 50, 10 ** 7 + 120)]
+        parts = [
+            packet(5, 0x50, 20000, word(1 << 31, 4) + b''.join(one + uart_entry(b'A') for one in at), 0, flags, second),
+            packet(5, 0x50, 40000, word(1 << 31, 4) + uart_entry(b'B', stamp=40007), 1),
+            packet(6, 0x30, 20000, word(1, 4) + at[1] + word(1, 2) + word(0, 2) + b'x\0', 0, flags, second),
+            packet(7, 0x19, 20000, word(1, 4) + at[1] + word(0, 2) + word(80, 2) + word(2, 2) + word(0x3811, 2), 0, flags,
+                   second),
+            packet(9, 0x29, 20000, word(8 << 3, 4) + at[2] + word(1, 4), 0, flags, second),
+            packet(2, 0x02, 20000, word(1, 4) + at[1] + word(1 << 28 | 3, 4), 0, flags, second)]
+        data = b''.join(opened() + parts)
+        found.append((cells([], data, 'channel', 'count'), sum(row['opaque'] for row in summary_rows(data).values())))
+        wanted.append(([('1', '1000'), ('5', '20000'), ('2', '20050'), ('5', '20050'), ('6', '20050'), ('7', '20050'),
+                        ('5', '40007'), ('5', '10020120'), ('9', '10020120')], 0))
+    return found, wanted
+
+
+def stamps_of_no_header() -> Found:
+    """Without a secondary header, or in its reserved format, such stamps are not read, and the packet is counted as opaque."""
+    body = word(1 << 31, 4) + uart_entry(b'A', stamp=5)
+    found = []
+    for flags, second in ((0x40, b''), (0x4C, second_header(bytes(8))), (0x44, second_header(bytes(8)))):
+        row = summary_rows(b''.join(opened() + [packet(5, 0x50, 2000, body, 0, flags, second)]))[5, 'uart']
+        found.append((row['packets'], row['entries'], row['opaque']))
+    return found, [(1, 0, 1), (1, 0, 1), (1, 1, 0)]
+
+
 # ---- discretes (11.2.8)
 
 def discretes(length: int, msb: int, entries: Iterable[Tuple[int, int]]) -> bytes:
@@ -205,5 +249,61 @@ def discretes_at_the_top_in_a_database() -> Found:
     return stored, wanted
 
 
-TRIALS: List[Callable[[], Found]] = [uart_without_stamps, uart_without_stamps_cut, second_headers, second_headers_damaged,
+# ---- controller area network (11.2.18)
+
+def can_frame(stamp: int, data: bytes, identifier: int, is_long: int = 0, is_asking: int = 0, sub: int = 0,
+              errors: int = 0) -> bytes:
+    """A frame: its stamp, its header with the length of what follows, the word with the identifier, and its bytes."""
+    mark = is_long << 31 | is_asking << 30 | identifier
+    return word(stamp, 8) + word(4 + len(data), 2) + word(errors << 14 | sub, 2) + word(mark, 4) + data + bytes(len(data) & 1)
+
+
+def can_frames() -> Found:
+    """Identifiers of both lengths, frames that ask, errors and subchannels, in csv, json and a database."""
+    body = word(4, 4) + can_frame(2001, b'\x01\x02\x03', 0x7FF) + can_frame(2002, bytes(8), 0x1ABCDEF0, 1, 0, 5)
+    body += can_frame(2003, b'', 0x123, 0, 1, 0x3FFF, 1) + can_frame(2004, b'\xff', 0, 0, 0, 0, 3)
+    data = b''.join(opened() + [packet(9, 0x50, 2000, word(0, 4) + uart_entry(b'x')), packet(12, 0x78, 2000, body, 0, 3)])
+    columns = 'count', 'value', 'sub', 'errors', 'id', 'extended', 'remote'
+    whole = [line.split(',')[1:9:1] for line in run(['csv'], data)[1].decode().splitlines()[:1]]
+    said = [json.loads(line) for line in run(['json', '--kind', 'can'], data)[1].splitlines()]
+    with tempfile.TemporaryDirectory() as folder:
+        path = str(pathlib.Path(folder, 'f.db'))
+        run(['sqlite', '--out', path], data)
+        base = sqlite3.connect(path)
+        stored = base.execute('SELECT count, value, sub, errors, id, extended, remote FROM can ORDER BY rowid').fetchall()
+        base.close()
+    wanted = [(2001, '010203', 0, '', 0x7FF, False, False), (2002, '00' * 8, 5, '', 0x1ABCDEF0, True, False),
+              (2003, '', 0x3FFF, 'format error', 0x123, False, True), (2004, 'ff', 0, 'data error+format error', 0, False, False)]
+    row = summary_rows(data)[12, 'can']
+    return (cells(['--kind', 'can'], data, *columns), [tuple(one[name] for name in columns) for one in said], stored,
+            (row['entries'], row['opaque'], row['first'], row['last']), whole,
+            cells(['--channel', '12'], data, 'count', 'type', 'value', 'sub', 'errors')), (
+        [tuple(str(int(one)) if isinstance(one, bool) else str(one) for one in row) for row in wanted], wanted,
+        [tuple(row) for row in wanted], (4, 0, 2001, 2004), [['name', 'count', 'time', 'lost', 'type', 'value', 'text', 'sub']],
+        [(str(row[0]), 'can', row[1], str(row[2]), row[3]) for row in wanted])
+
+
+def can_frames_cut() -> Found:
+    """A frame whose length leads over its body, or has no room for an identifier, is a fault of its packet."""
+    whole = can_frame(2001, b'\x01\x02', 1) + can_frame(2002, b'\x03\x04', 2)
+    short = whole[:8] + word(3, 2) + whole[10:]
+    found = []
+    for body in (whole[:-1], short, whole[:20]):
+        data = b''.join(opened() + [packet(12, 0x78, 2000, word(2, 4) + body), packet(12, 0x78, 2001, word(2, 4) + whole, 1)])
+        found.append((run(['csv', '--keep-going'], data)[0], cells(['--keep-going', '--kind', 'can'], data, 'value', 'id')))
+    return found, [(1, [('0102', '1'), ('0304', '2')])] * 3
+
+
+def fibre_channel() -> Found:
+    """Types 0x79 and 0x7a are Fibre Channel, and a setup text that calls them CAN does not agree."""
+    data = b''.join(opened(b'R-1\\TK1-1:12;R-1\\CDT-1:CANIN;R-1\\TK1-2:13;R-1\\CDT-2:CANIN;')
+                    + [packet(12, 0x79, 2000, bytes(8)), packet(12, 0x7A, 2000, bytes(8), 1), packet(13, 0x78, 2000, word(0, 4))])
+    said = run(['setup', '--tree'], data)[1].decode().splitlines()
+    return (sorted(summary_rows(data))[2:], said[said.index('') + 1:]), (
+        [(12, 'fibre-79'), (12, 'fibre-7a'), (13, 'can')],
+        ['channel 1 is not named', 'channel 12 is named CANIN, and has packets of type 79, 7a'])
+
+
+TRIALS: List[Callable[[], Found]] = [stamps_of_second_headers, stamps_of_no_header, can_frames, can_frames_cut, fibre_channel,
+                                     uart_without_stamps, uart_without_stamps_cut, second_headers, second_headers_damaged,
                                      discretes_at_the_top, discretes_at_the_top_in_a_database]

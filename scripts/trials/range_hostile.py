@@ -359,6 +359,8 @@ def older(room: str, dsns: Sequence[str], made: str) -> None:
                     if table == 'channel' and step > 2:
                         row = dict(row, lower_name='nav Übung')  # which the third step brought
                     base.insert(table, tuple(row), [tuple(row.values())])
+                if step >= 3:  # which has a column for it
+                    base.rows('UPDATE channel SET lower_name = lower(name)')
             line = line_of(['catalogue', 'find', '--db', old], 2)
             agree('no catalogue of this version' in line, True, 'a question to an older version')
             ch10(['load', '--db', old, '--unjudged', '--jobs', '1', folder])
