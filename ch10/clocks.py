@@ -58,9 +58,9 @@ class Sessions:
             return None
         key = channel << 8 | kind
         before = self.last.get(key, -1)
+        if self.wraps and counter >> BITS - 1 and self.wraps[-1] == self.base >> BITS:
+            return self.base - ANEW  # a packet that was written late
         if counter < before or self.is_after_setup:
-            if self.wraps and self.wraps[-1] == self.base >> BITS and counter >> BITS - 1:
-                return self.base - ANEW  # a packet that was written late
             if self.is_anew(counter, before, self.next.get(key) == sequence):
                 top = max(self.last.values())
                 if ANEW - MOST_OVER < top - counter < ANEW:
@@ -70,8 +70,6 @@ class Sessions:
                 self.last = {}
                 before = -1
             self.is_after_setup = False
-        elif self.wraps and counter >> BITS - 1 and self.wraps[-1] == self.base >> BITS:
-            return self.base - ANEW
         if counter > before:
             self.last[key] = counter
         self.next[key] = sequence + 1 & 0xFF

@@ -225,8 +225,10 @@ SUMMARY_MORE = """Of each channel and type of data:
                   channel; in the row all every damaged stretch
   first, last     the lowest and highest count of its entries, or else of its
                   packets' headers
-  first time ..   the same as civil times, by the last time in the recording
-                  that isn't later; '-' if there is none"""
+  first time ..   the same as civil times, by the last time of the session that
+                  isn't later; '-' if there is none
+Where the counter went back a session begins: each has a line. What is doubtful
+of times has one, and each channel with packets that were not read."""
 CSV_MORE = """The first line names the columns. time has seven places after the second; lost
 is how many messages were lost right before an entry, 1+ if the recording has no
 number; value is the message in hex digits, or the civil time of a time; what a

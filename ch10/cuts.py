@@ -10,7 +10,7 @@ from .doubts import judge, say_no_setup
 from .inputs import Output, is_recording, listed, one_part, shown, the_file
 from .medium import File, bytes_of
 from .packets import Packet, loss_of, packets
-from .standard import INDEX, SETUP, TIME, Data, Fault, Wrong, let_go
+from .standard import INDEX, NETWORK_TIME, SETUP, TIME, Data, Fault, Wrong, let_go
 from .survey import Survey
 from .times import Range
 from .tmats import tree
@@ -100,7 +100,7 @@ def times_of(data: Data, begin: int, survey: Survey, within: Range) -> Set[int]:
         low = first_of(number, packet, survey, within) if packet.kind not in (SETUP, INDEX) else -1
         if low >= 0:
             first[run] = min(first.get(run, low), low)
-        elif packet.kind == TIME and packet.channel in survey.clock.channels:
+        elif packet.kind in (TIME, NETWORK_TIME) and packet.channel in survey.clock.channels:
             told.setdefault(run, []).append(((survey.of[number] << BITS) + packet.counter, packet.offset))
     before = [[one for one in told.get(run, []) if one[0] <= low] for run, low in first.items()]
     return {max(some)[1] for some in before if some}

@@ -5,7 +5,7 @@ from typing import Any, Container, Iterator, List, NamedTuple, Optional
 
 from .inputs import Output, unread_text
 from .kinds import KINDS
-from .standard import INDEX, LOSS, Fault
+from .standard import INDEX, LOSS, NETWORK_TIME, Fault
 from .survey import REPORT_ROW, Survey, name_of
 
 KINDS_READ = frozenset(kind.type for kind in KINDS)
@@ -37,7 +37,7 @@ def unread_in(survey: Survey) -> Iterator[Unread]:
     """All packets of a recording that were not read, but for those of what a computer makes."""
     for row in survey.rows:
         for why, packets in sorted(row.unread.items()):
-            if row.kind not in (LOSS, INDEX, REPORT_ROW):
+            if row.kind not in (LOSS, INDEX, REPORT_ROW, NETWORK_TIME):  # a network time is used, and has no entries
                 yield Unread(row.channel, row.kind, packets, why)
 
 

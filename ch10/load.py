@@ -15,10 +15,9 @@ from .facts import sum_of
 from .inputs import Output, unread_text
 from .kinds import by_type
 from .packets import loss_of, packets
-from .standard import SETUP, TIME, Fault
+from .standard import SETUP, Fault
 from .store import Store, StoreError, open_store, partition_of
-from .survey import name_of
-from .times import time
+from .survey import name_of, said_in
 from .tmats import attributes
 from .workers import Pool, Task, processors
 
@@ -88,8 +87,9 @@ class Layout:
                 last = packet.offset
                 self.cuts.append((last, report, dict(states)))
             report = loss_of(packet)
-            if packet.kind == TIME and packet.word is not None:
-                timing.add(packet.channel, packet.counter + base, time(packet.body, packet.word), packet.offset, packet.flags)
+            told = said_in(packet)
+            if told is not None:
+                timing.add(packet.channel, packet.counter + base, told, packet.offset, packet.flags)
             elif packet.kind == SETUP and packet.word is not None:
                 setup = setup or bytes(packet.body[4:])
             elif packet.kind in STATES and packet.word is not None:

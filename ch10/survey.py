@@ -11,8 +11,8 @@ from .clocks import BITS, COUNTLESS, NOTHING, Asked, Sessions, TimeLine, Timing
 from .data_types import family_of
 from .kinds import by_type
 from .packets import KNOWN, UNTOLD, Packet, Resync, Stretch, loss_of, lost_before, packet_at
-from .standard import COUNT_BITS, INDEX, NONE_LATER, SETUP, SPAN, TIME, Damaged, Data, Fault, let_go
-from .times import Time, time
+from .standard import COUNT_BITS, INDEX, NETWORK_TIME, NONE_LATER, SETUP, SPAN, TIME, Damaged, Data, Fault, let_go
+from .times import Time, network_time, time
 from .tmats import Names
 
 STATES = by_type('last_state')
@@ -110,6 +110,13 @@ class Row:
         return (self.entries - len(self.entered)) * 10 ** 7 / past if self.entries > len(self.entered) else None
 
 
+def said_in(packet: Packet) -> Optional[Time]:
+    """The time that a time packet tells; None of others."""
+    if packet.kind == TIME and packet.word is not None:
+        return time(packet.body, packet.word)
+    return network_time(packet.body) if packet.kind == NETWORK_TIME else None
+
+
 def why_unread(packet: Packet) -> str:
     """Why a packet is opaque."""
     if packet.flags & 0x40:
@@ -166,7 +173,7 @@ class Survey:
             try:
                 packet = packet_at(data, at, begin, end, True, True, ahead.is_summed(at))
                 found = ahead.measure(packet, at)
-                said = time(packet.body, packet.word) if packet.kind == TIME and packet.word is not None else None
+                said = said_in(packet)
                 inner = resync.within(at, packet.length) if packet.flags & 0x83 not in (1, 2, 3) else None
                 if inner is not None:
                     raise Fault('another packet within it', at - begin, inner - at,
@@ -262,7 +269,7 @@ class Survey:
             row.add_entries(number, low, high)
         else:
             low, high = NONE_LATER, 0
-        if kind == TIME and said is not None:
+        if said is not None:
             self.timing.add(packet.channel, packet.counter + base, said, packet.offset, packet.flags)
         elif kind in STATES and number:
             self.states.append((len(self.lows), packet.channel, STATES[kind](packet.body)))

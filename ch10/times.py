@@ -50,6 +50,43 @@ def time(body: bytes, word: int) -> Time:
     return Time(said, word & 0x200 != 0, ticks, quality, lock != 0, source == 1, word & 0x100 != 0, clock[6:8] == '60')
 
 
+def network_time(body: bytes) -> Time:
+    """The time in a body of format 2 (chapter 11, 11.2.3): a network time.
+
+    Bits 3 to 0 of its word are 0 where the time is not valid. Bits 7 to 4 say what it is: 0 is NTP, seconds since 1900 by UTC and a
+    fraction of 32 bits; 1 and 2 are IEEE 1588, seconds since 1970 by TAI and nanoseconds. TAI is ahead of UTC by the seconds 60
+    that there have been (`LEAPS`) and ten more.
+    """
+    need(len(body) >= 12, 0, 'less than a time in a body')
+    word, seconds, part = (little(body, at, 4) for at in (0, 4, 8))
+    quality = LOCKED if word & 15 else INVALID
+    if word >> 4 & 15 == 0:
+        seconds += 0 if seconds >> 31 else 1 << 32  # which began anew in 2036
+        ticks, is_leap = date(1900, 1, 1).toordinal() * DAY + seconds * SECOND + part * SECOND // (1 << 32), False
+    else:
+        tai = date(1970, 1, 1).toordinal() * DAY + seconds * SECOND + part // 100
+        ahead = 10 + bisect_right(LEAPS, tai)
+        ticks = tai - ahead * SECOND
+        is_leap = ahead < 10 + len(LEAPS) and LEAPS[ahead - 10] - tai <= SECOND
+    said = civil(ticks - SECOND if is_leap else ticks, True)
+    if said is None:
+        return Time('', True, None, quality, True, True, False, False)
+    said = '%s.%02d' % (said[:-2] + '60' if is_leap else said, ticks % SECOND // 100000)
+    return Time(said, True, ticks, quality, True, True, False, is_leap)
+
+
+def leaps() -> List[int]:
+    """The ends of all seconds 60 from 1972 on, by TAI in units of 100 ns: those at the end of June and of December of these
+    years."""
+    ends = [date(year, 7, 1) for year in (1972, 1981, 1982, 1983, 1985, 1992, 1993, 1994, 1997, 2012, 2015)]
+    ends += [date(year + 1, 1, 1) for year in (1972, 1973, 1974, 1975, 1976, 1977, 1978, 1979, 1987, 1989, 1990, 1995, 1998, 2005,
+                                               2008, 2016)]
+    return [end.toordinal() * DAY + (10 + number) * SECOND for number, end in enumerate(sorted(ends), 1)]
+
+
+LEAPS = leaps()
+
+
 def ticks_of(said: str) -> int:
     """What a text of a civil time says in units of 100 ns. A ValueError where it says none. A second 60 has the units of the second
     after."""

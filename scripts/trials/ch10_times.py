@@ -161,8 +161,8 @@ def order_of_writing() -> Found:
     return by_ways(one.data())['csv'], [('2024-05-17 09:00:%02d.0000000' % count, str(count)) for count in (2, 3, 49, 50)]
 
 
-def session_without_times() -> Found:
-    """A session without a time packet has no times: those of another one are not its."""
+def half_timed() -> bytes:
+    """A session with a time, and one without."""
     one = Recording()
     one.add(1, 0x11, 0, made.time_f1('2024-05-17 09:00:00.00'))
     for count in (5, 9):
@@ -170,8 +170,13 @@ def session_without_times() -> Found:
     one.restart()
     for count in (1, 2):
         entry(one, count * SECOND, 'b')
+    return one.data()
+
+
+def session_without_times() -> Found:
+    """A session without a time packet has no times: those of another one are not its."""
     wanted = [('2024-05-17 09:00:05.0000000', 'a'), ('2024-05-17 09:00:09.0000000', 'a'), ('', 'b'), ('', 'b')]
-    return (by_ways(one.data()), from_to(one.data())), (
+    return (by_ways(half_timed()), from_to(half_timed())), (
         dict.fromkeys(('csv', 'raw', 'json', 'one', 'many'), wanted),
         [('2024-05-17 09:00:00.0000000', '2024-05-17 09:00:09.0000000')] * 4)
 
@@ -339,6 +344,36 @@ def unlocked_start() -> Found:
                 [('locked',)] * 4, ['2024-05-17 09:00:01.0000005'])
 
 
+# ---- network times (11.2.3, time data packets, format 2)
+
+UNIX_2024 = 1715936400  # 2024-05-17 09:00:00 by UTC, in seconds since 1970
+
+
+def network_times() -> Found:
+    """IEEE 1588 counts TAI, which was 37 s ahead of UTC in 2024; NTP counts UTC from 1900 on. What is not valid is not used."""
+    found = []
+    for body in (made.time_f2(UNIX_2024 + 37, 250000000), made.time_f2(UNIX_2024 + 2208988800, 1 << 30, protocol=0),
+                 made.time_f2(UNIX_2024 + 37, 250000000, protocol=1), made.time_f2(UNIX_2024, 0, valid=False)):
+        one = opened().add(1, 0x12, SECOND, body)
+        entry(one, 2 * SECOND, 'a')
+        found.append((times([], one.data()), notes(['csv'], one.data())))
+    return found, [(['2024-05-17 09:00:01.2500000'], (0, []))] * 3 + [
+        ([''], (0, ['times: 1 of 1 time packets of channel 1 say that they are invalid, and are not used']))]
+
+
+def network_leap_second() -> Found:
+    """IEEE 1588 goes through the second 60 at the end of 2016, before which TAI was 36 s ahead, without a jump."""
+    one = opened()
+    for second in range(4):
+        one.add(1, 0x12, second * SECOND, made.time_f2(1483228798 + 36 + second, 500000000))
+        entry(one, second * SECOND, str(second))
+    said = run(['summary'], one.data())[1].decode().splitlines()
+    return (times([], one.data()), said[2]), (
+        ['2016-12-31 23:59:58.5000000', '2016-12-31 23:59:59.5000000', '2016-12-31 23:59:60.5000000',
+         '2017-01-01 00:00:00.5000000'],
+        'time on channel 1: 4 packets, 0 jumps, 0 steps back, 0 seconds without one; drift not known')
+
+
 # ---- the year of times that have none
 
 def year_given() -> Found:
@@ -488,4 +523,5 @@ def long_front() -> Found:
 TRIALS: List[Callable[[], Found]] = [
     counter_back, counter_back_ends, counter_back_range, counter_back_states, counter_full, order_of_writing, session_without_times,
     leap_second, leap_second_ranges, new_year, invalid_format, no_source, qualities, qualities_of_many, best_channel,
-    unlocked_start, year_given, year_by_channel, year_guessed, left_out, no_setup, twice, wrong_sum, database_as_input, long_front]
+    unlocked_start, network_times, network_leap_second, year_given, year_by_channel, year_guessed, left_out, no_setup, twice,
+    wrong_sum, database_as_input, long_front]

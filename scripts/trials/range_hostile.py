@@ -21,6 +21,7 @@ import sys
 import time
 from typing import Any, Callable, Dict, Iterator, List, Sequence, Tuple
 
+import ch10_times
 import play_cases
 from ch10 import catalogue, find, load, store_sqlite
 from ch10 import store as stores
@@ -386,6 +387,30 @@ def newer(room: str, dsns: Sequence[str], made: str) -> None:
         raw.close()
 
 
+def sessions(room: str, dsns: Sequence[str], made: str) -> None:
+    """Entries of each session of a recording have its times in both databases; so has one that goes through New Year, by the year
+    that a call gives; and where a session has no times its entries have none."""
+    flights = {'two.ch10': ch10_times.two_flights(), 'half.ch10': ch10_times.half_timed(),
+               'year.ch10': ch10_times.ticking(ch10_times.NEW_YEAR)}
+    folder = folder_of(room, 'sessions', flights)
+    for dsn in dsns:
+        for name, data in flights.items():
+            words = ['--year', '2023'] if name == 'year.ch10' else []
+            path = os.path.join(folder, name)
+            ch10(['load', '--db', dsn, '--unjudged', '--jobs', '2', *words, path])
+            with contextlib.closing(open_store(dsn)) as store:
+                rows = store.rows('SELECT CAST(time AS %s), value FROM entry_uart e JOIN place p ON p.recording = e.recording '
+                                  'WHERE p.path = ?' % ('text' if is_postgresql(dsn) else 'TEXT'), (path,))
+            wanted = [(time, text.encode()) for time, text in ch10_times.rows(['--channel', '5', *words], data, 'time', 'text')]
+            agree(sorted((short(time or ''), bytes(text)) for time, text in rows),
+                  sorted((short(time), text) for time, text in wanted), 'times of %s in %s' % (name, dsn[:20]))
+
+
+def short(time: str) -> str:
+    """A time without the zeros at its end, which a server leaves out."""
+    return time.rstrip('0').rstrip('.') if '.' in time else time
+
+
 def taken_out(room: str, dsns: Sequence[str], made: str) -> None:
     """A recording that somebody deletes while it is added or loaded is a line, and the next call adds it; its number goes to no
     other."""
@@ -691,8 +716,8 @@ def mutants(room: str, dsns: Sequence[str], made: str, number: int = 16, seed: i
     agree(status in (0, 1), True, 'the status of a report on mutants')
 
 
-TRIALS = (names, numbers, inputs, vanishing, changing, places, snapshots, beside, taken_out, newer, older, rights, full, wrong,
-          interrupts, against, mutants)
+TRIALS = (names, numbers, inputs, vanishing, changing, places, snapshots, beside, sessions, taken_out, newer, older, rights, full,
+          wrong, interrupts, against, mutants)
 
 
 def many(room: str, dsns: Sequence[str], made: str, number: int = 10000) -> None:
