@@ -3,6 +3,7 @@
 `scripts/ch10.py` starts it, or `python3 -m ch10` in the folder above. The modules, each standing on those above it:
 
     standard     numbers in bytes, what a fault is
+    data_types   every data type of chapter 11 by its name
     kinds        the kinds of entries, a row each: names, columns, tables, and which module reads them
     medium       the directory of an image, and its files
     times        civil times: those of time packets, and those that a call gives
@@ -22,7 +23,8 @@
     inputs       what a call reads and writes
     parallel, vector    lines by several processes, and lines of columns; walk finds how many entries each packet has
     traffic      what the buses carried
-    table, lines, picture, cuts, database, script    the commands
+    units        where measurements stand in messages, and how they are scaled
+    table, lines, picture, cuts, database, script, exports, values    the commands
     command      the words of a call
 
 Over many recordings, beside the filters:

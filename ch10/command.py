@@ -44,6 +44,7 @@ public standard alone.
   ch10 range < INPUT          a range of time (--from, --to) as a recording
   ch10 file NAME < IMAGE      one file of an image, as a recording
   ch10 export --as FORM < INPUT   Ethernet, video, analog or PCM as a file
+  ch10 values --icd DOC < INPUT   measurements in their units; plot NAME draws them
   ch10 sqlite < INPUT         the entries as a database of SQLite (--out FILE)
   ch10 tmats < SCRIPT         a setup text for the channels of a script of r10, or of r10d's settings
   ch10 catalogue add|find|show    a catalogue of many recordings
@@ -205,6 +206,16 @@ def parser_of() -> 'Parser':
     made.add_argument('--bits', type=number, metavar='N', help='frames: the bits of a minor frame, where the setup text has none')
     made.add_argument('--signed', action='store_true', help="wav: samples are of two's complement")
     with_clock(made)
+    made = going_on(command('values', run_of('values', 'values'), 'Writes measurements by name, in their units, as CSV.',
+                            VALUES_MORE + TIMES))
+    made.add_argument('--icd', required=True, metavar='DOCUMENT', help='where measurements stand: CSV, or DBC')
+    made.add_argument('--json', action='store_true', help='as JSON lines')
+    made.add_argument('--out', metavar='FILE', help='into a new database of SQLite')
+    with_times(made)
+    made = going_on(command('plot', run_of('values', 'plot'), 'Draws measurements over time, as SVG.', VALUES_MORE + TIMES))
+    made.add_argument('names', nargs='+', metavar='NAME', help='a measurement of the document')
+    made.add_argument('--icd', required=True, metavar='DOCUMENT', help='where measurements stand: CSV, or DBC')
+    with_times(made)
     add_words(commands, Parser, channel_number, with_clock)
     COMMANDS.extend(commands.choices)
     return top
@@ -255,6 +266,13 @@ it would name other places.
 """
 
 
+VALUES_MORE = """DOCUMENT says of each measurement where it stands and what it is counted in. A
+CSV has a line for each, and names its columns in the first one:
+  name,kind,channel,rt,tr,sa,word,bits,signed,scale,unit
+  HEADING,1553,7,5,T,3,2,0-15,yes,0.0054931640625,deg
+docs/USING.md has all columns. A DBC file of a controller area network has them
+for CAN.
+"""
 EXPORT_MORE = """FORM is one of these; the packets stay in their order in the recording.
   pcapng   Ethernet frames (format 0), an interface for each channel
   ts       the transport stream of a video channel (formats 0 to 2)
@@ -279,7 +297,7 @@ def hint(words: List[str]) -> str:
 
 # Words that other programs have, each with the command that does the same here.
 LIKE_OTHERS = {'ls': 'summary', 'list': 'summary', 'files': 'summary', 'info': 'summary', 'check': 'summary', 'dump': 'csv',
-               'play': 'csv', 'cat': 'csv', 'plot': 'svg', 'cut': 'range', 'extract': 'file', 'db': 'sqlite'}
+               'play': 'csv', 'cat': 'csv', 'cut': 'range', 'extract': 'file', 'db': 'sqlite'}
 
 
 def unknown(word: str) -> str:

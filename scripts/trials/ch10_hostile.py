@@ -223,12 +223,14 @@ def outputs_without_room() -> Tuple[object, object]:
         data = b''.join(flight(random.Random('room'), 3))
         analog = b''.join(foreign())
         pathlib.Path(path).write_bytes(data)
+        icd = os.path.join(folder, 'icd.csv')
+        pathlib.Path(icd).write_text('name,kind,bits\nA,arinc,0\n')
         text = (TOP / 'examples' / 'first.toml').read_bytes()
         run(['catalogue', 'add', '--unjudged', '--jobs', '1', '--db', base, path], b'')
         for words in (['summary'], ['csv'], ['json'], ['svg'], ['setup'], ['range'], ['tmats'], ['file', 'FLT1'],
                       ['catalogue', 'find', '--db', base], ['catalogue', 'add', '--unjudged', '--jobs', '1', '--db', base, path],
                       ['load', '--unjudged', '--jobs', '1', '--db', base, path], ['report', '--unjudged', path], ['--help'],
-                      ['--version'], ['export', '--as', 'samples']):
+                      ['--version'], ['export', '--as', 'samples'], ['values', '--icd', icd], ['plot', 'A', '--icd', icd]):
             given = {'tmats': text, 'export': analog, 'file': play_cases.alone(FIRST)}.get(words[0], data)
             done.add(words[0])
             with open('/dev/full', 'wb', buffering=0) as to:
