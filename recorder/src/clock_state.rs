@@ -17,8 +17,8 @@ use crate::clock_programs::{self, Program};
 use crate::settings::Settings;
 use crate::stamps::nanos;
 
-/// How often programs are asked, in seconds.
-const ASKED: u64 = 10;
+/// How often programs are asked, in seconds: where one says that the clock is in sync, and else.
+const ASKED: (u64, u64) = (10, 2);
 /// What was said longer ago than this no longer counts.
 const OLD: Duration = Duration::from_secs(30);
 /// A pulse is there if the last one is no older.
@@ -346,13 +346,14 @@ impl Keeper {
 
 fn ask_on(heard: &Mutex<Heard>, asks: &AtomicBool, programs: &[String], pps: Option<&Path>, folder: &Path) {
     let path: Option<PathBuf> = pps.map(|it| if it.is_dir() { it.join("assert") } else { it.to_path_buf() });
-    let mut seconds = 0;
+    let mut left = 0;
     loop {
         let is_asked = asks.swap(false, SeqCst);
-        if seconds % ASKED == 0 || is_asked {
+        if left == 0 || is_asked {
             // (it is said of the clock as it was when it was asked)
             let at = Instant::now();
             let found = clock_programs::ask(programs, folder);
+            left = if found.as_ref().is_some_and(|it| it.is_synchronised) { ASKED.0 } else { ASKED.1 };
             if let Ok(mut it) = heard.lock() {
                 it.program = found.map(|it| (it, at));
             }
@@ -361,7 +362,7 @@ fn ask_on(heard: &Mutex<Heard>, asks: &AtomicBool, programs: &[String], pps: Opt
         if let Ok(mut it) = heard.lock() {
             it.pulse = pulse;
         }
-        seconds += 1;
+        left -= 1;
         thread::sleep(Duration::from_secs(1));
     }
 }

@@ -263,9 +263,7 @@ impl Owner {
     /// Works until it is asked to end, and ends the file then. Whether all went well.
     pub fn run(&mut self, outlets: Vec<Outlet>, records: bool) -> bool {
         self.outlets = outlets;
-        if records {
-            self.begin_in_time();
-        }
+        self.begin_in_time(records);
         loop {
             let done = self.turn();
             self.mind(done);

@@ -125,15 +125,17 @@ impl Owner {
         Ok(())
     }
 
-    /// Begins the recording that begins by itself: once the clock is in sync, where the settings say so.
-    pub(crate) fn begin_in_time(&mut self) {
+    /// Begins the recording that begins by itself, if there is one: once the clock is in sync, where the settings say so. One that waits
+    /// for the disk waits for the clock too.
+    pub(crate) fn begin_in_time(&mut self, records: bool) {
         match self.settings.wait_for_time {
-            Some(patience) => {
+            Some(patience) if records || self.wants => {
                 self.wants = true;
                 self.waits = Some(Instant::now() + patience);
                 self.note(false, &format!("the recording waits until the clock is in sync, {} s at most", patience.as_secs()));
             }
-            None => self.resume(),
+            _ if records => self.resume(),
+            _ => (),
         }
     }
 

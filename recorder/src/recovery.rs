@@ -139,6 +139,10 @@ impl Owner {
     }
 
     pub(crate) fn resume(&mut self) {
+        // (it waits for the clock, and begins then)
+        if self.waits.is_some() {
+            return;
+        }
         let begun = self.start(None);
         match begun {
             Err(Trouble::Full(_)) => {

@@ -210,7 +210,10 @@ impl Owner {
     }
 
     fn record(&mut self, words: &[&str]) -> Result<Result<Reply, No>, Trouble> {
-        if let Some(until) = self.waits {
+        // (where the medium is down it is opened first, and what waits begins then)
+        if let Some(until) = self.waits
+            && self.recorder.is_some()
+        {
             let left = until.saturating_duration_since(std::time::Instant::now()).as_secs() + 1;
             return Ok(Err(No::Mode(format!(
                 "the clock is not in sync; a recording begins once it is, within {left} s (wait_for_time)"
@@ -227,6 +230,9 @@ impl Owner {
         {
             self.why = refusal.text().to_string();
             return Ok(Err(No::NoMedia(self.why.clone())));
+        }
+        if self.waits.is_some() {
+            return Ok(Ok(Reply::Text(String::new())));
         }
         self.start(words.first().copied())?;
         Ok(Ok(Reply::Text(String::new())))

@@ -10,7 +10,7 @@
  *     CLOCK_START=NS       when made time starts: CLOCK_MONOTONIC of the machine
  *     CLOCK_SPEED=N        so much faster it goes
  *     CLOCK_BASE=SECONDS   what the system's clock is at the start, since 1970
- *     CLOCK_CARD=NS        a card stamps datagrams by a clock that is so far ahead of the system's
+ *     CLOCK_CARD=NS        a card stamps datagrams by a clock that is so far ahead of the system's, 5 ms before the kernel does
  */
 #define _GNU_SOURCE
 #include <dlfcn.h>
@@ -29,7 +29,7 @@
 #include <unistd.h>
 
 enum { MOST = 1000 };
-static const int64_t SECOND = 1000000000;
+static const int64_t SECOND = 1000000000, EARLY = 5000000;
 
 static struct step {
     int64_t at;
@@ -189,7 +189,7 @@ ssize_t recvmsg(int socket, struct msghdr *message, int flags) {
             *stamps = (struct timespec){made / SECOND, made % SECOND};
         }
         if (card && it->cmsg_type == SO_TIMESTAMPING)
-            stamps[2] = (struct timespec){(at + card) / SECOND, (at + card) % SECOND};
+            stamps[2] = (struct timespec){(at + card - EARLY) / SECOND, (at + card - EARLY) % SECOND};
     }
     return count;
 }
