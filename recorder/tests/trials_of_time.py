@@ -487,8 +487,8 @@ def programs_that_set_the_clock(room: Room) -> str:
 
 @trial
 def waiting_for_time(room: Room) -> str:
-    """With wait_for_time no recording begins before the clock is in sync, or so many seconds have gone; what comes meanwhile is lost, and
-    the log says what was done. A disk that fails meanwhile changes nothing of that."""
+    """With wait_for_time no recording begins before the clock is in sync, or so many seconds have gone. What comes meanwhile is
+    lost, and the log says what was done."""
     tools = room.folder / 'tools'
     tools.mkdir()
     end = '1764555600.1,0.0,0.0,0.0,0.0,0.0,0.1,0.0004,0.00005,64.2'
@@ -527,8 +527,8 @@ def waiting_for_time(room: Room) -> str:
 
 @trial
 def stamps_of_a_card(room: Room) -> str:
-    """Where a card stamps datagrams, by a clock of its own, its stamps are taken, and not the kernel's. (The card is stood in for: it
-    stamps 5 ms before the kernel.)"""
+    """Where a card stamps datagrams, by a clock of its own, its stamps are taken, and not the kernel's. (The card is stood in
+    for: it stamps 5 ms before the kernel.)"""
     ports, ahead = room.ports(2), 37 * SECOND + 123
     text = channel(5, 'message', f'udp = "{HOST}:{ports[0]}", card = "/dev/zero"')
     text += channel(6, 'message', f'udp = "{HOST}:{ports[1]}", card = "/dev/null"')
