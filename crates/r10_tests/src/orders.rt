@@ -9,7 +9,7 @@ ghost use Rattle.r10_medium.specs.MemoryDisk.{memory_disk};
 use crate::asks::{Ask, orders_of};
 use crate::inputs::{NewRecorder, cabinet_of, formatted_medium, make};
 use crate::meeting::Only;
-use crate::run::run_and_end;
+use crate::run::{begin_session, run_and_end};
 use r10_medium::Memory;
 use r10_shared::{Order, Rings, SessionReport};
 use std::alloc::Global;
@@ -84,5 +84,29 @@ fn orders_are_given(rt: HostRuntime) -> Result<(), Fail> {
         (opened, sealed, erased),
         (Some((0, 108)), Some((1, 196)), None)
     );
+    Ok(())
+}
+
+/// How often the recorder published in a session that begins a file.
+fn publications<N: Rings + Send + Sync, R: Threads + Wait + Sync>(
+    rt: &R,
+    alloc: Global,
+    made: NewRecorder,
+) -> Result<u64, Fail>
+    requires new { IsNew memory_disk outlet_spec outlet_received made.gauged.recorder }
+    requires named { AreNamed N.rings made.gauged.recorder.lanes }
+    requires gauge { made.gauged.cell ≡ N.gauge }
+{
+    let (cabinet, _pass) = cabinet_of::<N>(made.gauged);
+    let _cursor = begin_session(rt, alloc, &cabinet, &[])?;
+    Ok(cabinet.hold(rt).commits())
+}
+
+/// The start of the file publishes, and so does the writer's last round. The rounds before it move nothing, and publish nothing.
+#[test]
+fn the_last_round_commits_once(rt: HostRuntime) -> Result<(), Fail> {
+    let alloc = rt.alloc();
+    let made = make(alloc, 2, formatted_medium(alloc)?)?;
+    assert_eq!(rt; publications::<Brand, _>(&rt, alloc, made)?, 2);
     Ok(())
 }
