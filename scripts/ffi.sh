@@ -338,12 +338,22 @@ installed() {
     "$top/scripts/rows/flight.sh" check "$program" || return 1
     R10_BUILDS=$room/builds "$top/scripts/build/quick_build.py" --proved "$program" || return 1
     over_builds install "installation and package of what was proved" &&
-        over_builds program "readers and writers that fail, a long script, and a large medium"
+        over_builds program "readers and writers that fail, a long script, and a large medium" &&
+        over_builds words "rows, help, and the lines that help shows" &&
+        over_builds first_hour "odd folders, wrong inputs, outputs that take nothing"
+}
+
+# Keeps the program that this gate proved, so that ./r10 runs it, where its sources are those of the gate's beginning.
+keep_proved() {
+    "$top/scripts/build/quick_build.py" --proved "$top/crates/r10_cli/out/r10_cli" --of "$1" --since "$2" &&
+        echo "ffi: ./r10 runs the program that was proved"
 }
 
 # Runs a test of the folder over the builds that were proved, and says how many checks there were.
 over_builds() {
-    R10_BUILDS=$room/builds "$top/scripts/tests/$1.sh" >"$room/$1.out" 2>&1 || {
+    local fault=
+    [ ! -x "$room/first_fault" ] || fault=$room/first_fault
+    R10_BUILDS=$room/builds R10_FIRST_FAULT=$fault "$top/scripts/tests/$1.sh" >"$room/$1.out" 2>&1 || {
         grep -v '^ok: ' "$room/$1.out" >&2
         return 1
     }
@@ -369,7 +379,9 @@ make_meanwhile() {
 # are sessions of the program that do not end, or whose accounts do not add up. So is an edit of the gate that its clause does not
 # refuse: these are tried over the same libraries, beside the programs.
 behind_ci() {
-    local status last spare made service edits
+    local status last spare made service edits began of
+    began=$(date +%s.%N)
+    of=$("$top/scripts/build/quick_build.py" --named) || of=
     spare=$("$top/scripts/build/provers.py" --beside 3000000000)
     (cd "$top" && exec rt ci) | make_meanwhile | but_the_last "$room/last"
     status=${PIPESTATUS[0]}
@@ -394,6 +406,7 @@ behind_ci() {
         installed || status=1
         "$top/scripts/trials/hammer.py" --gate || status=1
         "$top/scripts/trials/refuse_memory.py" || status=1
+        [ "$status" != 0 ] || keep_proved "$of" "$began"
         [ "$status" = 0 ] || last=$(sed 's/^\([0-9]* passed, \)[0-9]* failed/\11 failed/' "$room/last")
     fi
     printf '%s\n' "$last"

@@ -12,7 +12,7 @@ set -u
 readonly SERVICE="librust-clap-dev librust-nix-dev librust-sd-notify-dev librust-serde-dev librust-serde-derive-dev \
 librust-serde-json-dev librust-signal-hook-dev librust-time-dev librust-toml-dev"
 readonly LINTERS="clang-format pyflakes3 shellcheck"
-readonly TRIALS="ffmpeg pkg-config postgresql python3-numpy tshark valgrind zsh"
+readonly TRIALS="chromium ffmpeg pkg-config postgresql python3-numpy python3-psycopg2 tshark valgrind zsh"
 
 missing() {
     local it
@@ -32,7 +32,7 @@ install)
         exit 1
     fi
     log=$(mktemp) && trap 'rm -f "$log"' EXIT || exit 1
-    if { timeout 120 apt-get -qq update && DEBIAN_FRONTEND=noninteractive timeout 400 apt-get -qq -y --no-install-recommends \
+    if { timeout 120 apt-get -qq update && DEBIAN_FRONTEND=noninteractive timeout 600 apt-get -qq -y --no-install-recommends \
         install "${wanted[@]}"; } >"$log" 2>&1 </dev/null; then
         echo "packages: installed ${wanted[*]}"
     else

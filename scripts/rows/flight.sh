@@ -30,7 +30,8 @@ hex=$(python3 -c 'import sys; print(open(sys.argv[1], "rb").read().hex())' "$tex
     give_up "a setup of examples/flight.toml is not examples/flight.tmt"
 
 if ! program=${2:-$("$top/scripts/build/quick_build.py" --current)}; then
-    echo "flight: NOT TRIED: replies, summary and picture (no build of the program is kept)"
+    # (behind `rt ci` the gate calls this with the program that was proved)
+    [ -n "${R10_LATER:-}" ] || echo "flight: NOT TRIED: replies, summary and picture (no build of the program is kept)"
     exit
 fi
 "$program" sim --image <"$script" >"$made/flight.img"

@@ -160,7 +160,7 @@ check "scripts/build.sh, where nobody reads, ends without a word" is "$(cat "$ro
 # ---- the program and the filters, over the build that is kept
 
 program=${1:-$("$sources/scripts/build/quick_build.py" --current)} || {
-    echo "NOT TRIED: the program (no build of it is kept)"
+    no_build "the program"
     exit "$failed"
 }
 first=$sources/examples/first.toml

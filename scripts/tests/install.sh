@@ -5,7 +5,7 @@ set -u
 . "$(dirname "$(readlink -f "${BASH_SOURCE[0]}")")/kit.sh"
 program=$("$top/scripts/build/quick_build.py" --current) && { "$top/scripts/ffi.sh" proved ||
     "$top/scripts/build/quick_build.py" --library --current; } >/dev/null || {
-    echo "NOT TRIED: an installation (no build of the program and of the library is kept)"
+    no_build "an installation"
     exit 0
 }
 version=$(cat "$top/VERSION")

@@ -35,6 +35,14 @@ check "without a network it is a line, and status 1" is "$(packages install; ech
 echo 1000 >"$room/user"
 check "without root too" is "$(packages install; echo "$?")" \
     $'packages: not installed, as there is no apt-get or no root here: zsh librust-toml-dev\n1'
+mkdir "$room/none"
+for it in bash sed grep; do ln -s "$(command -v "$it")" "$room/none/$it"; done
+printf '#!/usr/bin/env bash\nexit 1\n' >"$room/none/dpkg-query"
+chmod +x "$room/none/dpkg-query"
+all=$(PATH="$room/none" "$BASH" "$top/scripts/build/packages.sh" | tr '\n' ' ')
+check "PostgreSQL with a driver, and a browser, are among them" is "$(for it in postgresql python3-psycopg2 chromium; do
+    [[ " $all" = *" $it "* ]] || echo "$it"
+done)" ""
 check "the crates of the service in one line" says "$(packages service)" "librust-clap-dev librust-nix-dev"
 check "recorder.sh names them" grep -q 'packages.sh" service' "$top/scripts/recorder.sh"
 check "other words are refused" is "$(packages all >/dev/null; echo "$?")" "2"

@@ -6,7 +6,7 @@ set -u
 . "$(dirname "$(readlink -f "${BASH_SOURCE[0]}")")/kit.sh"
 export LC_ALL=C
 r10=$("$top/scripts/build/quick_build.py" --current) || {
-    echo "NOT TRIED: readers and writers that fail (no build of the program is kept)"
+    no_build "readers and writers that fail"
     exit 0
 }
 

@@ -5,11 +5,19 @@ set -u
 # shellcheck disable=SC2016,SC2317 source=scripts/tests/kit.sh
 . "$(dirname "$(readlink -f "${BASH_SOURCE[0]}")")/kit.sh"
 program=${1:-$("$top/scripts/build/quick_build.py" --current)} || {
-    echo "NOT TRIED: the program's words (no build of the program is kept)"
+    no_build "the program's words"
     exit 0
 }
 
-check "each row is answered as it stands there" "$top/scripts/rows/run_rows.py" "$program"
+# (cases of `judge` want a program over the library, which the gate has behind `rt ci`)
+rows() {
+    if [ -n "${R10_LATER:-}" ]; then
+        "$top/scripts/rows/run_rows.py" "$program" >"$room/rows" || { cat "$room/rows"; return 1; }
+    else
+        "$top/scripts/rows/run_rows.py" "$program" ${R10_FIRST_FAULT:+--first-fault "$R10_FIRST_FAULT"}
+    fi
+}
+check "each row is answered as it stands there" rows
 
 # The lines that help shows run as they stand, in the folder of the sources; what they write goes to a copy of it.
 mkdir "$room/bin" "$room/sources"
