@@ -68,6 +68,7 @@ lint() {
 scripts/lint/lint.sh
 scripts/lint/plain.py
 scripts/lint/check_names.py
+scripts/lint/sizes.py
 scripts/lint/check_numbers.py
 scripts/lint/links.py
 scripts/lint/pictures.py --check

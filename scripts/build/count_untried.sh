@@ -1,5 +1,6 @@
 #!/usr/bin/env bash
-# Hands on what a gate prints. Where CI is set, each line that says NOT TRIED is one failure more in the last line, and the status is 1.
+# Hands on what a gate prints. Where CI is set, each line that says NOT TRIED is one failure more in the last line, and the status
+# is 1.
 #
 #     COMMAND | scripts/build/count_untried.sh
 set -u

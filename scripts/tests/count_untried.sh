@@ -15,9 +15,13 @@ check "a line says how many" is "$(count "${gate}7 passed, 0 failed" true | grep
 check "what is all tried passes" is "$(count 'ok\n7 passed, 0 failed\n' true)" $'ok\n7 passed, 0 failed\nstatus 0'
 check "a gate that ended early keeps its last line" is "$(count "${gate}killed" true | tail -n 2)" $'killed\nstatus 1'
 check "nothing stays nothing" is "$(count '' true)" "status 0"
-check "a line comes before the gate ends" is "$( (printf 'a\nb\n'; sleep 1; echo c >>"$room/order"; printf 'd\n') |
-    "$top/scripts/build/count_untried.sh" | while IFS= read -r line; do echo "$line" >>"$room/order"; done; head -n 2 "$room/order" |
-    tr '\n' ' ')" "a c "
+noted() { while IFS= read -r line; do echo "$line" >>"$room/order"; done; }
+{
+    printf 'a\nb\n'
+    sleep 1
+    echo c >>"$room/order"
+} | "$top/scripts/build/count_untried.sh" | noted
+check "a line comes before the gate ends" is "$(tr '\n' ' ' <"$room/order")" "a c b "
 check "the gate ends by it" grep -qx '} | scripts/build/count_untried.sh' "$top/.ci/run"
 check "its status is that of what failed in it" grep -qx 'set -eu -o pipefail' "$top/.ci/run"
 
@@ -28,7 +32,7 @@ for test in $(grep -l '^ *no_build ' "$top"/scripts/tests/*.sh); do
     check "$name.sh is tried behind rt ci" grep -q "over_builds $name " "$top/scripts/ffi.sh"
 done
 check "these are four" is "$(grep -l '^ *no_build ' "$top"/scripts/tests/*.sh | wc -l)" 4
-check "by hand it is said" is "$(no_build it)" "NOT TRIED: it (no build is kept)"
+check "by hand it is said" is "$(R10_LATER="" no_build it)" "NOT TRIED: it (no build is kept)"
 check "in the gate it is not, as it comes later" is "$(R10_LATER=yes no_build it)" "LATER: it"
 check "the gate says so" grep -q '^R10_LATER=yes scripts/build/side_by_side.sh' "$top/.ci/run"
 exit "$failed"
