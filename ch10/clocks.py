@@ -22,6 +22,7 @@ ANEW = COUNT_BITS + 1  # at which the counter begins anew
 BITS = 48  # of a count; the bits above them are the session's number
 LEAST_BACK = 2 * SECOND  # a channel's packets come in order: a step back by more is no order of writing
 MOST_OVER = 600 * SECOND  # between the last count before 2^48 and the first one after it
+LAST_DAY = datetime.date.max.toordinal()
 COUNTLESS = (LOSS, SETUP, INDEX, 0x04)  # types of what a computer makes, whose counters need not go on
 
 Jump = namedtuple('Jump', 'offset instant before after by')
@@ -97,12 +98,13 @@ class Sessions:
 # ---- what a time channel says
 
 class Told(NamedTuple):
-    """A time packet that tells a time: its instant, its time, where it stands, and whether its header says that the counter is
-    out of step (packet flags, bit 5)."""
+    """A time packet that tells a time: its instant, its time, where it stands, whether its header says that the counter is out of
+    step (packet flags, bit 5), and, where times have no year, how many New Years passed since the first one."""
     instant: int
     said: Time
     offset: int
     is_out: bool = False
+    passed: int = 0
 
 
 class TimeLine:
@@ -116,7 +118,7 @@ class TimeLine:
         self.channel, self.packets, self.invalid = channel, 0, 0
         self.told: List[Told] = []
         self.has_lock = False  # whether some packet has lock bits, which recorders of older editions do not write
-        self.passed = 0  # New Years since the first time, where times have no year
+        self.passed = self.day = 0  # New Years since the first time, where times have no year; and the last one's day
         self.leaps: Dict[int, bool] = {}  # of each year from that one on whether it has 366 days, as a packet tells
         self.sessions: Optional[Sessions] = None
 
@@ -127,17 +129,15 @@ class TimeLine:
             self.invalid += 1
         elif said.ticks is not None:
             if not said.dated:
-                said = self.in_year(said)
-            self.told.append(Told(instant, said, offset, flags & 0x20 != 0))
+                self.pass_years(said)
+            self.told.append(Told(instant, said, offset, flags & 0x20 != 0, self.passed))
 
-    def in_year(self, said: Time) -> Time:
-        """A time without a year, as many years of 366 days later as New Years have passed since the first one."""
-        day = said.ticks // DAY
-        if self.told and not self.told[-1].said.dated:
-            before = self.told[-1].said.ticks // DAY - 366 * self.passed
-            self.passed += (day < before - 300) - (day > before + 300)
+    def pass_years(self, said: Time) -> None:
+        """Takes note of a New Year between two times without a year, and of how many days the year has."""
+        day = (said.ticks - SECOND * said.is_leap) // DAY
+        self.passed += (day < self.day - 300) - (day > self.day + 300) if self.day else 0
+        self.day = day
         self.leaps[self.passed] = self.leaps.get(self.passed, False) or said.is_leap_year or day == 366
-        return said._replace(ticks=said.ticks + 366 * DAY * self.passed)
 
     def settle(self, sessions: Sessions, first: Optional[int] = None) -> None:
         """Gives times without a year their year; the first one has this one."""
@@ -145,9 +145,9 @@ class TimeLine:
         dated = self.is_dated()
         self.told = [told for told in self.told if told.said.dated == dated]
         if first is not None:
-            days = {passed: datetime.date(first + passed, 1, 1).toordinal() - 1 - 366 * passed for passed in self.leaps}
-            self.told = [told._replace(said=told.said._replace(
-                ticks=told.said.ticks + days[(told.said.ticks // DAY - 1) // 366] * DAY)) for told in self.told]
+            before = {passed: DAY * (datetime.date(min(max(first + passed, 1), 9999), 1, 1).toordinal() - 1)
+                      for passed in self.leaps}
+            self.told = [told._replace(said=told.said._replace(ticks=told.said.ticks + before[told.passed])) for told in self.told]
 
     def like_year(self) -> int:
         """A year whose days, and those of the years after it, are as many as the packets say, as far as the next year."""
@@ -316,8 +316,8 @@ def nearest(line: TimeLine, other: TimeLine) -> int:
     """The year of a channel's first time, so that it is nearest to the time that another channel with years tells nearby."""
     first = line.told[0]
     then = min(other.told, key=lambda told: (told.instant >> BITS != first.instant >> BITS, abs(told.instant - first.instant)))
-    middle = datetime.date.fromordinal(then.said.ticks // DAY).year
-    return min((middle, max(middle - 1, 1), middle + 1), key=lambda year: abs(in_year(first.said, year) - then.said.ticks))
+    middle = min(max(datetime.date.fromordinal(min(then.said.ticks // DAY, LAST_DAY)).year, 2), 9998)
+    return min((middle, middle - 1, middle + 1), key=lambda year: abs(in_year(first.said, year) - then.said.ticks))
 
 
 def in_year(said: Time, year: int) -> int:
@@ -382,6 +382,7 @@ class Clock:
     .dated      whether times have a date
     .year       where the year comes from, a `Year`; None where times have their own, or none
     .first      the first time that it goes by, in units of 100 ns
+    .told       of each session the instants of the times that it goes by, in order, and where their packets stand
     .pieces     the pieces that it is made of, in the order of instants; .starts and .aheads are theirs, as lists
 
     Where no time packet of a session tells a time, its instants have none.
@@ -390,6 +391,7 @@ class Clock:
     def __init__(self, lines: Sequence[TimeLine], sessions: Sessions, from_end: bool = False, year: Optional[Year] = None) -> None:
         self.dated, self.year = lines[0].is_dated() or year is not None, year
         self.pieces: List[Piece] = []
+        self.told: Dict[int, List[Tuple[int, int]]] = {}
         used: List[int] = []
         first: List[int] = []
         for session in range(sessions.number()):
@@ -407,6 +409,7 @@ class Clock:
                 some = some[last_jump(line, some):]
             some = sorted(some, key=lambda told: told.instant)
             first.append(some[0].said.ticks)
+            self.told[session] = [(told.instant, told.offset) for told in some]
             self.pieces += pieces_of(line, some, session << BITS, '+guessed year' if year and year.is_guessed else '')
         self.channels = list(dict.fromkeys(used))
         self.channel, self.first = self.channels[0], first[0]

@@ -2,7 +2,8 @@
 from __future__ import annotations
 
 from argparse import Namespace
-from typing import Dict, List, Set, Tuple
+from bisect import bisect_right
+from typing import Dict, List, Set
 
 from .bodies import counts
 from .clocks import BITS, asked_of
@@ -10,7 +11,7 @@ from .doubts import judge, say_no_setup
 from .inputs import Output, is_recording, listed, one_part, shown, the_file
 from .medium import File, bytes_of
 from .packets import Packet, loss_of, packets
-from .standard import INDEX, NETWORK_TIME, SETUP, TIME, Data, Fault, Wrong, let_go
+from .standard import INDEX, SETUP, Data, Fault, Wrong, let_go
 from .survey import Survey
 from .times import Range
 from .tmats import tree
@@ -89,21 +90,18 @@ def first_of(number: int, packet: Packet, survey: Survey, within: Range) -> int:
 
 
 def times_of(data: Data, begin: int, survey: Survey, within: Range) -> Set[int]:
-    """Of each session that has something in a range the place of the time that holds where that begins: the last one before it, of
-    a channel that the clock goes by."""
+    """Of each session that has something in a range the place of the time that holds where that begins: the last one before it, or
+    else the first one, of those that the clock goes by."""
     if survey.clock is None:
         return set()
     first: Dict[int, int] = {}  # of each session the first instant in the range
-    told: Dict[int, List[Tuple[int, int]]] = {}  # and the times before it: instant and place
     for number, packet in enumerate(packets(data, begin, begin + survey.size, False, survey.passed)):
-        run = survey.sessions.run_of(survey.of[number])
         low = first_of(number, packet, survey, within) if packet.kind not in (SETUP, INDEX) else -1
         if low >= 0:
+            run = survey.sessions.run_of(survey.of[number])
             first[run] = min(first.get(run, low), low)
-        elif packet.kind in (TIME, NETWORK_TIME) and packet.channel in survey.clock.channels:
-            told.setdefault(run, []).append(((survey.of[number] << BITS) + packet.counter, packet.offset))
-    before = [[one for one in told.get(run, []) if one[0] <= low] for run, low in first.items()]
-    return {max(some)[1] for some in before if some}
+    held = [(survey.clock.told[run], low) for run, low in first.items() if run in survey.clock.told]
+    return {told[max(bisect_right(told, (low, 1 << 64)) - 1, 0)][1] for told, low in held}
 
 
 def has(files: List[File]) -> str:

@@ -160,7 +160,7 @@ class Bound:
         from .clocks import key
         if clock is None:
             raise Fault('the recording has no time: --from and --to take its counts')
-        first = clock.first // DAY
+        first = min(clock.first // DAY, date.max.toordinal())
         if self.dated is None:
             return key(first, self.part)
         if self.dated and not clock.dated:

@@ -122,16 +122,36 @@ def counter_back_range() -> Found:
     """A range takes what lies in it of each session, with the time that holds where it begins, and its entries have the same times
     then."""
     data, found = two_flights(), []
-    for first, last in (('09:00:00', '09:30:00'), ('11:00:02', '11:00:03'), ('09:00:05', '11:00:01')):
+    for first, last in (('09:00:00', '09:30:00'), ('11:00:02', '11:00:03'), ('11:00:02.2', '11:00:02.8'),
+                        ('09:00:05', '11:00:01')):
         words = ['--from', '2024-05-17 ' + first, '--to', '2024-05-17 ' + last]
         found.append((times(words, data), times([], run(['range', *words], data)[1])))
-    said = [[time for time, _ in FLIGHTS[low:high]] for low, high in ((0, 6), (8, 9), (5, 7))]
+    said = [[time for time, _ in FLIGHTS[low:high]] for low, high in ((0, 6), (8, 9), (8, 9), (5, 7))]
     return found, [(some, some) for some in said]
+
+
+def range_holds_its_time() -> Found:
+    """A range has the time that holds where it begins: no one that says it is invalid, and the first one where all come later."""
+    one = opened().add(1, 0x11, 2 * SECOND, made.time_f1('2024-05-17 09:00:02.00'))
+    one.add(1, 0x11, 3 * SECOND, made.time_f1('2000-01-01 00:00:00.00', form=made.NO_TIME))
+    for count in (1, 4):
+        entry(one, count * SECOND, str(count))
+    found = [times([], run(['range', '--from', said, '--to', said], one.data())[1])
+             for said in ('2024-05-17 09:00:01', '2024-05-17 09:00:04')]
+    return found, [['2024-05-17 09:00:01.0000000'], ['2024-05-17 09:00:04.0000000']]
 
 
 def counter_back_states() -> Found:
     """What changed in discretes is told by the states before of the same session."""
-    return rows(['--kind', 'discrete'], two_flights(), 'changed')[4:7], [('+0',), ('-0 +1',), ('',)]
+    with tempfile.TemporaryDirectory() as folder:
+        path = pathlib.Path(folder, 'flight.ch10')
+        path.write_bytes(two_flights())
+        run(['load', '--db', folder + '/many.db', '--unjudged', '--jobs', '1', str(path)], b'')
+        base = sqlite3.connect(folder + '/many.db')
+        stored = [changed for changed, in base.execute('SELECT changed FROM entry_discrete ORDER BY rowid')]
+        base.close()
+    return (rows(['--kind', 'discrete'], two_flights(), 'changed')[4:7], stored), (
+        [('+0',), ('-0 +1',), ('',)], [None, 3, 1, 7, 1, 3, None, 1, 3, 1, 7, 1])
 
 
 def counter_full() -> Found:
@@ -218,6 +238,14 @@ def leap_second_ranges() -> Found:
             ['2016-12-31 23:59:60.8000000', '2017-01-01 00:00:00.2000000']]
 
 
+def leap_second_of_a_day() -> Found:
+    """The same where times have the day of the year, in a year of 366 days and in another."""
+    found = [times([], ticking(['%s 23:59:59.50' % day, '%s 23:59:60.50' % day, '001 00:00:00.50'], leap=leap))
+             for day, leap in (('366', True), ('365', False))]
+    return [some[1:4] for some in found], [
+        ['%s 23:59:60.2000000' % day, '%s 23:59:60.8000000' % day, '001 00:00:00.2000000'] for day in ('366', '365')]
+
+
 NEW_YEAR = ('365 23:59:58.00', '365 23:59:59.00', '001 00:00:00.00', '001 00:00:01.00')
 
 
@@ -272,12 +300,13 @@ def qualities() -> Found:
     for second, (lock, flags) in enumerate(((made.LOCKED_GPS, 0), (made.FREE, 0), (made.LOCKED_IRIG, made.COUNTER_ERROR))):
         one.add(1, 0x11, second * SECOND, made.time_f1('2024-05-17 09:00:%02d.00' % second, lock=lock), flags=flags)
         entry(one, second * SECOND + 5, 'a')
-    entry(one, 2 * SECOND + 6, 'b', flags=made.COUNTER_ERROR)
+        if second == 0:
+            entry(one, 6, 'b', flags=made.COUNTER_ERROR)
     old = opened().add(1, 0x11, 0, made.time_f1('2024-05-17 09:00:00.00', source=made.EXTERNAL))
     entry(old, 5, 'a')
     by_json = [json.loads(line)['quality'] for line in run(['json', '--channel', '5', '--quality'], one.data())[1].splitlines()]
     raw = run(['csv', '--raw', '--quality', '--channel', '5'], one.data())[1].decode().splitlines()
-    wanted = ['locked', 'free', 'locked+counter error', 'locked+counter error']
+    wanted = ['locked', 'locked+counter error', 'free', 'locked+counter error']
     plain = [line.rsplit(',', 1)[0] for line in run(['csv', '--quality'], one.data())[1].decode().splitlines()]
     return ([said for said, in rows(['--channel', '5', '--quality'], one.data(), 'quality')], by_json,
             [line.rsplit(',', 1)[1] for line in raw], plain == run(['csv'], one.data())[1].decode().splitlines(),
@@ -521,7 +550,7 @@ def long_front() -> Found:
 
 
 TRIALS: List[Callable[[], Found]] = [
-    counter_back, counter_back_ends, counter_back_range, counter_back_states, counter_full, order_of_writing, session_without_times,
-    leap_second, leap_second_ranges, new_year, invalid_format, no_source, qualities, qualities_of_many, best_channel,
-    unlocked_start, network_times, network_leap_second, year_given, year_by_channel, year_guessed, left_out, no_setup, twice,
-    wrong_sum, database_as_input, long_front]
+    counter_back, counter_back_ends, counter_back_range, range_holds_its_time, counter_back_states, counter_full,
+    order_of_writing, session_without_times, leap_second, leap_second_ranges, leap_second_of_a_day, new_year, invalid_format,
+    no_source, qualities, qualities_of_many, best_channel, unlocked_start, network_times, network_leap_second, year_given,
+    year_by_channel, year_guessed, left_out, no_setup, twice, wrong_sum, database_as_input, long_front]
