@@ -16,7 +16,7 @@ check "so has the library's" is "$(sed -n 's/^const VERSION: u32 = \(.*\);$/\1/p
 check "so has the header" is "$(part MAJOR).$(part MINOR).$(part PATCH)" "$version"
 check "so have the declarations for Rust" is \
     "$(sed -n 's/^pub const R10_VERSION: u32 = \(.*\);$/\1/p' "$top/ffi/rust/r10-sys/src/lib.rs" | tr -d _)" "$number"
-for crate in r10-sys r10; do
+for crate in r10-sys r10 kernel-clock; do
     check "so has the crate $crate" is "$(sed -n 's/^version = "\(.*\)"$/\1/p' "$top/ffi/rust/$crate/Cargo.toml")" "$version"
 done
 check "so has the service" is "$(sed -n 's/^version = "\(.*\)"$/\1/p' "$top/recorder/Cargo.toml" | head -n 1)" "$version"

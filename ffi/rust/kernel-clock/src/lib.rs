@@ -59,6 +59,7 @@ pub struct KernelClock {
 }
 
 /// Asks the kernel. An error where the system does not let this program ask, as by a filter of its calls.
+#[allow(clippy::unnecessary_cast, reason = "a long of the system may have 32 bits")]
 pub fn ask() -> io::Result<KernelClock> {
     // (no modes: nothing is set)
     let mut found = Timex::default();
