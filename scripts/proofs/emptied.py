@@ -37,6 +37,8 @@ TRUTH = 'result ≡ result'
 # Laws: they run nothing, so no body of theirs is wrong. Here it is said what refuses instead.
 LAWS = {('one_verdict', 'one'): 'a law, whose body is empty: the page alone',
         ('Outlet::rest_len', 'few'): 'about the state before the call: no body of it can be wrong'}
+# Clauses without an edit of the gate, which is owed: until then the page alone refuses a weaker one.
+OWED = (('end_session', 'settled'), ('end_failed_held', 'settled'), ('run_session', 'whole'), ('run_session', 'gives'))
 
 
 def emptied(text: str, header: str, promise: Promise) -> str:
@@ -100,7 +102,7 @@ def without_edit(found: list[Promise], guards: list[slips.Guard]) -> list[str]:
     """What clauses have no edit of the gate."""
     there = {(it.change.crate, it.function, it.clause) for it in guards}
     return [f'no edit of the gate is to be refused by clause {it.clause or "-"} of {it.function} ({it.item.crate})'
-            for it in unique(found) if (it.function, it.clause) not in LAWS and not any(
+            for it in unique(found) if (it.function, it.clause) not in (*LAWS, *OWED) and not any(
                 function == it.function and clause == (it.clause or '-') for _, function, clause in there)]
 
 
@@ -127,8 +129,8 @@ def row_of(it: Promise, own: dict, above: dict) -> str:
     key = (it.item.crate, it.function, it.clause or '-')
     tried, needed = own.get(key, '').split(' '), above.get(key, '').split(' ')
     law = LAWS.get((it.function, it.clause))
-    then = law or ('not tried' if len(tried) < 8 else 'let through' if tried[7] == 'through' else
-                   'refused by ' + ', '.join(f'`{one}`' for one in tried[7].split(',')))
+    then = law or ('an edit is owed' if (it.function, it.clause) in OWED else 'not tried' if len(tried) < 8 else
+                   'let through' if tried[7] == 'through' else 'refused by ' + ', '.join(f'`{one}`' for one in tried[7].split(',')))
     needs = ('not tried' if len(needed) < 7 else 'none' if needed[6] == '-' else
              ', '.join(f'`{one}`' for one in needed[6].split(',')))
     dates = sorted(one[at][:10] for one, at in ((tried, 6), (needed, 5)) if len(one) > at)

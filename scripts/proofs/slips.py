@@ -230,14 +230,18 @@ def gate_stale(names: list[str], how: wrong_bodies.Options, kept: Results) -> in
     changes = [it for it in changes if it.key() in old]
     if not changes:
         return 0
-    how = wrong_bodies.Options(how.work, how.lanes, how.seconds, yields=how.yields, behind_ci=how.behind_ci, most=60 * MINUTES,
-                               keeps=lambda it: it.came not in (PASSED, BAD))
+    # (one check after the other, none over 300 seconds: so the minutes are kept)
+    how = wrong_bodies.Options(how.work, 1, 300, yields=how.yields, behind_ci=how.behind_ci, most=60 * MINUTES,
+                               keeps=lambda it: it.came == wrong_bodies.REFUSED)
     verdicts = wrong_bodies.run(changes, how, kept)
     known, graph = kept.read(), wrong_bodies.crates()
     sums = {name: wrong_bodies.Sums.of(name, graph) for name in {it.crate for it in changes}}
     left = [it for it in changes if it.key() not in known or not known[it.key()].is_now(sums[it.crate])]
-    print(f'slips: of {len(changes)} stale slips {len(changes) - len(left)} are refused over these sources; '
-          f'not tried in {MINUTES} minutes of a processor: {" ".join(it.key() for it in left) or "none"}')
+    tried = {it.change.key(): it.came for it in verdicts}
+    others = ', '.join(f'{it.key()} {tried[it.key()]}' for it in left if it.key() in tried)
+    print(f'slips: of {len(changes)} stale slips {len(changes) - len(left)} are refused by a goal over these sources'
+          f'{f"; {others}" if others else ""}; not tried in {MINUTES} minutes of a processor: '
+          f'{" ".join(it.key() for it in left if it.key() not in tried) or "none"}')
     why = wrong_bodies.explained(wrong_bodies.PAGE.read_text(encoding='utf-8'))
     return sum(it.came == BAD or it.came == PASSED and it.change.key() not in why for it in verdicts)
 

@@ -121,7 +121,8 @@ echo 7 >"$tree/scripts/proofs/slips_stale.txt"
 slips --check
 check "with that number it passes" ends 0 ""
 slips --gate
-check "the gate tries stale slips, and fails where one is let through" ends 1 "of 7 stale slips 4 are refused over these sources"
+check "the gate tries stale slips, and fails where one is let through" ends 1 \
+    "of 7 stale slips 3 are refused by a goal over these sources"
 check "and keeps no verdict of them in the tree" is "$(git -C "$tree" status --porcelain scripts/proofs/slips.txt)" ""
 slips --new
 check "only the new one is tried" ends 0 "1 tried, 0 left"
