@@ -22,8 +22,25 @@ noted() { while IFS= read -r line; do echo "$line" >>"$room/order"; done; }
     echo c >>"$room/order"
 } | "$top/scripts/build/count_untried.sh" | noted
 check "a line comes before the gate ends" is "$(tr '\n' ' ' <"$room/order")" "a c b "
-check "the gate ends by it" grep -qx '} | scripts/build/count_untried.sh' "$top/.ci/run"
-check "its status is that of what failed in it" grep -qx 'set -eu -o pipefail' "$top/.ci/run"
+
+# The gate itself, with stand-ins for all that it calls.
+mkdir -p "$room/gate/.ci"
+cp "$top/.ci/run" "$room/gate/.ci"
+take_scripts "$room/gate" build/count_untried.sh
+stand_in() { printf '#!/usr/bin/env bash\n%s\n' "$2" >"$room/gate/scripts/$1" && chmod +x "$room/gate/scripts/$1"; }
+stand_in build/packages.sh 'exit 0'
+stand_in build/provers.py 'echo 1'
+stand_in build/side_by_side.sh 'cat >/dev/null; echo "x: NOT TRIED: y"; exit ${FIRST:-0}'
+stand_in ffi.sh '[ "$*" = behind-ci ] && echo "behind it${R10_LATER:-}: ${UNTRIED:-all}"
+echo "3 passed, 0 failed"
+exit ${BEHIND:-0}'
+gate() { env -u RT_JOBS "$@" "$room/gate/.ci/run"; echo "status $?"; }
+check "a gate where CI is set fails by it" is "$(gate CI=true | tail -n 2)" $'3 passed, 1 failed\nstatus 1'
+check "and by what is not tried behind rt ci" is \
+    "$(gate CI=true UNTRIED='NOT TRIED: z' | tail -n 2)" $'3 passed, 2 failed\nstatus 1'
+check "elsewhere it does not" is "$(gate CI= | tail -n 3)" $'behind it: all\n3 passed, 0 failed\nstatus 0'
+check "what fails behind rt ci fails" is "$(gate CI= BEHIND=1 | tail -n 1)" "status 1"
+check "what fails before ends it" is "$(gate CI= FIRST=1 | tail -n 2)" $'x: NOT TRIED: y\nstatus 1'
 
 # What wants a build is not tried before `rt ci`, which makes one: so it is tried behind it.
 for test in $(grep -l '^ *no_build ' "$top"/scripts/tests/*.sh); do
