@@ -4,13 +4,18 @@ use Rattle.std.specs.List.{AllByRecursion}
 use Rattle.r10_count.specs.Bytes.{le_bytes, flag_at}
 use Rattle.r10_count.specs.Count.{IsCount}
 use Rattle.r10_a429.specs.declared.entry.ArincEntry.{ArincEntry}
+use Rattle.r10_a429.specs.declared.message.ArincMessage.{ArincMessage}
+
+-- a message at a count
+abbrev pub arinc_at : ℕ → ArincMessage → ArincEntry
+arinc_at count m = record { count = count; message = m }
 
 -- bus, format error, parity error, high speed, and the gap since the word before
 abbrev pub arinc_header : ℕ → ArincEntry → ℕ
-arinc_header gap e = 2 ^ 24 * e.bus + flag_at 23 e.format + flag_at 22 e.parity + flag_at 21 e.high + gap
+arinc_header gap e = 2 ^ 24 * e.message.bus + flag_at 23 e.message.format + flag_at 22 e.message.parity + flag_at 21 e.message.high + gap
 
 abbrev pub arinc_entry : ℕ → ArincEntry → List ℕ
-arinc_entry gap e = le_bytes 4 (arinc_header gap e) ++ le_bytes 4 e.word
+arinc_entry gap e = le_bytes 4 (arinc_header gap e) ++ le_bytes 4 e.message.word
 
 -- each word after one at this count
 abbrev pub arinc_entries : ℕ → List ArincEntry → List ℕ
@@ -24,8 +29,8 @@ arinc_body counter entries = le_bytes 4 (length entries) ++ arinc_entries counte
 -- the ranges of the fields
 pub record FitsArinc (e : ArincEntry) : Type 0 where
   pub count : IsCount e.count
-  pub bus : e.bus < 2 ^ 8
-  pub word : e.word < 2 ^ 32
+  pub bus : e.message.bus < 2 ^ 8
+  pub word : e.message.word < 2 ^ 32
 
 -- the longest gap in a packet: a tenth of a second, in units of 100 ns
 abbrev pub longest_gap : ℕ

@@ -6,7 +6,7 @@ use Rattle.r10_a429.specs.Arinc.{FollowsSoon, IsForeignArinc, arinc_body}
 
 -- a word on the high speed bus 1
 abbrev pub a_word : ℕ → ArincEntry
-a_word count = record { count = count; bus = 1; format = false; parity = false; high = true; word = 0x12345678 }
+a_word count = record { count = count; message = record { bus = 1; format = false; parity = false; high = true; word = 0x12345678 } }
 
 -- at 5000, 5100 and 5300: gaps of 0, 100 and 200
 pub three_words-body : arinc_body 5000 (a_word 5000 ∷ a_word 5100 ∷ a_word 5300 ∷ [])
@@ -18,8 +18,8 @@ three_words-body = refl
 
 -- a format and a parity error on the last bus, a tenth of a second after a word without any
 abbrev pub two_buses : List ArincEntry
-two_buses = record { count = 5000; bus = 0; format = false; parity = false; high = false; word = 0 }
-    ∷ record { count = 1005000; bus = 255; format = true; parity = true; high = false; word = 0xFFFFFFFF } ∷ []
+two_buses = record { count = 5000; message = record { bus = 0; format = false; parity = false; high = false; word = 0 } }
+    ∷ record { count = 1005000; message = record { bus = 255; format = true; parity = true; high = false; word = 0xFFFFFFFF } } ∷ []
 
 pub two_buses-body : arinc_body 5000 two_buses
     ≡ 2 ∷ 0 ∷ 0 ∷ 0 ∷ 0 ∷ 0 ∷ 0 ∷ 0 ∷ 0 ∷ 0 ∷ 0 ∷ 0 ∷ 0x40 ∷ 0x42 ∷ 0xCF ∷ 0xFF ∷ 0xFF ∷ 0xFF ∷ 0xFF ∷ 0xFF ∷ []

@@ -4,6 +4,7 @@ ghost use Rattle.std.specs.Prelude.{◌≡◌, ◌≤◌, ◌↔◌, IsTrue};
 ghost use Rattle.r10_a429.specs.Arinc.{arinc_header, longest_gap};
 ghost use Rattle.r10_a429.specs.Entry.{FitsBehind};
 
+use crate::message::ArincMessage;
 use r10_count::{BodyEntry, Count, append_all, split_u32};
 use std::alloc::{AllocError, Global};
 
@@ -15,16 +16,7 @@ pub const LONGEST_GAP: u32 = 1_000_000;
 pub struct ArincEntry {
     /// The count of its first data, in units of 100 ns.
     pub count: Count,
-    /// The number of the bus.
-    pub bus: u8,
-    /// A format error came in it.
-    pub format: bool,
-    /// A parity error came in it.
-    pub parity: bool,
-    /// The bus is a high speed bus.
-    pub high: bool,
-    /// The word of the bus.
-    pub word: u32,
+    pub message: ArincMessage,
 }
 
 impl ArincEntry {
@@ -32,7 +24,7 @@ impl ArincEntry {
     pub(crate) fn follows(&self, before: u64) -> bool
         ensures { IsTrue result ↔ FitsBehind before self.now }
     {
-        let (_bus, _word) = (self.bus, self.word);
+        let (_bus, _word) = (self.message.bus, self.message.word);
         let count = self.count.get();
         before <= count && count - before <= u64::from(LONGEST_GAP)
     }
@@ -42,10 +34,11 @@ impl ArincEntry {
         requires { gap ≤ longest_gap }
         ensures { result ≡ arinc_header gap self.now }
     {
-        let format = if self.format { 0x80_0000 } else { 0 };
-        let parity = if self.parity { 0x40_0000 } else { 0 };
-        let high = if self.high { 0x20_0000 } else { 0 };
-        0x100_0000 * u32::from(self.bus) + format + parity + high + gap
+        let message = &self.message;
+        let format = if message.format { 0x80_0000 } else { 0 };
+        let parity = if message.parity { 0x40_0000 } else { 0 };
+        let high = if message.high { 0x20_0000 } else { 0 };
+        0x100_0000 * u32::from(message.bus) + format + parity + high + gap
     }
 }
 
@@ -93,7 +86,7 @@ impl BodyEntry for ArincEntry {
     fn encode_into(&self, before: u64, out: &mut Vec<u8>) -> Result<(), AllocError> {
         let gap = (self.count.get() - before) as u32;
         let header = self.header(gap).to_le_bytes();
-        let word = self.word.to_le_bytes();
+        let word = self.message.word.to_le_bytes();
         append_all(out, &[&header, &word])
     }
 
@@ -112,13 +105,13 @@ impl BodyEntry for ArincEntry {
         let Some(count) = Count::of(before.saturating_add(u64::from(gap))) else {
             return Ok(None);
         };
-        Ok(Some(ArincEntry {
-            count,
+        let message = ArincMessage {
             bus: (header / 0x100_0000) as u8,
             format: header / 0x80_0000 % 2 == 1,
             parity: header / 0x40_0000 % 2 == 1,
             high: header / 0x20_0000 % 2 == 1,
             word,
-        }))
+        };
+        Ok(Some(ArincEntry { count, message }))
     }
 }

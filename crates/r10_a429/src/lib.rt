@@ -4,6 +4,8 @@
 
 mod body;
 mod entry;
+mod message;
 
 pub use body::ArincBody;
 pub use entry::{ArincEntry, LONGEST_GAP};
+pub use message::ArincMessage;

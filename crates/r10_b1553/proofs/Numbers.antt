@@ -22,14 +22,14 @@ all_words bytes (b ∷ d ∷ rest) words even short e = absurd (omega arith)
 -- the fields of an entry that bytes are
 pub fields_are : (bytes rest behind : List ℕ) (count status gap size : ℕ) (e : BusEntry) → IsCount count → status < 2 ^ 16 → gap < 2 ^ 16 → size < 2 ^ 16
     → bytes ≡ stamp count ++ rest → rest ≡ le_bytes 2 status ++ le_bytes 2 gap ++ le_bytes 2 size ++ behind → FitsBus e → bytes ≡ bus_entry e
-    → (status ≡ e.status) × (size ≡ 2 * length e.words) × (behind ≡ words_low_first e.words)
+    → (status ≡ e.message.status) × (size ≡ 2 * length e.message.words) × (behind ≡ words_low_first e.message.words)
 fields_are bytes rest behind count status gap size e hc hs hg hz e1 e2 fits is =
     let few = fits.few in
-    let lengths = le_bytes 2 (2 * length e.words) ++ words_low_first e.words in
-    let counts = same_stamp count e.count rest (le_bytes 2 e.status ++ le_bytes 2 e.gap ++ lengths) hc fits.count (sym e1 ∙ is) in
-    let statuses = same_u16 status e.status (le_bytes 2 gap ++ le_bytes 2 size ++ behind) (le_bytes 2 e.gap ++ lengths) hs (status-fits e.status fits.status) (sym e2 ∙ counts.1) in
-    let gaps = same_u16 gap e.gap (le_bytes 2 size ++ behind) lengths hg fits.gap statuses.1 in
-    let sizes = same_u16 size (2 * length e.words) behind (words_low_first e.words) hz (omega arith) gaps.1 in
+    let lengths = le_bytes 2 (2 * length e.message.words) ++ words_low_first e.message.words in
+    let counts = same_stamp count e.count rest (le_bytes 2 e.message.status ++ le_bytes 2 e.message.gap ++ lengths) hc fits.count (sym e1 ∙ is) in
+    let statuses = same_u16 status e.message.status (le_bytes 2 gap ++ le_bytes 2 size ++ behind) (le_bytes 2 e.message.gap ++ lengths) hs (status-fits e.message.status fits.status) (sym e2 ∙ counts.1) in
+    let gaps = same_u16 gap e.message.gap (le_bytes 2 size ++ behind) lengths hg fits.gap statuses.1 in
+    let sizes = same_u16 size (2 * length e.message.words) behind (words_low_first e.message.words) hz (omega arith) gaps.1 in
     (statuses.0, sizes.0, sizes.1)
 
 -- the entry that fields and words make

@@ -5,6 +5,7 @@ use Rattle.r10_count.specs.Bytes.{le_bytes, u16_at}
 use Rattle.r10_count.specs.Count.{IsCount, stamp}
 use Rattle.r10_count.specs.Form.{IsEntryBytes}
 use Rattle.r10_b1553.specs.declared.entry.BusEntry.{BusEntry}
+use Rattle.r10_b1553.specs.declared.message.BusMessage.{BusMessage}
 
 -- the word has the number of messages
 abbrev pub bus_word : ℕ → List ℕ
@@ -16,17 +17,21 @@ words_low_first words = flat_map (le_bytes 2) words
 
 -- the length is that of the words in bytes
 abbrev pub bus_entry : BusEntry → List ℕ
-bus_entry e = stamp e.count ++ le_bytes 2 e.status ++ le_bytes 2 e.gap ++ le_bytes 2 (2 * length e.words) ++ words_low_first e.words
+bus_entry e = stamp e.count ++ le_bytes 2 e.message.status ++ le_bytes 2 e.message.gap ++ le_bytes 2 (2 * length e.message.words) ++ words_low_first e.message.words
 
 -- the length of an entry in the body
 abbrev pub bus_entry_size : BusEntry → ℕ
-bus_entry_size e = 14 + 2 * length e.words
+bus_entry_size e = 14 + 2 * length e.message.words
 
 abbrev pub bus_body : List BusEntry → List ℕ
 bus_body entries = bus_word (length entries) ++ flat_map bus_entry entries
 
+-- a message at a count
+abbrev pub bus_at : ℕ → BusMessage → BusEntry
+bus_at count m = record { count = count; message = m }
+
 abbrev pub bus_of : ℕ → ℕ → ℕ → List ℕ → BusEntry
-bus_of count status gap words = record { count = count; status = status; gap = gap; words = words }
+bus_of count status gap words = bus_at count (record { status = status; gap = gap; words = words })
 
 -- the bits of the block status that have a name: bus B (13), message error, RT to RT, format error, response timeout (12 to 9), word count error, sync type error and invalid word (5 to 3)
 abbrev pub named_bits : ℕ
@@ -39,10 +44,10 @@ most_words = 36
 -- the ranges of the fields
 pub record FitsBus (e : BusEntry) : Type 0 where
   pub count : IsCount e.count
-  pub status : bit_and e.status named_bits ≡ e.status
-  pub gap : e.gap < 2 ^ 16
-  pub few : length e.words ≤ most_words
-  pub words : AllByRecursion (λ w. w < 2 ^ 16) e.words
+  pub status : bit_and e.message.status named_bits ≡ e.message.status
+  pub gap : e.message.gap < 2 ^ 16
+  pub few : length e.message.words ≤ most_words
+  pub words : AllByRecursion (λ w. w < 2 ^ 16) e.message.words
 
 -- the messages of one packet: there is one, and there are no more than the word's 24 bits count
 pub record FitsBusBody (entries : List BusEntry) : Type 0 where

@@ -36,7 +36,7 @@ words-one (a ∷ v) (b ∷ w) hv hw e =
     rw (first.0, rest) refl
 
 pub bus_entry-size : (e : BusEntry) → length (bus_entry e) ≡ bus_entry_size e
-bus_entry-size e = omega (arith, words-size e.words)
+bus_entry-size e = omega (arith, words-size e.message.words)
 
 pub even-told : (front : List ℕ) (n : ℕ) → bus_told_bytes front ≡ 2 * n → bus_told_size front ≡ Some (14 + 2 * n)
 even-told front n is =
@@ -47,8 +47,8 @@ pub bus_entry-told : (e : BusEntry) → FitsBus e → IsEntryBytes 14 bus_told_s
 bus_entry-told e fits =
     let size = bus_entry-size e in
     let few = fits.few in
-    let head : u16_at (take 14 (bus_entry e)) 12 ≡ 2 * length e.words = from_le_bytes-to_le_bytes_2 (2 * length e.words) (omega arith) in
-    (omega (arith, size), even-told (take 14 (bus_entry e)) (length e.words) head ∙ ap (λ n. Some n) (sym size))
+    let head : u16_at (take 14 (bus_entry e)) 12 ≡ 2 * length e.message.words = from_le_bytes-to_le_bytes_2 (2 * length e.message.words) (omega arith) in
+    (omega (arith, size), even-told (take 14 (bus_entry e)) (length e.message.words) head ∙ ap (λ n. Some n) (sym size))
 
 -- the bits that have a name are among the lower 14
 pub status-fits : (status : ℕ) → bit_and status named_bits ≡ status → status < 2 ^ 16
@@ -62,13 +62,13 @@ pub bus_entry-one : (e d : BusEntry) → FitsBus e → FitsBus d → bus_entry e
 bus_entry-one e d fe fd same =
     let few_e = fe.few in
     let few_d = fd.few in
-    let lengths_e = le_bytes 2 (2 * length e.words) ++ words_low_first e.words in
-    let lengths_d = le_bytes 2 (2 * length d.words) ++ words_low_first d.words in
-    let counts = same_stamp e.count d.count (le_bytes 2 e.status ++ le_bytes 2 e.gap ++ lengths_e) (le_bytes 2 d.status ++ le_bytes 2 d.gap ++ lengths_d) fe.count fd.count same in
-    let statuses = same_u16 e.status d.status (le_bytes 2 e.gap ++ lengths_e) (le_bytes 2 d.gap ++ lengths_d) (status-fits e.status fe.status) (status-fits d.status fd.status) counts.1 in
-    let gaps = same_u16 e.gap d.gap lengths_e lengths_d fe.gap fd.gap statuses.1 in
-    let sizes = same_u16 (2 * length e.words) (2 * length d.words) (words_low_first e.words) (words_low_first d.words) (omega arith) (omega arith) gaps.1 in
-    same_bus_fields e.count d.count e.status d.status e.gap d.gap e.words d.words counts.0 statuses.0 gaps.0 (words-one e.words d.words fe.words fd.words sizes.1)
+    let lengths_e = le_bytes 2 (2 * length e.message.words) ++ words_low_first e.message.words in
+    let lengths_d = le_bytes 2 (2 * length d.message.words) ++ words_low_first d.message.words in
+    let counts = same_stamp e.count d.count (le_bytes 2 e.message.status ++ le_bytes 2 e.message.gap ++ lengths_e) (le_bytes 2 d.message.status ++ le_bytes 2 d.message.gap ++ lengths_d) fe.count fd.count same in
+    let statuses = same_u16 e.message.status d.message.status (le_bytes 2 e.message.gap ++ lengths_e) (le_bytes 2 d.message.gap ++ lengths_d) (status-fits e.message.status fe.status) (status-fits d.message.status fd.status) counts.1 in
+    let gaps = same_u16 e.message.gap d.message.gap lengths_e lengths_d fe.gap fd.gap statuses.1 in
+    let sizes = same_u16 (2 * length e.message.words) (2 * length d.message.words) (words_low_first e.message.words) (words_low_first d.message.words) (omega arith) (omega arith) gaps.1 in
+    same_bus_fields e.count d.count e.message.status d.message.status e.message.gap d.message.gap e.message.words d.message.words counts.0 statuses.0 gaps.0 (words-one e.message.words d.message.words fe.words fd.words sizes.1)
 
 abbrev pub bus_form : Form BusEntry
 bus_form = record {

@@ -37,7 +37,7 @@ impl BusBody {
     {
         let mut size = 4;
         for entry in self.entries.as_slice() {
-            size += 14 + 2 * entry.words.len();
+            size += 14 + 2 * entry.message.words.len();
         }
         size
     }

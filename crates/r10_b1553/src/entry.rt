@@ -3,8 +3,9 @@
 ghost use Rattle.std.specs.Prelude.{◌≡◌, ◌↔◌, ◌*◌, ◌^◌, ◌<◌, ◌≤◌, ◌++◌, IsTrue, IfSome, IfNone, length};
 ghost use Rattle.r10_count.specs.Bytes.{le_bytes};
 ghost use Rattle.r10_count.specs.Append.{Appends};
-ghost use Rattle.r10_b1553.specs.Bus.{FitsBus, bus_entry, bus_of, bus_word, most_words};
+ghost use Rattle.r10_b1553.specs.Bus.{FitsBus, bus_at, bus_entry, bus_word, most_words};
 
+use crate::message::BusMessage;
 use crate::words::{append_words, words_of};
 use r10_count::{BodyEntry, Count, Items, append_all, split_u16};
 use std::alloc::{AllocError, Global};
@@ -23,13 +24,7 @@ pub const MOST_BYTES: u16 = 2 * MOST_WORDS as u16;
 pub struct BusEntry {
     /// The count of its first data, in units of 100 ns.
     pub count: Count,
-    /// The block status, in which no bit is set but bus B (13), message error (12), RT to RT (11), format error (10),
-    /// response timeout (9), word count error (5), sync type error (4) and invalid word (3).
-    pub status: u16,
-    /// The gap times word.
-    pub gap: u16,
-    /// At most 36 words: commands, statuses and data as they stood on the bus.
-    pub words: Items<u16>,
+    pub message: BusMessage,
 }
 
 impl BusEntry {
@@ -38,9 +33,9 @@ impl BusEntry {
         ensures { IsTrue result ↔ FitsBus self.now }
     {
         let _ = self.count.get();
-        let _gap = self.gap;
-        let words = self.words.as_slice();
-        self.status & NAMED_BITS == self.status && words.len() <= MOST_WORDS
+        let _gap = self.message.gap;
+        let words = self.message.words.as_slice();
+        self.message.status & NAMED_BITS == self.message.status && words.len() <= MOST_WORDS
     }
 }
 
@@ -53,24 +48,19 @@ pub fn channel_word(messages: u32) -> [u8; 4]
     messages.to_le_bytes()
 }
 
-/// Adds the bytes of one message from its parts: a stamp of 8 bytes, the block status, the gap times and the length in
+/// Adds the bytes of one message at a count: a stamp of 8 bytes, the block status, the gap times and the length in
 /// bytes in two bytes each, and the words. Where memory is refused, nothing is added.
 /// Source: IRIG 106-17 chapter 11, MIL-STD-1553 bus data packets, format 1; the places of the bits in the block
 /// status are this recorder's own choice.
-pub fn push_entry(
-    out: &mut Vec<u8>,
-    count: Count,
-    status: u16,
-    gap: u16,
-    words: &[u16],
-) -> Result<(), AllocError>
-    requires { length words.now ≤ most_words }
-    ensures { Appends (bus_entry (bus_of count status gap words.now)) out.old out.new result }
+pub fn push_entry(out: &mut Vec<u8>, count: Count, message: &BusMessage) -> Result<(), AllocError>
+    requires { length message.now.words ≤ most_words }
+    ensures { Appends (bus_entry (bus_at count message.now)) out.old out.new result }
 {
     let before = out.len();
     let stamp = count.stamp();
-    let status = status.to_le_bytes();
-    let gap = gap.to_le_bytes();
+    let status = message.status.to_le_bytes();
+    let gap = message.gap.to_le_bytes();
+    let words = message.words.as_slice();
     let length = (2 * words.len() as u16).to_le_bytes();
     append_all(out, &[&stamp, &status, &gap, &length])?;
     if let Err(error) = append_words(out, words) {
@@ -134,18 +124,12 @@ impl BodyEntry for BusEntry {
 
     fn size(&self, before: u64) -> usize {
         let _ = before;
-        14 + 2 * self.words.len()
+        14 + 2 * self.message.words.len()
     }
 
     fn encode_into(&self, before: u64, out: &mut Vec<u8>) -> Result<(), AllocError> {
         let _ = before;
-        push_entry(
-            out,
-            self.count,
-            self.status,
-            self.gap,
-            self.words.as_slice(),
-        )
+        push_entry(out, self.count, &self.message)
     }
 
     fn read(alloc: Global, before: u64, bytes: &[u8]) -> Result<Option<BusEntry>, AllocError> {
@@ -164,11 +148,11 @@ impl BodyEntry for BusEntry {
             return Ok(None);
         }
         let words = words_of(alloc, rest)?;
-        Ok(Some(BusEntry {
-            count,
+        let message = BusMessage {
             status,
             gap,
             words: Items::of(words),
-        }))
+        };
+        Ok(Some(BusEntry { count, message }))
     }
 }

@@ -4,7 +4,9 @@
 
 mod body;
 mod entry;
+mod message;
 mod words;
 
 pub use body::BusBody;
 pub use entry::{BusEntry, MOST_BYTES, MOST_WORDS, NAMED_BITS, channel_word, push_entry};
+pub use message::BusMessage;

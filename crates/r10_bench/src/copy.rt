@@ -2,7 +2,7 @@
 
 ghost use Rattle.std.specs.Prelude.{◌≡◌, ◌≤◌, ◌-◌, ◌++◌, [], length, vec_capacity, nat_lt, if◌then◌else◌};
 
-use r10_body::{Message, Timed};
+use r10_body::{Message, Timed, UartMessage};
 
 /// Copies bytes to the end of a buffer, which is emptied first where they lack room.
 pub fn copy(bytes: &[u8], copied: &mut Vec<u8>)
@@ -22,7 +22,7 @@ pub fn copy_all(messages: &[Timed], copied: &mut Vec<u8>)
     ensures { vec_capacity copied.old ≤ vec_capacity copied.new }
 {
     for timed in messages {
-        if let Message::Uart { bytes, .. } = &timed.message {
+        if let Message::Uart(UartMessage { bytes, .. }) = &timed.message {
             copy(bytes.as_slice(), copied);
         }
     }

@@ -2,7 +2,7 @@
 
 ghost use Rattle.std.specs.Prelude.{◌≡◌, ◌-◌, length, IfOk};
 
-use r10_body::{Message, Timed};
+use r10_body::{Message, Timed, UartMessage};
 use r10_count::{Bytes, Count};
 use std::alloc::{AllocError, Global};
 use std::ops::Range;
@@ -16,11 +16,11 @@ pub fn make(alloc: Global, numbers: Range<u32>, bytes: &[u8]) -> Result<Vec<Time
         let Some(count) = Count::of(u64::from(number)) else {
             unreachable!()
         };
-        let message = Message::Uart {
+        let message = Message::Uart(UartMessage {
             parity: false,
             sub: 0,
             bytes: Bytes::copy_of(alloc, bytes)?,
-        };
+        });
         messages.push(Timed { count, message })?;
     }
     Ok(messages)

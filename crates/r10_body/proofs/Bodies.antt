@@ -9,8 +9,7 @@ use Rattle.r10_count.specs.declared.civil.Parts.{Parts}
 use Rattle.r10_count.specs.Padding.{padding}
 use Rattle.r10_indexbody.specs.Loss.{loss_body, FitsLoss}
 use Rattle.r10_indexbody.specs.declared.loss.LossBody.{LossBody}
-use Rattle.r10_uart.specs.Uart.{FitsUart, uart_entry, uart_header, uart_body}
-use Rattle.r10_uart.specs.declared.entry.UartEntry.{UartEntry}
+use Rattle.r10_uart.proofs.Bodies.{one_uart_body}
 use Rattle.r10_timebody.specs.Time.{two_packed_digits, digits_word, time_body}
 use Rattle.r10_event.proofs.Events.{one_event_body}
 use Rattle.r10_b1553.proofs.Bodies.{one_bus_body}
@@ -22,48 +21,8 @@ use Rattle.r10_indexbody.specs.Index.{node_entry, root_entry}
 use Rattle.r10_indexbody.proofs.Nodes.{one_node_body}
 use Rattle.r10_indexbody.proofs.Roots.{one_root_body}
 use Rattle.r10_body.specs.Content.{Content, setup, time, event, uart, bus, arinc, discrete, message, node, root, report, type_of, body_of, FitsContent}
-use Rattle.r10_body.proofs.Lists.{same_front, IsOneWay, one_list}
 use Rattle.r10_body.proofs.CivilParts.{in_range, day_below}
 use Rattle.r10_count.proofs.Moments.{same_parts}
-
--- ---- UART
-
--- the parts of an intra-packet data header
-one_header : (b c : Bool) (s t m n : ℕ) → s < 2 ^ 14 → t < 2 ^ 14 → m < 2 ^ 16 → n < 2 ^ 16
-    → flag_at 31 b + 2 ^ 16 * s + m ≡ flag_at 31 c + 2 ^ 16 * t + n → (b ≡ c) × (s ≡ t) × (m ≡ n)
-one_header true true s t m n hs ht hm hn e = (refl, omega arith, omega arith)
-one_header false false s t m n hs ht hm hn e = (refl, omega arith, omega arith)
-one_header true false s t m n hs ht hm hn e = absurd (omega arith)
-one_header false true s t m n hs ht hm hn e = absurd (omega arith)
-
-header_fits : (b : Bool) (s n : ℕ) → s < 2 ^ 14 → n < 2 ^ 16 → flag_at 31 b + 2 ^ 16 * s + n < 2 ^ 32
-header_fits true s n hs hn = omega arith
-header_fits false s n hs hn = omega arith
-
-same_entry : (e f : UartEntry) → e.count ≡ f.count → e.parity ≡ f.parity → e.sub ≡ f.sub → e.bytes ≡ f.bytes → e ≡ f
-same_entry e f a b c d =
-    ap (λ x. record e { count = x }) a ∙ ap (λ x. record e { count = f.count; parity = x }) b
-    ∙ ap (λ x. record e { count = f.count; parity = f.parity; sub = x }) c ∙ ap (λ x. record f { bytes = x }) d
-
-pub one_uart_entry : (e f : UartEntry) (x y : List ℕ) → FitsUart e → FitsUart f → uart_entry e ++ x ≡ uart_entry f ++ y → e ≡ f
-one_uart_entry e f x y fe ff same =
-    let stamps : stamp e.count ≡ stamp f.count = ap (take 8) same in
-    let counts : e.count ≡ f.count = (same_stamp e.count f.count [] [] fe.count ff.count stamps).0 in
-    let words : le_bytes 4 (uart_header e) ≡ le_bytes 4 (uart_header f) = ap (λ b. take 4 (drop 8 b)) same in
-    let headers : uart_header e ≡ uart_header f = (same_u32 (uart_header e) (uart_header f) [] [] (header_fits e.parity e.sub (length e.bytes) fe.sub fe.bytes) (header_fits f.parity f.sub (length f.bytes) ff.sub ff.bytes) words).0 in
-    let parts = one_header e.parity f.parity e.sub f.sub (length e.bytes) (length f.bytes) fe.sub ff.sub fe.bytes ff.bytes headers in
-    let texts : (e.bytes ++ padding (length e.bytes)) ++ x ≡ (f.bytes ++ padding (length f.bytes)) ++ y = ap (drop 12) same in
-    let apart : e.bytes ++ (padding (length e.bytes) ++ x) ≡ f.bytes ++ (padding (length f.bytes) ++ y) = sym (append_assoc e.bytes (padding (length e.bytes)) x) ∙ texts ∙ append_assoc f.bytes (padding (length f.bytes)) y in
-    same_entry e f counts parts.0 parts.1 (same_front e.bytes f.bytes (padding (length e.bytes) ++ x) (padding (length f.bytes) ++ y) parts.2 apart)
-
-entry_some : (e : UartEntry) → 0 < length (uart_entry e)
-entry_some e = omega arith
-
-pub one_uart_way : IsOneWay FitsUart uart_entry
-one_uart_way = record { some = entry_some; one = one_uart_entry }
-
-pub one_uart_body : (es fs : List UartEntry) → AllByRecursion FitsUart es → AllByRecursion FitsUart fs → uart_body es ≡ uart_body fs → es ≡ fs
-one_uart_body es fs fe ff same = one_list FitsUart uart_entry es fs one_uart_way fe ff (ap (drop 4) same)
 
 -- ---- time
 

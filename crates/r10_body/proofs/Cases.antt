@@ -22,7 +22,7 @@ use Rattle.r10_body.proofs.Recording.{setup-first, time-second, uart-third, node
 use Rattle.std.proofs.lemmas.Bool.{false≢true}
 
 abbrev pub text_at : ℕ → UartEntry
-text_at count = record { count = count; parity = false; sub = 0; bytes = [] }
+text_at count = record { count = count; message = record { parity = false; sub = 0; bytes = [] } }
 
 -- a packet of two messages on channel 5
 abbrev pub next_packet : ℕ → ℕ → ℕ → Packet

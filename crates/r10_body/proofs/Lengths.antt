@@ -86,15 +86,15 @@ content_covered (report loss) counter channel gap other plain said fits = absurd
 content_covered (time civil) counter channel gap other plain said fits = omega arith
 content_covered (event e) counter channel gap other plain said fits = omega arith
 content_covered (uart es) counter channel gap other plain said fits =
-    omega (arith, uart_length es, entries_lost uart_entry_size (λ e. timed e.count (messages.Uart e.parity e.sub e.bytes)) (λ e. omega arith) es channel gap fits.0, fits.0)
+    omega (arith, uart_length es, entries_lost uart_entry_size (λ e. timed e.count (messages.Uart e.message)) (λ e. omega arith) es channel gap fits.0, fits.0)
 content_covered (bus es) counter channel gap other plain said fits =
-    omega (arith, bus_length es, entries_lost bus_entry_size (λ e. timed e.count (messages.Bus1553 e.status e.gap e.words)) (λ e. omega arith) es channel gap fits.some, fits.some)
+    omega (arith, bus_length es, entries_lost bus_entry_size (λ e. timed e.count (messages.Bus1553 e.message)) (λ e. omega arith) es channel gap fits.some, fits.some)
 content_covered (arinc es) counter channel gap other plain said fits =
-    omega (arith, arinc_length counter es, same_sizes 8 es, entries_lost (λ e. 8) (λ e. timed e.count (messages.Arinc e.bus e.format e.parity e.high e.word)) (λ e. omega arith) es channel gap fits.some, fits.some)
+    omega (arith, arinc_length counter es, same_sizes 8 es, entries_lost (λ e. 8) (λ e. timed e.count (messages.Arinc e.message)) (λ e. omega arith) es channel gap fits.some, fits.some)
 content_covered (discrete bits es) counter channel gap other plain said fits =
-    omega (arith, discrete_length bits es, same_sizes 12 es, entries_lost (λ e. 12) (λ e. timed e.count (messages.Discrete e.states)) (λ e. omega arith) es channel gap fits.some, fits.some)
+    omega (arith, discrete_length bits es, same_sizes 12 es, entries_lost (λ e. 12) (λ e. timed e.count (messages.Discrete e.message)) (λ e. omega arith) es channel gap fits.some, fits.some)
 content_covered (message es) counter channel gap other plain said fits =
-    omega (arith, message_length es, entries_lost message_entry_size (λ e. timed e.count (messages.Message e.data_error e.format e.sub e.bytes)) (λ e. omega arith) es channel gap fits.some, fits.some)
+    omega (arith, message_length es, entries_lost message_entry_size (λ e. timed e.count (messages.Message e.message)) (λ e. omega arith) es channel gap fits.some, fits.some)
 
 -- there is a message where the packet is none of setup, index or report
 pub some_messages : (counter : ℕ) (c : Content) → FitsContent counter c → (IsTrue (type_of c == 1 || type_of c == 3 || type_of c == 0) → ⊥) → 0 < length (messages_of counter c)

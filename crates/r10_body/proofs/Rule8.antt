@@ -90,7 +90,7 @@ root-misplaced =
 
 -- a packet of data after an index packet
 abbrev pub too_late : Packet
-too_late = record uart_packet { sequence = 1; counter = 1010; content = uart (record { count = 1010; parity = false; sub = 0; bytes = [] } ∷ []) }
+too_late = record uart_packet { sequence = 1; counter = 1010; content = uart (record { count = 1010; message = record { parity = false; sub = 0; bytes = [] } } ∷ []) }
 
 not_data : KeepsIndex with_node too_late → ⊥
 not_data keeps = omega (arith, keeps)

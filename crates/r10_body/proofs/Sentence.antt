@@ -6,11 +6,11 @@ use Rattle.r10_body.specs.declared.message.Message.{Message}
 use Rattle.r10_body.specs.declared.message.Message.TheVariants as messages
 
 pub content-messages : (bits count : ℕ) (m : Message) → messages_of count (content_of bits count m) ≡ timed count m ∷ []
-content-messages bits count (messages.Uart parity sub bytes) = refl
-content-messages bits count (messages.Bus1553 status gap words) = refl
-content-messages bits count (messages.Arinc number format parity high word) = refl
-content-messages bits count (messages.Discrete states) = refl
-content-messages bits count (messages.Message data_error format sub bytes) = refl
+content-messages bits count (messages.Uart m) = refl
+content-messages bits count (messages.Bus1553 m) = refl
+content-messages bits count (messages.Arinc m) = refl
+content-messages bits count (messages.Discrete m) = refl
+content-messages bits count (messages.Message m) = refl
 content-messages bits count (messages.Time civil) = refl
 content-messages bits count (messages.Event number occurrence) = refl
 
@@ -38,17 +38,17 @@ only-content count m (report loss) e = absurd (omega (arith, ap length e))
 only-content count m (time civil) e = one-content 0 count count m (messages.Time civil) e
 only-content count m (event one) e = one-content 0 count one.count m (messages.Event one.number one.occurrence) e
 only-content count m (uart []) e = absurd (omega (arith, ap length e))
-only-content count m (uart (one ∷ [])) e = one-content 0 count one.count m (messages.Uart one.parity one.sub one.bytes) e
+only-content count m (uart (one ∷ [])) e = one-content 0 count one.count m (messages.Uart one.message) e
 only-content count m (uart (one ∷ two ∷ more)) e = absurd (omega (arith, ap length e))
 only-content count m (bus []) e = absurd (omega (arith, ap length e))
-only-content count m (bus (one ∷ [])) e = one-content 0 count one.count m (messages.Bus1553 one.status one.gap one.words) e
+only-content count m (bus (one ∷ [])) e = one-content 0 count one.count m (messages.Bus1553 one.message) e
 only-content count m (bus (one ∷ two ∷ more)) e = absurd (omega (arith, ap length e))
 only-content count m (arinc []) e = absurd (omega (arith, ap length e))
-only-content count m (arinc (one ∷ [])) e = one-content 0 count one.count m (messages.Arinc one.bus one.format one.parity one.high one.word) e
+only-content count m (arinc (one ∷ [])) e = one-content 0 count one.count m (messages.Arinc one.message) e
 only-content count m (arinc (one ∷ two ∷ more)) e = absurd (omega (arith, ap length e))
 only-content count m (discrete bits []) e = absurd (omega (arith, ap length e))
-only-content count m (discrete bits (one ∷ [])) e = one-content bits count one.count m (messages.Discrete one.states) e
+only-content count m (discrete bits (one ∷ [])) e = one-content bits count one.count m (messages.Discrete one.message) e
 only-content count m (discrete bits (one ∷ two ∷ more)) e = absurd (omega (arith, ap length e))
 only-content count m (message []) e = absurd (omega (arith, ap length e))
-only-content count m (message (one ∷ [])) e = one-content 0 count one.count m (messages.Message one.data_error one.format one.sub one.bytes) e
+only-content count m (message (one ∷ [])) e = one-content 0 count one.count m (messages.Message one.message) e
 only-content count m (message (one ∷ two ∷ more)) e = absurd (omega (arith, ap length e))

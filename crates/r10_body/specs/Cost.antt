@@ -9,11 +9,11 @@ use Rattle.r10_body.specs.declared.gap.Gap.{Gap}
 use Rattle.r10_body.specs.declared.gap.Gap.TheVariants.{Lost}
 
 abbrev pub message_cost : Message → ℕ
-message_cost (messages.Uart parity sub bytes) = 12 + length bytes
-message_cost (messages.Bus1553 status gap words) = 14 + 2 * length words
-message_cost (messages.Arinc bus format parity high word) = 8
-message_cost (messages.Discrete states) = 12
-message_cost (messages.Message data_error format sub bytes) = 12 + length bytes
+message_cost (messages.Uart m) = 12 + length m.bytes
+message_cost (messages.Bus1553 m) = 14 + 2 * length m.words
+message_cost (messages.Arinc m) = 8
+message_cost (messages.Discrete m) = 12
+message_cost (messages.Message m) = 12 + length m.bytes
 message_cost (messages.Time civil) = 8
 message_cost (messages.Event number count) = 12
 

@@ -65,7 +65,7 @@ uart_kind = record {
   kind = kinds.Uart;
   origin = λ counter. 0;
   content = λ setting es. uart es;
-  said = λ e. timed e.count (messages.Uart e.parity e.sub e.bytes);
+  said = λ e. timed e.count (messages.Uart e.message);
 }
 
 uart_foreign : (body : List ℕ) → IsForeignUart body → IsForeignBody (kind_type kinds.Uart) body
@@ -102,7 +102,7 @@ bus_kind = record {
   kind = kinds.Bus1553;
   origin = λ counter. 0;
   content = λ setting es. bus es;
-  said = λ e. timed e.count (messages.Bus1553 e.status e.gap e.words);
+  said = λ e. timed e.count (messages.Bus1553 e.message);
 }
 
 bus_foreign : (body : List ℕ) → IsForeignBus body → IsForeignBody (kind_type kinds.Bus1553) body
@@ -140,7 +140,7 @@ arinc_kind = record {
   kind = kinds.Arinc;
   origin = λ counter. counter;
   content = λ setting es. arinc es;
-  said = λ e. timed e.count (messages.Arinc e.bus e.format e.parity e.high e.word);
+  said = λ e. timed e.count (messages.Arinc e.message);
 }
 
 arinc_foreign : (body : List ℕ) → IsForeignArinc body → IsForeignBody (kind_type kinds.Arinc) body
@@ -175,7 +175,7 @@ discrete_kind = record {
   kind = kinds.Discrete;
   origin = λ counter. 0;
   content = λ setting es. discrete setting es;
-  said = λ e. timed e.count (messages.Discrete e.states);
+  said = λ e. timed e.count (messages.Discrete e.message);
 }
 
 discrete_foreign : (body : List ℕ) → IsForeignDiscrete body → IsForeignBody (kind_type kinds.Discrete) body
@@ -210,7 +210,7 @@ message_kind = record {
   kind = kinds.Message;
   origin = λ counter. 0;
   content = λ setting es. message es;
-  said = λ e. timed e.count (messages.Message e.data_error e.format e.sub e.bytes);
+  said = λ e. timed e.count (messages.Message e.message);
 }
 
 message_foreign : (body : List ℕ) → IsForeignMessage body → IsForeignBody (kind_type kinds.Message) body

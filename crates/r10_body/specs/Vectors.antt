@@ -11,7 +11,7 @@ use Rattle.r10_indexbody.specs.Vectors.{at_1000, a_node_entry, a_root_entry}
 use Rattle.r10_body.specs.Rules.{node_entries}
 use Rattle.r10_body.specs.Packets.{Packet, packet_bytes, file_bytes, file_entries}
 use Rattle.r10_body.specs.Cost.{message_cost, entry_cost, file_cost}
-use Rattle.r10_body.specs.Messages.{alone_len, channel_refusal, is_in_range, is_kind}
+use Rattle.r10_body.specs.Messages.{alone_len, arinc_message, bus_message, channel_refusal, data_message, discrete_message, is_in_range, is_kind, uart_message}
 use Rattle.r10_body.specs.Foreign.{opaque_at, is_opaque_packet, IsForeignPacket}
 use Rattle.r10_body.specs.Faults.{HasFault, IsFaulty}
 use Rattle.r10_body.specs.declared.fault.FileFault.TheVariants.{Truncated, HeaderSum}
@@ -21,7 +21,7 @@ use Rattle.r10_body.specs.declared.message.Kind.{Kind}
 use Rattle.r10_body.specs.declared.message.Kind.TheVariants as kinds
 use Rattle.r10_body.specs.declared.message.Message.{Message}
 use Rattle.r10_body.specs.declared.message.Message.TheVariants as messages
-use Rattle.r10_body.specs.declared.message.Message.TheVariants.{Uart, Time}
+use Rattle.r10_body.specs.declared.message.Message.TheVariants.{Time}
 use Rattle.r10_body.specs.declared.refusal.Refusal.TheVariants.{WrongKind, BadMessage, TooLong}
 use Rattle.r10_body.specs.declared.spec.ChannelSpec.{ChannelSpec}
 
@@ -37,7 +37,7 @@ abbrev pub a_time_packet : Packet
 a_time_packet = record { channel = 1; sequence = 0; gap = Whole; check = 0; counter = 1000; content = time leap_day }
 
 abbrev pub two_messages : List UartEntry
-two_messages = record { count = 1000; parity = false; sub = 0; bytes = 0x41 ∷ 0x42 ∷ 0x43 ∷ [] } ∷ record { count = 1010; parity = false; sub = 0; bytes = [] } ∷ []
+two_messages = record { count = 1000; message = record { parity = false; sub = 0; bytes = 0x41 ∷ 0x42 ∷ 0x43 ∷ [] } } ∷ record { count = 1010; message = record { parity = false; sub = 0; bytes = [] } } ∷ []
 
 abbrev pub uart_packet : Packet
 uart_packet = record { channel = 5; sequence = 0; gap = Whole; check = 0; counter = 1000; content = uart two_messages }
@@ -88,11 +88,11 @@ uart-32-bytes = refl
 -- ---- packets of the other kinds
 
 -- on bus B, a command and a data word at 2000
-abbrev pub bus_message : Message
-bus_message = messages.Bus1553 0x2000 0 (0x0821 ∷ 0xABCD ∷ [])
+abbrev pub a_bus_message : Message
+a_bus_message = bus_message 0x2000 0 (0x0821 ∷ 0xABCD ∷ [])
 
 abbrev pub bus_packet : Packet
-bus_packet = record { channel = 7; sequence = 0; gap = Whole; check = 0; counter = 2000; content = content_of 0 2000 bus_message }
+bus_packet = record { channel = 7; sequence = 0; gap = Whole; check = 0; counter = 2000; content = content_of 0 2000 a_bus_message }
 
 pub bus-bytes : packet_bytes bus_packet ≡
     (0x25 ∷ 0xEB ∷ 0x07 ∷ 0x00 ∷ 0x30 ∷ 0x00 ∷ 0x00 ∷ 0x00 ∷ 0x16 ∷ 0x00 ∷ 0x00 ∷ 0x00 ∷ 0x08 ∷ 0x00 ∷ 0x00 ∷ 0x19 ∷ 0xD0 ∷ 0x07 ∷ 0x00 ∷ 0x00 ∷ 0x00 ∷ 0x00 ∷ 0x4A ∷ 0x0C ∷ [])
@@ -104,7 +104,7 @@ bus-bytes = refl
 
 -- three words of the high speed bus 1, at 5000, 5100 and 5300
 abbrev pub arinc_word : ℕ → ArincEntry
-arinc_word count = record { count = count; bus = 1; format = false; parity = false; high = true; word = 0x12345678 }
+arinc_word count = record { count = count; message = record { bus = 1; format = false; parity = false; high = true; word = 0x12345678 } }
 
 pub arinc-body : body_of 5000 (arinc (arinc_word 5000 ∷ arinc_word 5100 ∷ arinc_word 5300 ∷ [])) ≡
     (0x03 ∷ 0x00 ∷ 0x00 ∷ 0x00 ∷ [])
@@ -114,7 +114,7 @@ pub arinc-body : body_of 5000 (arinc (arinc_word 5000 ∷ arinc_word 5100 ∷ ar
 arinc-body = refl
 
 -- the first and the last of eight discretes at 3000
-pub discrete-body : body_of 3000 (content_of 8 3000 (messages.Discrete 0x81)) ≡
+pub discrete-body : body_of 3000 (content_of 8 3000 (discrete_message 0x81)) ≡
     0x40 ∷ 0x00 ∷ 0x00 ∷ 0x00 ∷ 0xB8 ∷ 0x0B ∷ 0x00 ∷ 0x00 ∷ 0x00 ∷ 0x00 ∷ 0x00 ∷ 0x00 ∷ 0x81 ∷ 0x00 ∷ 0x00 ∷ 0x00 ∷ []
 discrete-body = refl
 
@@ -124,71 +124,71 @@ pub event-body : body_of 1000 (content_of 0 1000 (messages.Event 3 1)) ≡
 event-body = refl
 
 -- ABC with a data error on subchannel 1 of a message channel
-pub message-body : body_of 1000 (content_of 0 1000 (messages.Message true false 1 (0x41 ∷ 0x42 ∷ 0x43 ∷ []))) ≡
+pub message-body : body_of 1000 (content_of 0 1000 (data_message true false 1 (0x41 ∷ 0x42 ∷ 0x43 ∷ []))) ≡
     0x01 ∷ 0x00 ∷ 0x00 ∷ 0x00 ∷ 0xE8 ∷ 0x03 ∷ 0x00 ∷ 0x00 ∷ 0x00 ∷ 0x00 ∷ 0x00 ∷ 0x00 ∷ 0x03 ∷ 0x00 ∷ 0x01 ∷ 0x80 ∷ 0x41 ∷ 0x42 ∷ 0x43 ∷ 0x00 ∷ []
 message-body = refl
 
 -- a message of each kind, in the order of the kinds, then a time and an event
 abbrev pub one_of_each : List Message
 one_of_each =
-    Uart false 7 (0x41 ∷ 0x42 ∷ 0x43 ∷ []) ∷ bus_message ∷ messages.Arinc 1 false false true 0x12345678 ∷ messages.Discrete 0x81
-    ∷ messages.Message true false 1 (0x41 ∷ []) ∷ Time leap_day ∷ messages.Event 3 1 ∷ []
+    uart_message false 7 (0x41 ∷ 0x42 ∷ 0x43 ∷ []) ∷ a_bus_message ∷ arinc_message 1 false false true 0x12345678 ∷ discrete_message 0x81
+    ∷ data_message true false 1 (0x41 ∷ []) ∷ Time leap_day ∷ messages.Event 3 1 ∷ []
 
 -- ---- what channels take
 
 abbrev pub channel_of : Kind → ℕ → ChannelSpec
 channel_of kind bits = record { id = 7; kind = kind; capacity = 2; check = 0; bytes = 524288; number = 65535; bits = bits }
 
-pub bus-taken : channel_refusal (channel_of kinds.Bus1553 0) bus_message ≡ None
+pub bus-taken : channel_refusal (channel_of kinds.Bus1553 0) a_bus_message ≡ None
 bus-taken = refl
 
-pub bus-longest : channel_refusal (channel_of kinds.Bus1553 0) (messages.Bus1553 0x3E38 0 (replicate 36 0)) ≡ None
+pub bus-longest : channel_refusal (channel_of kinds.Bus1553 0) (bus_message 0x3E38 0 (replicate 36 0)) ≡ None
 bus-longest = refl
 
 -- 37 words, and a bit of the block status that has no name; the status is judged first
-pub bus-too-long : channel_refusal (channel_of kinds.Bus1553 0) (messages.Bus1553 0 0 (replicate 37 0)) ≡ Some TooLong
+pub bus-too-long : channel_refusal (channel_of kinds.Bus1553 0) (bus_message 0 0 (replicate 37 0)) ≡ Some TooLong
 bus-too-long = refl
 
-pub bus-bad-status : channel_refusal (channel_of kinds.Bus1553 0) (messages.Bus1553 0x4000 0 (replicate 37 0)) ≡ Some BadMessage
+pub bus-bad-status : channel_refusal (channel_of kinds.Bus1553 0) (bus_message 0x4000 0 (replicate 37 0)) ≡ Some BadMessage
 bus-bad-status = refl
 
 -- each bit that has no name
-pub bus-unnamed : map (λ bit. is_in_range 0 (messages.Bus1553 (2 ^ bit) 0 [])) (0 ∷ 1 ∷ 2 ∷ 6 ∷ 7 ∷ 8 ∷ 14 ∷ 15 ∷ []) ≡ replicate 8 false
+pub bus-unnamed : map (λ bit. is_in_range 0 (bus_message (2 ^ bit) 0 [])) (0 ∷ 1 ∷ 2 ∷ 6 ∷ 7 ∷ 8 ∷ 14 ∷ 15 ∷ []) ≡ replicate 8 false
 bus-unnamed = refl
 
 -- another kind's message, whatever is wrong with it besides
-pub bus-on-uart : channel_refusal (channel_of kinds.Uart 0) (messages.Bus1553 0x4000 0 (replicate 37 0)) ≡ Some WrongKind
+pub bus-on-uart : channel_refusal (channel_of kinds.Uart 0) (bus_message 0x4000 0 (replicate 37 0)) ≡ Some WrongKind
 bus-on-uart = refl
 
 pub event-on-message : channel_refusal (channel_of kinds.Message 0) (messages.Event 3 0) ≡ Some WrongKind
 event-on-message = refl
 
 -- the eighth of eight discretes, and a ninth
-pub last-state : channel_refusal (channel_of kinds.Discrete 8) (messages.Discrete 0x80) ≡ None
+pub last-state : channel_refusal (channel_of kinds.Discrete 8) (discrete_message 0x80) ≡ None
 last-state = refl
 
-pub state-beyond : channel_refusal (channel_of kinds.Discrete 8) (messages.Discrete 0x100) ≡ Some BadMessage
+pub state-beyond : channel_refusal (channel_of kinds.Discrete 8) (discrete_message 0x100) ≡ Some BadMessage
 state-beyond = refl
 
-pub discrete-ranges : map (λ (one : ℕ × ℕ). is_in_range one.0 (messages.Discrete one.1)) ((1, 1) ∷ (1, 2) ∷ (31, 0x7FFFFFFF) ∷ (31, 0x80000000) ∷ (32, 0) ∷ []) ≡ true ∷ false ∷ true ∷ false ∷ false ∷ []
+pub discrete-ranges : map (λ (one : ℕ × ℕ). is_in_range one.0 (discrete_message one.1)) ((1, 1) ∷ (1, 2) ∷ (31, 0x7FFFFFFF) ∷ (31, 0x80000000) ∷ (32, 0) ∷ []) ≡ true ∷ false ∷ true ∷ false ∷ false ∷ []
 discrete-ranges = refl
 
-pub no-discretes : channel_refusal (channel_of kinds.Discrete 0) (messages.Discrete 0) ≡ Some BadMessage
+pub no-discretes : channel_refusal (channel_of kinds.Discrete 0) (discrete_message 0) ≡ Some BadMessage
 no-discretes = refl
 
-pub arinc-taken : channel_refusal (channel_of kinds.Arinc 0) (messages.Arinc 255 true true true 0xFFFFFFFF) ≡ None
+pub arinc-taken : channel_refusal (channel_of kinds.Arinc 0) (arinc_message 255 true true true 0xFFFFFFFF) ≡ None
 arinc-taken = refl
 
-pub message-taken : channel_refusal (channel_of kinds.Message 0) (messages.Message true true 16383 []) ≡ None
+pub message-taken : channel_refusal (channel_of kinds.Message 0) (data_message true true 16383 []) ≡ None
 message-taken = refl
 
-pub message-sub-too-large : channel_refusal (channel_of kinds.Message 0) (messages.Message false false 16384 []) ≡ Some BadMessage
+pub message-sub-too-large : channel_refusal (channel_of kinds.Message 0) (data_message false false 16384 []) ≡ Some BadMessage
 message-sub-too-large = refl
 
-pub uart-taken : channel_refusal (channel_of kinds.Uart 0) (Uart false 16383 []) ≡ None
+pub uart-taken : channel_refusal (channel_of kinds.Uart 0) (uart_message false 16383 []) ≡ None
 uart-taken = refl
 
-pub uart-sub-too-large : channel_refusal (channel_of kinds.Uart 0) (Uart false 16384 []) ≡ Some BadMessage
+pub uart-sub-too-large : channel_refusal (channel_of kinds.Uart 0) (uart_message false 16384 []) ≡ Some BadMessage
 uart-sub-too-large = refl
 
 -- each kind takes its own message alone, and none a time or an event
@@ -205,7 +205,7 @@ pub data-types : map message_type one_of_each ≡ 0x50 ∷ 0x19 ∷ 0x38 ∷ 0x2
 data-types = refl
 
 -- 88 bytes are as long as 128 bytes for a packet allow, 86 with a data checksum of 8 or 16 bits, and 84 with one of 32
-pub longest : map (λ (one : ℕ × ℕ). nat_le (alone_len one.0 (Uart false 0 (replicate one.1 0))) 128)
+pub longest : map (λ (one : ℕ × ℕ). nat_le (alone_len one.0 (uart_message false 0 (replicate one.1 0))) 128)
     ((0, 88) ∷ (0, 89) ∷ (8, 86) ∷ (8, 87) ∷ (16, 86) ∷ (16, 87) ∷ (32, 84) ∷ (32, 85) ∷ []) ≡ true ∷ false ∷ true ∷ false ∷ true ∷ false ∷ true ∷ false ∷ []
 longest = refl
 
@@ -256,7 +256,7 @@ pub node-counts : map (λ k. length (take 100 (drop (100 * k) (node_entries 0 (a
 node-counts = refl
 
 abbrev pub entry : ℕ → ℕ → List ℕ → Entry
-entry channel count bytes = record { channel = channel; count = count; message = Uart false 0 bytes; gap = Whole }
+entry channel count bytes = record { channel = channel; count = count; message = uart_message false 0 bytes; gap = Whole }
 
 abbrev pub a_time_entry : Entry
 a_time_entry = record { channel = 1; count = 1000; message = Time leap_day; gap = Whole }
@@ -270,7 +270,7 @@ recording-entries = refl
 
 -- only the first entry of a flagged packet has a gap
 pub flagged-entries : file_entries (record uart_packet { gap = Lost 3 } ∷ []) ≡
-    record { channel = 5; count = 1000; message = Uart false 0 (0x41 ∷ 0x42 ∷ 0x43 ∷ []); gap = Lost 3 } ∷ entry 5 1010 [] ∷ []
+    record { channel = 5; count = 1000; message = uart_message false 0 (0x41 ∷ 0x42 ∷ 0x43 ∷ []); gap = Lost 3 } ∷ entry 5 1010 [] ∷ []
 flagged-entries = refl
 
 -- ---- costs
@@ -288,11 +288,11 @@ pub free : file_cost (replicate 4 0) (a_time_entry ∷ []) + 30964 ≡ 61 * 512
 free = refl
 
 -- a message of 3 bytes makes a packet of 44 bytes, and of 48 with a data checksum
-pub alone : alone_len 0 (Uart false 0 (0x41 ∷ 0x42 ∷ 0x43 ∷ [])) ≡ length (packet_bytes (record uart_packet { content = uart (take 1 two_messages) }))
+pub alone : alone_len 0 (uart_message false 0 (0x41 ∷ 0x42 ∷ 0x43 ∷ [])) ≡ length (packet_bytes (record uart_packet { content = uart (take 1 two_messages) }))
 unfolding packet_bytes header_bytes
 alone = refl
 
-pub alone-8 : alone_len 8 (Uart false 0 (0x41 ∷ 0x42 ∷ 0x43 ∷ [])) ≡ length (packet_bytes (record uart_packet { check = 1; content = uart (take 1 two_messages) }))
+pub alone-8 : alone_len 8 (uart_message false 0 (0x41 ∷ 0x42 ∷ 0x43 ∷ [])) ≡ length (packet_bytes (record uart_packet { check = 1; content = uart (take 1 two_messages) }))
 unfolding packet_bytes header_bytes
 alone-8 = refl
 
@@ -300,19 +300,19 @@ alone-8 = refl
 pub kinds-costs : map message_cost one_of_each ≡ 15 ∷ 18 ∷ 8 ∷ 12 ∷ 13 ∷ 8 ∷ 12 ∷ []
 kinds-costs = refl
 
-pub bus-alone : alone_len 0 bus_message ≡ length (packet_bytes bus_packet)
+pub bus-alone : alone_len 0 a_bus_message ≡ length (packet_bytes bus_packet)
 unfolding packet_bytes header_bytes
 bus-alone = refl
 
-pub arinc-alone : alone_len 0 (messages.Arinc 1 false false true 0) ≡ length (packet_bytes (record bus_packet { content = arinc (arinc_word 2000 ∷ []) }))
+pub arinc-alone : alone_len 0 (arinc_message 1 false false true 0) ≡ length (packet_bytes (record bus_packet { content = arinc (arinc_word 2000 ∷ []) }))
 unfolding packet_bytes header_bytes
 arinc-alone = refl
 
-pub discrete-alone : alone_len 0 (messages.Discrete 0x81) ≡ length (packet_bytes (record bus_packet { content = content_of 8 2000 (messages.Discrete 0x81) }))
+pub discrete-alone : alone_len 0 (discrete_message 0x81) ≡ length (packet_bytes (record bus_packet { content = content_of 8 2000 (discrete_message 0x81) }))
 unfolding packet_bytes header_bytes
 discrete-alone = refl
 
-pub message-alone : alone_len 0 (messages.Message true false 1 (0x41 ∷ [])) ≡ length (packet_bytes (record bus_packet { content = content_of 0 2000 (messages.Message true false 1 (0x41 ∷ [])) }))
+pub message-alone : alone_len 0 (data_message true false 1 (0x41 ∷ [])) ≡ length (packet_bytes (record bus_packet { content = content_of 0 2000 (data_message true false 1 (0x41 ∷ [])) }))
 unfolding packet_bytes header_bytes
 message-alone = refl
 
@@ -388,5 +388,5 @@ pub type-0 : is_opaque_packet (record { channel = 9; packet_len = 28; data_len =
 type-0 = refl
 
 -- an entry after a loss of three messages: the report costs 68
-pub lost-cost : map entry_cost (record { channel = 5; count = 1004; message = Uart false 0 (0x44 ∷ []); gap = Lost 3 } ∷ entry 5 1004 (0x44 ∷ []) ∷ []) ≡ 185 ∷ 117 ∷ []
+pub lost-cost : map entry_cost (record { channel = 5; count = 1004; message = uart_message false 0 (0x44 ∷ []); gap = Lost 3 } ∷ entry 5 1004 (0x44 ∷ []) ∷ []) ≡ 185 ∷ 117 ∷ []
 lost-cost = refl

@@ -53,11 +53,7 @@ impl ChannelEntry for UartEntry {
     fn into_timed(self) -> Timed {
         Timed {
             count: self.count,
-            message: Message::Uart {
-                parity: self.parity,
-                sub: self.sub,
-                bytes: self.bytes,
-            },
+            message: Message::Uart(self.message),
         }
     }
 }
@@ -82,11 +78,7 @@ impl ChannelEntry for BusEntry {
     fn into_timed(self) -> Timed {
         Timed {
             count: self.count,
-            message: Message::Bus1553 {
-                status: self.status,
-                gap: self.gap,
-                words: self.words,
-            },
+            message: Message::Bus1553(self.message),
         }
     }
 }
@@ -110,13 +102,7 @@ impl ChannelEntry for ArincEntry {
     fn into_timed(self) -> Timed {
         Timed {
             count: self.count,
-            message: Message::Arinc {
-                bus: self.bus,
-                format: self.format,
-                parity: self.parity,
-                high: self.high,
-                word: self.word,
-            },
+            message: Message::Arinc(self.message),
         }
     }
 }
@@ -140,9 +126,7 @@ impl ChannelEntry for DiscreteEntry {
     fn into_timed(self) -> Timed {
         Timed {
             count: self.count,
-            message: Message::Discrete {
-                states: self.states,
-            },
+            message: Message::Discrete(self.message),
         }
     }
 }
@@ -167,12 +151,7 @@ impl ChannelEntry for MessageEntry {
     fn into_timed(self) -> Timed {
         Timed {
             count: self.count,
-            message: Message::Message {
-                data_error: self.data_error,
-                format: self.format,
-                sub: self.sub,
-                bytes: self.bytes,
-            },
+            message: Message::Message(self.message),
         }
     }
 }

@@ -5,6 +5,8 @@ ghost use Rattle.r10_body.specs.Cost.{lost_cost, message_cost};
 
 use crate::gap::Gap;
 use crate::message::Message;
+use r10_message::DataMessage;
+use r10_uart::UartMessage;
 
 /// What every entry costs in bytes, whatever its message: a packet of its own has no more besides
 /// the message, and no more for its part of the index.
@@ -22,9 +24,8 @@ pub fn cost(message: &Message, gap: Gap) -> u64
     ensures { result ≡ message_cost message.now + lost_cost gap }
 {
     let own = match message {
-        Message::Uart { bytes, .. } | Message::Message { bytes, .. } => {
-            12 + bytes.as_slice().len() as u64
-        }
+        Message::Uart(UartMessage { bytes, .. }) | Message::Message(DataMessage { bytes, .. }) => 12
+            + bytes.as_slice().len() as u64,
         _ => of_any(message),
     };
     let lost = match gap {
@@ -41,12 +42,12 @@ fn of_any(message: &Message) -> u64
     ensures small { result < 2 ^ 63 + 2 ^ 20 }
 {
     match message {
-        Message::Uart { bytes, .. } | Message::Message { bytes, .. } => {
+        Message::Uart(UartMessage { bytes, .. }) | Message::Message(DataMessage { bytes, .. }) => {
             let bytes = bytes.as_slice();
             12 + bytes.len() as u64
         }
-        Message::Bus1553 { words, .. } => 14 + 2 * words.as_slice().len() as u64,
-        Message::Discrete { .. } | Message::Event { .. } => 12,
-        Message::Arinc { .. } | Message::Time { .. } => 8,
+        Message::Bus1553(message) => 14 + 2 * message.words.as_slice().len() as u64,
+        Message::Discrete(_) | Message::Event { .. } => 12,
+        Message::Arinc(_) | Message::Time { .. } => 8,
     }
 }

@@ -36,66 +36,11 @@ fn is_same_message(one: &Message, other: &Message) -> bool
     ensures { IsTrue result ↔ (one.now ≡ other.now) }
 {
     match (one, other) {
-        (
-            Message::Uart { parity, sub, bytes },
-            Message::Uart {
-                parity: parity_too,
-                sub: sub_too,
-                bytes: bytes_too,
-            },
-        ) => parity == parity_too && sub == sub_too && bytes.as_slice() == bytes_too.as_slice(),
-        (
-            Message::Bus1553 { status, gap, words },
-            Message::Bus1553 {
-                status: status_too,
-                gap: gap_too,
-                words: words_too,
-            },
-        ) => status == status_too && gap == gap_too && words.as_slice() == words_too.as_slice(),
-        (
-            Message::Arinc {
-                bus,
-                format,
-                parity,
-                high,
-                word,
-            },
-            Message::Arinc {
-                bus: bus_too,
-                format: format_too,
-                parity: parity_too,
-                high: high_too,
-                word: word_too,
-            },
-        ) => {
-            bus == bus_too
-                && format == format_too
-                && parity == parity_too
-                && high == high_too
-                && word == word_too
-        }
-        (Message::Discrete { states }, Message::Discrete { states: states_too }) => {
-            states == states_too
-        }
-        (
-            Message::Message {
-                data_error,
-                format,
-                sub,
-                bytes,
-            },
-            Message::Message {
-                data_error: data_error_too,
-                format: format_too,
-                sub: sub_too,
-                bytes: bytes_too,
-            },
-        ) => {
-            data_error == data_error_too
-                && format == format_too
-                && sub == sub_too
-                && bytes.as_slice() == bytes_too.as_slice()
-        }
+        (Message::Uart(one), Message::Uart(other)) => one.is_same(other),
+        (Message::Bus1553(one), Message::Bus1553(other)) => one.is_same(other),
+        (Message::Arinc(one), Message::Arinc(other)) => one.is_same(other),
+        (Message::Discrete(one), Message::Discrete(other)) => one.is_same(other),
+        (Message::Message(one), Message::Message(other)) => one.is_same(other),
         (Message::Time { civil }, Message::Time { civil: civil_too }) => *civil == *civil_too,
         (
             Message::Event { number, count },

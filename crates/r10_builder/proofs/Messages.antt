@@ -6,11 +6,11 @@ use Rattle.std.proofs.lemmas.Bool.{and_parts, leb-true, le-leb, false≢true}
 use Rattle.std.proofs.lemmas.List.Sums.{sum_by-cons}
 use Rattle.r10_count.proofs.Rules.{none_broken}
 use Rattle.r10_uart.specs.Entry.{uart_entry-size}
-use Rattle.r10_uart.specs.Uart.{uart_of}
+use Rattle.r10_uart.specs.Uart.{uart_at}
 use Rattle.r10_b1553.specs.Entry.{bus_entry-size}
-use Rattle.r10_b1553.specs.Bus.{bus_of}
+use Rattle.r10_b1553.specs.Bus.{bus_at}
 use Rattle.r10_message.specs.Entry.{message_entry-size}
-use Rattle.r10_message.specs.Message.{message_of}
+use Rattle.r10_message.specs.Message.{message_at}
 use Rattle.r10_body.specs.Messages.{alone_len, channel_refusal, fits_channel, is_in_range, is_kind, is_short, spelling_len}
 use Rattle.r10_body.specs.declared.entry.Sample.{Sample}
 use Rattle.r10_body.specs.declared.message.Kind.{Kind}
@@ -38,11 +38,11 @@ taken spec m none =
 -- ---- lengths
 
 message_length : (kind : Kind) (before count : ℕ) (m : Message) → is_kind kind m ≡ true → length (message_bytes before count m) ≡ spelling_len m
-message_length kinds.Uart before count (messages.Uart parity sub bytes) is = uart_entry-size (uart_of count parity sub bytes)
-message_length kinds.Bus1553 before count (messages.Bus1553 status gap words) is = bus_entry-size (bus_of count status gap words)
-message_length kinds.Arinc before count (messages.Arinc bus format parity high word) is = refl
-message_length kinds.Discrete before count (messages.Discrete states) is = refl
-message_length kinds.Message before count (messages.Message data_error format sub bytes) is = message_entry-size (message_of count data_error format sub bytes)
+message_length kinds.Uart before count (messages.Uart m) is = uart_entry-size (uart_at count m)
+message_length kinds.Bus1553 before count (messages.Bus1553 m) is = bus_entry-size (bus_at count m)
+message_length kinds.Arinc before count (messages.Arinc m) is = refl
+message_length kinds.Discrete before count (messages.Discrete m) is = refl
+message_length kinds.Message before count (messages.Message m) is = message_entry-size (message_at count m)
 message_length kind before count m is = absurd (false≢true is)
 
 pub sample_length : (kind : Kind) (before : ℕ) (s : Sample) → is_kind kind s.message ≡ true → length (sample_bytes before s) ≡ spelling_len s.message
@@ -64,8 +64,8 @@ all_length spec before (s ∷ samples) all =
 -- ---- ranges
 
 pub reaches : (kind : Kind) (before count : ℕ) (m : Message) → is_kind kind m ≡ true → before ≤ count → is_near kind before count ≡ true → Reaches before count m
-reaches kinds.Arinc before count (messages.Arinc bus format parity high word) is le near = (le, leb-true count (before + tenth) near)
-reaches kind before count (messages.Arinc bus format parity high word) is le near = absurd (false≢true is)
+reaches kinds.Arinc before count (messages.Arinc m) is le near = (le, leb-true count (before + tenth) near)
+reaches kind before count (messages.Arinc m) is le near = absurd (false≢true is)
 reaches kind before count m is le near = tt
 
 -- a sample is near itself

@@ -4,11 +4,11 @@ use Rattle.r10_packet.specs.Header.{header_bytes}
 use Rattle.r10_body.specs.Content.{uart, report}
 use Rattle.r10_body.specs.Packets.{Packet, packet_bytes}
 use Rattle.r10_body.specs.Vectors.{channel_of, a_setup_packet, a_time_packet}
+use Rattle.r10_body.specs.Messages.{uart_message}
 use Rattle.r10_body.specs.declared.entry.Entry.{Entry}
 use Rattle.r10_body.specs.declared.gap.Gap.{Gap}
 use Rattle.r10_body.specs.declared.gap.Gap.TheVariants.{Whole, Lost}
 use Rattle.r10_body.specs.declared.message.Kind.TheVariants as kinds
-use Rattle.r10_body.specs.declared.message.Message.TheVariants.{Uart}
 use Rattle.r10_builder.specs.State.{BuilderState}
 use Rattle.r10_uart.specs.declared.entry.UartEntry.{UartEntry}
 use Rattle.r10_builder.specs.Grows.{taken_in}
@@ -16,7 +16,7 @@ use Rattle.r10_builder.specs.Next.{grown_by}
 use Rattle.r10_body.specs.Sequence.{numbered}
 
 abbrev letter : ℕ → ℕ → UartEntry
-letter count byte = record { count = count; parity = false; sub = 0; bytes = byte ∷ [] }
+letter count byte = record { count = count; message = record { parity = false; sub = 0; bytes = byte ∷ [] } }
 
 abbrev letters : Gap → ℕ → List UartEntry → Packet
 letters gap counter es = record { channel = 5; sequence = 0; gap = gap; check = 0; counter = counter; content = uart es }
@@ -53,13 +53,13 @@ behind-the-loss = refl
 
 -- while D is open in its builder, and when it is written
 abbrev said : ℕ → ℕ → Gap → Entry
-said count byte gap = record { channel = 5; count = count; message = Uart false 0 (byte ∷ []); gap = gap }
+said count byte gap = record { channel = 5; count = count; message = uart_message false 0 (byte ∷ []); gap = gap }
 
 abbrev all_three : List Entry
 all_three = said 1001 0x42 Whole ∷ said 1003 0x44 (Lost 1) ∷ []
 
 abbrev open_d : BuilderState
-open_d = record { spec = record (channel_of kinds.Uart 0) { id = 5 }; samples = record { count = 1003; message = Uart false 0 (0x44 ∷ []); gap = Lost 1 } ∷ []; room = 0; next_room = 0 }
+open_d = record { spec = record (channel_of kinds.Uart 0) { id = 5 }; samples = record { count = 1003; message = uart_message false 0 (0x44 ∷ []); gap = Lost 1 } ∷ []; room = 0; next_room = 0 }
 
 abbrev none_open : BuilderState
 none_open = record open_d { samples = [] }

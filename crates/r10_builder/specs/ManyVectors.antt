@@ -1,10 +1,10 @@
 -- Channels and their builders, written out.
 use Rattle.std.specs.Prelude.{◌≡◌, ℕ, true, false, List, [], ◌∷◌, find, map, None, Some, refl}
 use Rattle.r10_body.specs.Vectors.{channel_of}
+use Rattle.r10_body.specs.Messages.{uart_message}
 use Rattle.r10_body.specs.declared.entry.Sample.{Sample}
 use Rattle.r10_body.specs.declared.gap.Gap.TheVariants.{Whole}
 use Rattle.r10_body.specs.declared.message.Kind.TheVariants as kinds
-use Rattle.r10_body.specs.declared.message.Message.TheVariants.{Uart}
 use Rattle.r10_body.specs.declared.spec.ChannelSpec.{ChannelSpec}
 use Rattle.r10_builder.specs.State.{BuilderState}
 use Rattle.r10_builder.specs.Grows.{is_open_builder}
@@ -16,7 +16,7 @@ abbrev line : ℕ → ChannelSpec
 line id = record (channel_of kinds.Uart 0) { id = id }
 
 abbrev text_at : ℕ → Sample
-text_at count = record { count = count; message = Uart false 0 (0x41 ∷ []); gap = Whole }
+text_at count = record { count = count; message = uart_message false 0 (0x41 ∷ []); gap = Whole }
 
 abbrev holding : ℕ → List Sample → BuilderState
 holding id samples = record { spec = line id; samples = samples; room = 0; next_room = 0 }

@@ -5,13 +5,13 @@ use Rattle.r10_count.specs.Bytes.{flag_at, le_bytes}
 use Rattle.r10_count.specs.Count.{IsCount}
 use Rattle.r10_packet.specs.Header.{check_bits_of, check_of_bits, flags_of}
 use Rattle.r10_packet.specs.declared.header.Header.{Header}
-use Rattle.r10_uart.specs.Uart.{uart_entry, uart_of}
-use Rattle.r10_b1553.specs.Bus.{bus_entry, bus_of}
-use Rattle.r10_a429.specs.Arinc.{arinc_entry}
+use Rattle.r10_uart.specs.Uart.{uart_at, uart_entry}
+use Rattle.r10_b1553.specs.Bus.{bus_at, bus_entry}
+use Rattle.r10_a429.specs.Arinc.{arinc_at, arinc_entry}
 use Rattle.r10_a429.specs.declared.entry.ArincEntry.{ArincEntry}
-use Rattle.r10_discrete.specs.Discrete.{discrete_entry}
+use Rattle.r10_discrete.specs.Discrete.{discrete_at, discrete_entry}
 use Rattle.r10_discrete.specs.declared.entry.DiscreteEntry.{DiscreteEntry}
-use Rattle.r10_message.specs.Message.{message_entry, message_of}
+use Rattle.r10_message.specs.Message.{message_at, message_entry}
 use Rattle.r10_body.specs.Gaps.{is_gap}
 use Rattle.r10_body.specs.Messages.{is_in_range, is_short, kind_type}
 use Rattle.r10_body.specs.declared.entry.Sample.{Sample}
@@ -26,18 +26,18 @@ use Rattle.r10_builder.specs.declared.open_packet.OpenPacket.{OpenPacket}
 -- ---- bytes
 
 abbrev pub arinc_of : ℕ → ℕ → Bool → Bool → Bool → ℕ → ArincEntry
-arinc_of count bus format parity high word = record { count = count; bus = bus; format = format; parity = parity; high = high; word = word }
+arinc_of count bus format parity high word = record { count = count; message = record { bus = bus; format = format; parity = parity; high = high; word = word } }
 
 abbrev pub discrete_of : ℕ → ℕ → DiscreteEntry
-discrete_of count states = record { count = count; states = states }
+discrete_of count states = record { count = count; message = record { states = states } }
 
 -- a message at a count, after one at another; times and events are on no channel
 abbrev pub message_bytes : ℕ → ℕ → Message → List ℕ
-message_bytes before count (messages.Uart parity sub bytes) = uart_entry (uart_of count parity sub bytes)
-message_bytes before count (messages.Bus1553 status gap words) = bus_entry (bus_of count status gap words)
-message_bytes before count (messages.Arinc bus format parity high word) = arinc_entry (count - before) (arinc_of count bus format parity high word)
-message_bytes before count (messages.Discrete states) = discrete_entry (discrete_of count states)
-message_bytes before count (messages.Message data_error format sub bytes) = message_entry (message_of count data_error format sub bytes)
+message_bytes before count (messages.Uart m) = uart_entry (uart_at count m)
+message_bytes before count (messages.Bus1553 m) = bus_entry (bus_at count m)
+message_bytes before count (messages.Arinc m) = arinc_entry (count - before) (arinc_at count m)
+message_bytes before count (messages.Discrete m) = discrete_entry (discrete_at count m)
+message_bytes before count (messages.Message m) = message_entry (message_at count m)
 message_bytes before count m = []
 
 unfoldable pub sample_bytes : ℕ → Sample → List ℕ
@@ -45,7 +45,7 @@ sample_bytes before s = message_bytes before s.count s.message
 
 -- a word of an ARINC bus tells its distance from the one before
 abbrev pub Reaches : ℕ → ℕ → Message → Type 0
-Reaches before count (messages.Arinc bus format parity high word) = (before ≤ count) × (count ≤ before + tenth)
+Reaches before count (messages.Arinc m) = (before ≤ count) × (count ≤ before + tenth)
 Reaches before count m = Unit {0}
 
 -- the fields of a message are in their ranges, on a channel of so many discretes and after one at a count
@@ -56,8 +56,8 @@ pub record Fits (bits before : ℕ) (s : Sample) : Type 0 where
 
 -- what the types of the fields say
 abbrev pub HasTypes : Message → Type 0
-HasTypes (messages.Bus1553 status gap words) = (gap < 2 ^ 16) × AllByRecursion (λ w. w < 2 ^ 16) words
-HasTypes (messages.Arinc bus format parity high word) = (bus < 2 ^ 8) × (word < 2 ^ 32)
+HasTypes (messages.Bus1553 m) = (m.gap < 2 ^ 16) × AllByRecursion (λ w. w < 2 ^ 16) m.words
+HasTypes (messages.Arinc m) = (m.bus < 2 ^ 8) × (m.word < 2 ^ 32)
 HasTypes m = Unit {0}
 
 pub record Typed (s : Sample) : Type 0 where

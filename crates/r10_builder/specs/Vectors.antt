@@ -1,12 +1,12 @@
 -- When packets are closed, written out.
 use Rattle.std.specs.Prelude.{◌+◌, ◌++◌, length, ◌≡◌, ℕ, true, false, List, [], ◌∷◌, Some, None, replicate, refl}
 use Rattle.std.proofs.Common.{arith, lit≤}
+use Rattle.r10_body.specs.Messages.{arinc_message, bus_message, data_message, discrete_message, uart_message}
 use Rattle.r10_body.specs.declared.entry.Sample.{Sample}
 use Rattle.r10_body.specs.declared.gap.Gap.TheVariants.{Whole, Lost, Unknown}
 use Rattle.r10_body.specs.declared.message.Kind.{Kind}
 use Rattle.r10_body.specs.declared.message.Kind.TheVariants as kinds
 use Rattle.r10_body.specs.declared.message.Message.{Message as MessageValue}
-use Rattle.r10_body.specs.declared.message.Message.TheVariants.{Arinc, Bus1553, Discrete, Message, Uart}
 use Rattle.r10_body.specs.declared.spec.ChannelSpec.{ChannelSpec}
 use Rattle.r10_builder.specs.Packing.{IsYoung, first_count, last_sample_count, packet_len, reason}
 use Rattle.r10_builder.specs.Read.{sample_at, samples_in}
@@ -17,7 +17,7 @@ abbrev pub uart_channel : ℕ → ℕ → ℕ → ChannelSpec
 uart_channel check bytes number = record { id = 5; kind = kinds.Uart; capacity = 2; check = check; bytes = bytes; number = number; bits = 0 }
 
 abbrev pub text_sample : ℕ → List ℕ → Sample
-text_sample count bytes = record { count = count; message = Uart false 0 bytes; gap = Whole }
+text_sample count bytes = record { count = count; message = uart_message false 0 bytes; gap = Whole }
 
 -- the third is more than a tenth of a second after the first
 pub soon-enough : reason (uart_channel 0 524288 65535) (text_sample 0 [] ∷ []) (text_sample 1000000 []) ≡ None
@@ -86,7 +86,7 @@ arinc_channel = record { id = 8; kind = kinds.Arinc; capacity = 2; check = 0; by
 
 -- a word of the high speed bus 1
 abbrev pub word_sample : ℕ → Sample
-word_sample count = record { count = count; message = Arinc 1 false false true 0x12345678; gap = Whole }
+word_sample count = record { count = count; message = arinc_message 1 false false true 0x12345678; gap = Whole }
 
 pub near-enough : reason arinc_channel (word_sample 5000 ∷ []) (word_sample 1005000) ≡ None
 near-enough = refl
@@ -134,18 +134,18 @@ two_of count m n = record { count = count; message = m; gap = Lost 2 } ∷ recor
 abbrev pub IsReadBack : Kind → List Sample → Type 0
 IsReadBack kind samples = samples_in kind (Some (record { first = first_count samples; last = last_sample_count 0 samples; number = length samples; gap = Lost 2 })) (open_body samples) ≡ samples
 
-pub two-texts-read : IsReadBack kinds.Uart (two_of 1000 (Uart true 16383 (0x41 ∷ 0x42 ∷ 0x43 ∷ [])) (Uart false 0 []))
+pub two-texts-read : IsReadBack kinds.Uart (two_of 1000 (uart_message true 16383 (0x41 ∷ 0x42 ∷ 0x43 ∷ [])) (uart_message false 0 []))
 unfolding samples_in sample_at sample_bytes
 two-texts-read = refl
 
-pub two-bus-messages-read : IsReadBack kinds.Bus1553 (two_of 2000 (Bus1553 0x2000 7 (0x0821 ∷ 0xABCD ∷ [])) (Bus1553 0x1038 0 []))
+pub two-bus-messages-read : IsReadBack kinds.Bus1553 (two_of 2000 (bus_message 0x2000 7 (0x0821 ∷ 0xABCD ∷ [])) (bus_message 0x1038 0 []))
 unfolding samples_in sample_at sample_bytes
 two-bus-messages-read = refl
 
-pub two-states-read : IsReadBack kinds.Discrete (two_of 3000 (Discrete 0x81) (Discrete 0))
+pub two-states-read : IsReadBack kinds.Discrete (two_of 3000 (discrete_message 0x81) (discrete_message 0))
 unfolding samples_in sample_at sample_bytes
 two-states-read = refl
 
-pub two-messages-read : IsReadBack kinds.Message (two_of 4000 (Message true false 16383 (0x41 ∷ [])) (Message false true 1 []))
+pub two-messages-read : IsReadBack kinds.Message (two_of 4000 (data_message true false 16383 (0x41 ∷ [])) (data_message false true 1 []))
 unfolding samples_in sample_at sample_bytes
 two-messages-read = refl

@@ -37,11 +37,11 @@ front e kind = record {
 
 -- and what its message has
 abbrev pub with_message_out : Entry → MessageValue → EntryOut
-with_message_out e (Uart parity sub bytes) = record (front e 1) { parity = parity; sub = sub; length = length bytes }
-with_message_out e (Bus1553 status gap words) = record (front e 2) { status = status; gap_times = gap; length = length words }
-with_message_out e (Arinc bus format parity high word) = record (front e 3) { bus = bus; format = format; parity = parity; high = high; word = word }
-with_message_out e (Discrete states) = record (front e 4) { word = states }
-with_message_out e (Message data_error format sub bytes) = record (front e 5) { data_error = data_error; format = format; sub = sub; length = length bytes }
+with_message_out e (Uart m) = record (front e 1) { parity = m.parity; sub = m.sub; length = length m.bytes }
+with_message_out e (Bus1553 m) = record (front e 2) { status = m.status; gap_times = m.gap; length = length m.words }
+with_message_out e (Arinc m) = record (front e 3) { bus = m.bus; format = m.format; parity = m.parity; high = m.high; word = m.word }
+with_message_out e (Discrete m) = record (front e 4) { word = m.states }
+with_message_out e (Message m) = record (front e 5) { data_error = m.data_error; format = m.format; sub = m.sub; length = length m.bytes }
 with_message_out e (Time civil) =
     record (front e 6) { year = civil.year; month = civil.month; day = civil.day; hour = civil.hour; minute = civil.minute; second = civil.second; centi = civil.centi }
 with_message_out e (Event number count) = record (front e 7) { number = number; occurrence = count }
@@ -50,20 +50,20 @@ abbrev pub fields_of : Entry → EntryOut
 fields_of e = with_message_out e e.message
 
 abbrev pub message_out_bytes : MessageValue → List ℕ
-message_out_bytes (Uart parity sub bytes) = bytes
-message_out_bytes (Bus1553 status gap words) = []
-message_out_bytes (Arinc bus format parity high word) = []
-message_out_bytes (Discrete states) = []
-message_out_bytes (Message data_error format sub bytes) = bytes
+message_out_bytes (Uart m) = m.bytes
+message_out_bytes (Bus1553 m) = []
+message_out_bytes (Arinc m) = []
+message_out_bytes (Discrete m) = []
+message_out_bytes (Message m) = m.bytes
 message_out_bytes (Time civil) = []
 message_out_bytes (Event number count) = []
 
 abbrev pub message_words : MessageValue → List ℕ
-message_words (Uart parity sub bytes) = []
-message_words (Bus1553 status gap words) = words
-message_words (Arinc bus format parity high word) = []
-message_words (Discrete states) = []
-message_words (Message data_error format sub bytes) = []
+message_words (Uart m) = []
+message_words (Bus1553 m) = m.words
+message_words (Arinc m) = []
+message_words (Discrete m) = []
+message_words (Message m) = []
 message_words (Time civil) = []
 message_words (Event number count) = []
 

@@ -6,7 +6,7 @@ ghost use Rattle.r10_calls.specs.Copies.{copied};
 ghost use Rattle.r10_calls.specs.Entries.{front, fields_of, out_bytes, words_of};
 
 use crate::copies::copy_front;
-use r10_body::{Entry, Gap, Message};
+use r10_body::{DataMessage, Entry, Gap, Message, UartMessage};
 
 /// The number of the refusal for want of memory.
 pub(crate) const OUT_OF_MEMORY: u32 = 30;
@@ -122,46 +122,35 @@ pub(crate) fn fields(entry: &Entry) -> EntryOut
     ensures { result ≡ fields_of entry.now }
 {
     match &entry.message {
-        Message::Uart { parity, sub, bytes } => EntryOut {
-            parity: *parity,
-            sub: *sub,
-            length: bytes.len(),
+        Message::Uart(message) => EntryOut {
+            parity: message.parity,
+            sub: message.sub,
+            length: message.bytes.len(),
             ..front_of(entry, 1)
         },
-        Message::Bus1553 { status, gap, words } => EntryOut {
-            status: *status,
-            gap_times: *gap,
-            length: words.len(),
+        Message::Bus1553(message) => EntryOut {
+            status: message.status,
+            gap_times: message.gap,
+            length: message.words.len(),
             ..front_of(entry, 2)
         },
-        Message::Arinc {
-            bus,
-            format,
-            parity,
-            high,
-            word,
-        } => EntryOut {
-            bus: *bus,
-            format: *format,
-            parity: *parity,
-            high: *high,
-            word: *word,
+        Message::Arinc(message) => EntryOut {
+            bus: message.bus,
+            format: message.format,
+            parity: message.parity,
+            high: message.high,
+            word: message.word,
             ..front_of(entry, 3)
         },
-        Message::Discrete { states } => EntryOut {
-            word: *states,
+        Message::Discrete(message) => EntryOut {
+            word: message.states,
             ..front_of(entry, 4)
         },
-        Message::Message {
-            data_error,
-            format,
-            sub,
-            bytes,
-        } => EntryOut {
-            data_error: *data_error,
-            format: *format,
-            sub: *sub,
-            length: bytes.len(),
+        Message::Message(message) => EntryOut {
+            data_error: message.data_error,
+            format: message.format,
+            sub: message.sub,
+            length: message.bytes.len(),
             ..front_of(entry, 5)
         },
         Message::Time { civil } => {
@@ -190,7 +179,8 @@ pub(crate) fn bytes_of(entry: &Entry) -> &[u8]
     ensures { result.now ≡ out_bytes entry.now }
 {
     match &entry.message {
-        Message::Uart { bytes, .. } | Message::Message { bytes, .. } => bytes.as_slice(),
+        Message::Uart(UartMessage { bytes, .. }) | Message::Message(DataMessage { bytes, .. }) =>
+            bytes.as_slice(),
         _ => &[],
     }
 }
@@ -200,7 +190,7 @@ pub(crate) fn words_of(entry: &Entry) -> &[u16]
     ensures { result.now ≡ words_of entry.now }
 {
     match &entry.message {
-        Message::Bus1553 { words, .. } => words.as_slice(),
+        Message::Bus1553(message) => message.words.as_slice(),
         _ => &[],
     }
 }
@@ -213,10 +203,11 @@ pub(crate) fn put_entry(entry: &Entry, out: &mut EntryOut, bytes: &mut [u8], wor
 {
     *out = fields(entry);
     match &entry.message {
-        Message::Uart { bytes: from, .. } | Message::Message { bytes: from, .. } => {
+        Message::Uart(UartMessage { bytes: from, .. })
+        | Message::Message(DataMessage { bytes: from, .. }) => {
             copy_front(from.as_slice(), bytes)
         }
-        Message::Bus1553 { words: from, .. } => copy_front(from.as_slice(), words),
+        Message::Bus1553(message) => copy_front(message.words.as_slice(), words),
         _ => (),
     }
 }

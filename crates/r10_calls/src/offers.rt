@@ -3,11 +3,11 @@
 ghost use Rattle.std.specs.Prelude.{◌≡◌};
 ghost use Rattle.r10_calls.specs.Told.{DoesEvent, Stays, number_of};
 ghost use Rattle.r10_machine.specs.declared.event.Event.TheVariants as events;
-ghost use Rattle.r10_body.specs.declared.message.Message.TheVariants as messages;
+ghost use Rattle.r10_body.specs.Messages.{arinc_message, bus_message, data_message, discrete_message, uart_message};
 
 use crate::desk::{Desk, number_of};
 use crate::entry_out::OUT_OF_MEMORY;
-use r10_body::Message;
+use r10_body::{ArincMessage, BusMessage, DataMessage, DiscreteMessage, Message, UartMessage};
 use r10_count::{Bytes, Items};
 use r10_machine::Event;
 use r10_region::SteadyMedium;
@@ -34,14 +34,15 @@ impl<M: SteadyMedium + Drop> Desk<M> {
         sub: u16,
         bytes: &[u8],
     ) -> u32
-        ensures does { DoesEvent M.disk self.old (events.Offer channel count (messages.Uart parity sub bytes.now))
+        ensures does { DoesEvent M.disk self.old (events.Offer channel count (uart_message parity sub bytes.now))
             (λ reply. result ≡ number_of reply) self.new }
         ensures stays { Stays M.identity self.old self.new }
     {
         let Ok(bytes) = Bytes::copy_of(self.alloc, bytes) else {
             return OUT_OF_MEMORY;
         };
-        self.offer(channel, count, Message::Uart { parity, sub, bytes })
+        let message = Message::Uart(UartMessage { parity, sub, bytes });
+        self.offer(channel, count, message)
     }
 
     /// A message of a MIL-STD-1553 bus, at most 36 words.
@@ -53,7 +54,7 @@ impl<M: SteadyMedium + Drop> Desk<M> {
         gap: u16,
         words: &[u16],
     ) -> u32
-        ensures does { DoesEvent M.disk self.old (events.Offer channel count (messages.Bus1553 status gap words.now))
+        ensures does { DoesEvent M.disk self.old (events.Offer channel count (bus_message status gap words.now))
             (λ reply. result ≡ number_of reply) self.new }
         ensures stays { Stays M.identity self.old self.new }
     {
@@ -61,7 +62,8 @@ impl<M: SteadyMedium + Drop> Desk<M> {
             return OUT_OF_MEMORY;
         };
         let words = Items::of(words);
-        self.offer(channel, count, Message::Bus1553 { status, gap, words })
+        let message = Message::Bus1553(BusMessage { status, gap, words });
+        self.offer(channel, count, message)
     }
 
     /// A word of an ARINC 429 bus.
@@ -75,27 +77,28 @@ impl<M: SteadyMedium + Drop> Desk<M> {
         high: bool,
         word: u32,
     ) -> u32
-        ensures does { DoesEvent M.disk self.old (events.Offer channel count (messages.Arinc bus format parity high word))
+        ensures does { DoesEvent M.disk self.old (events.Offer channel count (arinc_message bus format parity high word))
             (λ reply. result ≡ number_of reply) self.new }
         ensures stays { Stays M.identity self.old self.new }
     {
-        let message = Message::Arinc {
+        let message = Message::Arinc(ArincMessage {
             bus,
             format,
             parity,
             high,
             word,
-        };
+        });
         self.offer(channel, count, message)
     }
 
     /// The states of a channel's discretes, a bit for each.
     pub fn offer_discrete(&mut self, channel: u16, count: u64, states: u32) -> u32
-        ensures does { DoesEvent M.disk self.old (events.Offer channel count (messages.Discrete states))
+        ensures does { DoesEvent M.disk self.old (events.Offer channel count (discrete_message states))
             (λ reply. result ≡ number_of reply) self.new }
         ensures stays { Stays M.identity self.old self.new }
     {
-        self.offer(channel, count, Message::Discrete { states })
+        let message = Message::Discrete(DiscreteMessage { states });
+        self.offer(channel, count, message)
     }
 
     /// A message of a source of any other sort, at most 65,535 bytes.
@@ -108,19 +111,19 @@ impl<M: SteadyMedium + Drop> Desk<M> {
         sub: u16,
         bytes: &[u8],
     ) -> u32
-        ensures does { DoesEvent M.disk self.old (events.Offer channel count (messages.Message data_error format sub bytes.now))
+        ensures does { DoesEvent M.disk self.old (events.Offer channel count (data_message data_error format sub bytes.now))
             (λ reply. result ≡ number_of reply) self.new }
         ensures stays { Stays M.identity self.old self.new }
     {
         let Ok(bytes) = Bytes::copy_of(self.alloc, bytes) else {
             return OUT_OF_MEMORY;
         };
-        let message = Message::Message {
+        let message = Message::Message(DataMessage {
             data_error,
             format,
             sub,
             bytes,
-        };
+        });
         self.offer(channel, count, message)
     }
 }

@@ -4,6 +4,7 @@ use Rattle.std.proofs.lemmas.Bool.{ne_eqb}
 use Rattle.r10_body.specs.declared.gap.Gap.TheVariants.{Whole}
 use Rattle.r10_body.specs.declared.refusal.Refusal.TheVariants.{OutOfMemory}
 use Rattle.r10_body.specs.declared.entry.Sample.{Sample}
+use Rattle.r10_body.specs.declared.message.Message.{Message}
 use Rattle.r10_carrier.specs.Carrying.{DoesEach, StopsAt, events_of, lost_of}
 use Rattle.r10_calls.specs.Told.{DoesEvent, number_of}
 use Rattle.r10_calls.specs.declared.desk.Desk.{Desk as DeskValue}
@@ -15,6 +16,14 @@ use Rattle.r10_medium.specs.Disk.{Disk}
 -- memory was refused before the event was given
 pub refused : {M : Type 0} (disk : M → Disk) (old : DeskValue M) (event : EventValue) → DoesEvent disk old event (λ reply. 30 ≡ number_of reply) old
 refused disk old event = record { reply = Refused OutOfMemory; told = inr (refl, refl); says = refl; config = refl; fault = refl; hand = refl }
+
+-- what was offered is the sample's message at its count
+pub of_sample : {M : Type 0} (disk : M → Disk) (old new : DeskValue M) (channel count n : ℕ) (m : Message) (x : Sample)
+    → DoesEvent disk old (events.Offer channel count m) (λ reply. n ≡ number_of reply) new → count ≡ x.count → m ≡ x.message
+    → DoesEvent disk old (events.Offer channel x.count x.message) (λ reply. n ≡ number_of reply) new
+of_sample disk old new channel count n m x does at is =
+    subst (λ (k : ℕ). DoesEvent disk old (events.Offer channel k x.message) (λ reply. n ≡ number_of reply) new) at
+    (subst (λ (y : Message). DoesEvent disk old (events.Offer channel count y) (λ reply. n ≡ number_of reply) new) is does)
 
 -- an event that was answered 0
 pub fine : {M : Type 0} (disk : M → Disk) (old new : DeskValue M) (event : EventValue) (n : ℕ) → DoesEvent disk old event (λ reply. n ≡ number_of reply) new → n ≡ 0

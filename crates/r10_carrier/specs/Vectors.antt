@@ -1,10 +1,10 @@
 -- The events of a message that is carried, and why none is, in numbers.
 use Rattle.std.specs.Prelude.{◌≡◌, ℕ, [], ◌∷◌, None, Some, refl}
+use Rattle.r10_body.specs.Messages.{discrete_message}
 use Rattle.r10_body.specs.declared.entry.Sample.{Sample}
 use Rattle.r10_body.specs.declared.gap.Gap.{Gap}
 use Rattle.r10_body.specs.declared.gap.Gap.TheVariants.{Whole, Lost, Unknown}
 use Rattle.r10_body.specs.declared.message.Kind.TheVariants as kinds
-use Rattle.r10_body.specs.declared.message.Message.TheVariants.{Discrete}
 use Rattle.r10_body.specs.declared.spec.ChannelSpec.{ChannelSpec}
 use Rattle.r10_machine.specs.declared.event.Event.TheVariants as events
 use Rattle.r10_calls.specs.declared.listing.ChannelOut.{ChannelOut}
@@ -12,16 +12,16 @@ use Rattle.r10_carrier.specs.Carrying.{events_of, in_hand, no_lane, why_not}
 use Rattle.r10_carrier.specs.Opening.{place_of}
 
 abbrev sample : Gap → Sample
-sample gap = record { count = 70; message = Discrete 9; gap = gap }
+sample gap = record { count = 70; message = discrete_message 9; gap = gap }
 
 -- a message is one offer; after a loss it is the loss and then the offer
-without_loss : events_of 5 (sample Whole) ≡ events.Offer 5 70 (Discrete 9) ∷ []
+without_loss : events_of 5 (sample Whole) ≡ events.Offer 5 70 (discrete_message 9) ∷ []
 without_loss = refl
 
-after_three : events_of 5 (sample (Lost 3)) ≡ events.Lose 5 3 ∷ events.Offer 5 70 (Discrete 9) ∷ []
+after_three : events_of 5 (sample (Lost 3)) ≡ events.Lose 5 3 ∷ events.Offer 5 70 (discrete_message 9) ∷ []
 after_three = refl
 
-after_some : events_of 5 (sample Unknown) ≡ events.Lose 5 1 ∷ events.Offer 5 70 (Discrete 9) ∷ []
+after_some : events_of 5 (sample Unknown) ≡ events.Lose 5 1 ∷ events.Offer 5 70 (discrete_message 9) ∷ []
 after_some = refl
 
 abbrev channel : ℕ → ChannelSpec

@@ -34,26 +34,38 @@ fn offer_sample<M: SteadyMedium + Drop>(desk: &mut Desk<M>, channel: u16, sample
 {
     let count = sample.count.get();
     match &sample.message {
-        Message::Uart { parity, sub, bytes } => {
-            desk.offer_uart(channel, count, *parity, *sub, bytes.as_slice())
+        Message::Uart(message) => {
+            let (parity, sub) = (message.parity, message.sub);
+            desk.offer_uart(channel, count, parity, sub, message.bytes.as_slice())
         }
-        Message::Bus1553 { status, gap, words } => {
-            desk.offer_1553(channel, count, *status, *gap, words.as_slice())
+        Message::Bus1553(message) => {
+            let (status, gap) = (message.status, message.gap);
+            desk.offer_1553(channel, count, status, gap, message.words.as_slice())
         }
-        Message::Arinc {
-            bus,
-            format,
-            parity,
-            high,
-            word,
-        } => desk.offer_arinc(channel, count, *bus, *format, *parity, *high, *word),
-        Message::Discrete { states } => desk.offer_discrete(channel, count, *states),
-        Message::Message {
-            data_error,
-            format,
-            sub,
-            bytes,
-        } => desk.offer_message(channel, count, *data_error, *format, *sub, bytes.as_slice()),
+        Message::Arinc(message) => {
+            let (bus, format, parity) = (message.bus, message.format, message.parity);
+            desk.offer_arinc(
+                channel,
+                count,
+                bus,
+                format,
+                parity,
+                message.high,
+                message.word,
+            )
+        }
+        Message::Discrete(message) => desk.offer_discrete(channel, count, message.states),
+        Message::Message(message) => {
+            let (data_error, format, sub) = (message.data_error, message.format, message.sub);
+            desk.offer_message(
+                channel,
+                count,
+                data_error,
+                format,
+                sub,
+                message.bytes.as_slice(),
+            )
+        }
         Message::Time { civil: _ } => OUT_OF_MEMORY,
         Message::Event {
             number: _,

@@ -24,11 +24,11 @@ time_on : (s : Config) (e : Entry) → IsEntry s e → IsTimeOn s.time e
 time_on s e is = by e.message refl
   where
     by : (m : Message) → e.message ≡ m → IsTimeOn s.time e
-    by (messages.Uart a b c) at = rw at tt
-    by (messages.Bus1553 a b c) at = rw at tt
-    by (messages.Arinc a b c d f) at = rw at tt
-    by (messages.Discrete a) at = rw at tt
-    by (messages.Message a b c d) at = rw at tt
+    by (messages.Uart m) at = rw at tt
+    by (messages.Bus1553 m) at = rw at tt
+    by (messages.Arinc m) at = rw at tt
+    by (messages.Discrete m) at = rw at tt
+    by (messages.Message m) at = rw at tt
     by (messages.Time civil) at = (let here = rw at at is in rw at here.2.0)
     by (messages.Event a b) at = rw at tt
 
@@ -37,16 +37,16 @@ ticks_on t [] all = refl
 ticks_on t (e ∷ es) all = by e.message refl (is_entry_on t e) refl (ticks_on t es all.1)
   where
     by : (m : Message) → e.message ≡ m → (b : Bool) → is_entry_on t e ≡ b → ticks_of es ≡ ticks_of (on_channel t es) → ticks_of (e ∷ es) ≡ ticks_of (on_channel t (e ∷ es))
-    by (messages.Uart a b c) at true on rest = rw (on, at) rest
-    by (messages.Uart a b c) at false on rest = rw (on, at) rest
-    by (messages.Bus1553 a b c) at true on rest = rw (on, at) rest
-    by (messages.Bus1553 a b c) at false on rest = rw (on, at) rest
-    by (messages.Arinc a b c d f) at true on rest = rw (on, at) rest
-    by (messages.Arinc a b c d f) at false on rest = rw (on, at) rest
-    by (messages.Discrete a) at true on rest = rw (on, at) rest
-    by (messages.Discrete a) at false on rest = rw (on, at) rest
-    by (messages.Message a b c d) at true on rest = rw (on, at) rest
-    by (messages.Message a b c d) at false on rest = rw (on, at) rest
+    by (messages.Uart m) at true on rest = rw (on, at) rest
+    by (messages.Uart m) at false on rest = rw (on, at) rest
+    by (messages.Bus1553 m) at true on rest = rw (on, at) rest
+    by (messages.Bus1553 m) at false on rest = rw (on, at) rest
+    by (messages.Arinc m) at true on rest = rw (on, at) rest
+    by (messages.Arinc m) at false on rest = rw (on, at) rest
+    by (messages.Discrete m) at true on rest = rw (on, at) rest
+    by (messages.Discrete m) at false on rest = rw (on, at) rest
+    by (messages.Message m) at true on rest = rw (on, at) rest
+    by (messages.Message m) at false on rest = rw (on, at) rest
     by (messages.Time civil) at true on rest = rw (on, at) (ap (λ (ts : List Tick). record { count = e.count; civil = civil } ∷ ts) rest)
     by (messages.Time civil) at false on rest = (let here : e.channel ≡ t = rw at at all.0 in absurd (false≢true (sym on ∙ eq-eqb e.channel t here)))
     by (messages.Event a b) at true on rest = rw (on, at) rest

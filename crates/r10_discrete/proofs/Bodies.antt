@@ -46,18 +46,18 @@ no_state states bits =
 pub within : (states bits : ℕ) → states < 2 ^ 32 → 32 ≤ bits → states < 2 ^ bits
 within states bits lt most = let up : 2 ^ 32 ≤ 2 ^ bits = pow_mono most in omega (arith, lt, up)
 
-pub only_is : (bits : ℕ) (e : DiscreteEntry) → 1 ≤ bits → bits ≤ 31 → FitsDiscrete bits e → has_only bits e.states ≡ true
+pub only_is : (bits : ℕ) (e : DiscreteEntry) → 1 ≤ bits → bits ≤ 31 → FitsDiscrete bits e → has_only bits e.message.states ≡ true
 only_is bits e some most fits =
     let few : nat_lt 0 bits && nat_lt bits 32 ≡ true = and_from (nat_lt 0 bits) (nat_lt bits 32) (lt-ltb 0 bits (omega (arith, some))) (lt-ltb bits 32 (omega (arith, most))) in
-    and_from (nat_lt 0 bits && nat_lt bits 32) (nat_lt e.states (2 ^ bits)) few (lt-ltb e.states (2 ^ bits) fits.1)
+    and_from (nat_lt 0 bits && nat_lt bits 32) (nat_lt e.message.states (2 ^ bits)) few (lt-ltb e.message.states (2 ^ bits) fits.1)
 
-pub is_only : (bits : ℕ) (e : DiscreteEntry) → IsCount e.count → has_only bits e.states ≡ true → (1 ≤ bits) × (bits ≤ 31) × FitsDiscrete bits e
+pub is_only : (bits : ℕ) (e : DiscreteEntry) → IsCount e.count → has_only bits e.message.states ≡ true → (1 ≤ bits) × (bits ≤ 31) × FitsDiscrete bits e
 is_only bits e count is =
-    let both = and_parts (nat_lt 0 bits && nat_lt bits 32) (nat_lt e.states (2 ^ bits)) is in
+    let both = and_parts (nat_lt 0 bits && nat_lt bits 32) (nat_lt e.message.states (2 ^ bits)) is in
     let few = and_parts (nat_lt 0 bits) (nat_lt bits 32) both.0 in
     let some : 0 < bits = ltb-true 0 bits few.0 in
     let most : bits < 32 = ltb-true bits 32 few.1 in
-    (omega (arith, some), omega (arith, most), (count, ltb-true e.states (2 ^ bits) both.1))
+    (omega (arith, some), omega (arith, most), (count, ltb-true e.message.states (2 ^ bits) both.1))
 
 -- 31 discretes at most are states of 32 bits
 states-fit : (states bits : ℕ) → bits ≤ 31 → states < 2 ^ bits → states < 2 ^ 32
@@ -65,7 +65,7 @@ states-fit states bits most lt = let up : 2 ^ bits ≤ 2 ^ 31 = pow_mono most in
 
 pub fits_are : (bits before : ℕ) (es : List DiscreteEntry) → bits ≤ 31 → AllByRecursion (FitsDiscrete bits) es → FitsAll discrete_form before es
 fits_are bits before [] most fields = tt
-fits_are bits before (e ∷ es) most fields = (record { count = fields.0.0; states = states-fit e.states bits most fields.0.1 }, fits_are bits e.count es most fields.1)
+fits_are bits before (e ∷ es) most fields = (record { count = fields.0.0; states = states-fit e.message.states bits most fields.0.1 }, fits_are bits e.count es most fields.1)
 
 pub suit_all : (bits : ℕ) (es : List DiscreteEntry) → 1 ≤ bits → bits ≤ 31 → AllByRecursion (FitsDiscrete bits) es → SuitsAll discrete_form bits es
 suit_all bits [] some most fields = tt

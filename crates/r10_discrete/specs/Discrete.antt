@@ -4,9 +4,14 @@ use Rattle.std.specs.List.{flat_map, AllByRecursion}
 use Rattle.r10_count.specs.Bytes.{le_bytes}
 use Rattle.r10_count.specs.Count.{IsCount, stamp}
 use Rattle.r10_discrete.specs.declared.entry.DiscreteEntry.{DiscreteEntry}
+use Rattle.r10_discrete.specs.declared.message.DiscreteMessage.{DiscreteMessage}
+
+-- a message at a count
+abbrev pub discrete_at : ℕ → DiscreteMessage → DiscreteEntry
+discrete_at count m = record { count = count; message = m }
 
 abbrev pub discrete_entry : DiscreteEntry → List ℕ
-discrete_entry e = stamp e.count ++ le_bytes 4 e.states
+discrete_entry e = stamp e.count ++ le_bytes 4 e.message.states
 
 -- the word has the number of discretes
 abbrev pub discrete_body : ℕ → List DiscreteEntry → List ℕ
@@ -14,7 +19,7 @@ discrete_body bits entries = le_bytes 4 (8 * bits) ++ flat_map discrete_entry en
 
 -- no state beyond the channel's discretes
 abbrev pub FitsDiscrete : ℕ → DiscreteEntry → Type 0
-FitsDiscrete bits e = IsCount e.count × (e.states < 2 ^ bits)
+FitsDiscrete bits e = IsCount e.count × (e.message.states < 2 ^ bits)
 
 -- what a packet may have: at least one change, of 1 to 31 discretes
 pub record FitsDiscreteBody (bits : ℕ) (entries : List DiscreteEntry) : Type 0 where

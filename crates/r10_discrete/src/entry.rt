@@ -3,6 +3,7 @@
 ghost use Rattle.std.specs.Prelude.{◌↔◌, IsTrue};
 ghost use Rattle.r10_discrete.specs.Discrete.{FitsDiscrete};
 
+use crate::message::DiscreteMessage;
 use crate::states::has_only;
 use r10_count::{BodyEntry, Count, append_all, split_u32};
 use std::alloc::{AllocError, Global};
@@ -12,8 +13,7 @@ use std::alloc::{AllocError, Global};
 pub struct DiscreteEntry {
     /// The count at which they came, in units of 100 ns.
     pub count: Count,
-    /// A bit for each discrete, from bit 0 on.
-    pub states: u32,
+    pub message: DiscreteMessage,
 }
 
 impl DiscreteEntry {
@@ -22,7 +22,7 @@ impl DiscreteEntry {
         ensures { IsTrue result ↔ FitsDiscrete bits self.now }
     {
         let _ = self.count.get();
-        let states = self.states;
+        let states = self.message.states;
         bits >= 32 || states >> bits == 0
     }
 }
@@ -61,7 +61,7 @@ impl BodyEntry for DiscreteEntry {
     }
 
     fn suits(&self, setting: u32) -> bool {
-        has_only(setting as usize, self.states)
+        has_only(setting as usize, self.message.states)
     }
 
     fn size(&self, before: u64) -> usize {
@@ -72,7 +72,7 @@ impl BodyEntry for DiscreteEntry {
     fn encode_into(&self, before: u64, out: &mut Vec<u8>) -> Result<(), AllocError> {
         let _ = before;
         let stamp = self.count.stamp();
-        let states = self.states.to_le_bytes();
+        let states = self.message.states.to_le_bytes();
         append_all(out, &[&stamp, &states])
     }
 
@@ -87,6 +87,7 @@ impl BodyEntry for DiscreteEntry {
         if !rest.is_empty() {
             return Ok(None);
         }
-        Ok(Some(DiscreteEntry { count, states }))
+        let message = DiscreteMessage { states };
+        Ok(Some(DiscreteEntry { count, message }))
     }
 }

@@ -4,8 +4,10 @@
 
 mod body;
 mod entry;
+mod message;
 mod states;
 
 pub use body::{DiscreteBody, bits_in};
 pub use entry::DiscreteEntry;
+pub use message::DiscreteMessage;
 pub use states::has_only;

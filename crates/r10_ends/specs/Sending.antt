@@ -19,11 +19,11 @@ OffersByPort old count message answer new = (given : Result (Unit {0}) Refusal) 
 
 -- memory may be wanted for it: at most 38 bytes have their place in a message
 abbrev pub WantsMemory : Message → Type 0
-WantsMemory (messages.Uart parity sub bytes) = 38 < length bytes
-WantsMemory (messages.Bus1553 status gap words) = Unit {0}
-WantsMemory (messages.Arinc bus format parity high word) = ⊥
-WantsMemory (messages.Discrete states) = ⊥
-WantsMemory (messages.Message data_error format sub bytes) = 38 < length bytes
+WantsMemory (messages.Uart m) = 38 < length m.bytes
+WantsMemory (messages.Bus1553 m) = Unit {0}
+WantsMemory (messages.Arinc m) = ⊥
+WantsMemory (messages.Discrete m) = ⊥
+WantsMemory (messages.Message m) = 38 < length m.bytes
 WantsMemory (messages.Time civil) = ⊥
 WantsMemory (messages.Event number count) = ⊥
 

@@ -1,10 +1,10 @@
 -- What offers at the sending end of a lane answer, and what it shows, in numbers.
 use Rattle.std.specs.Prelude.{◌≡◌, ℕ, false, [], ◌∷◌, replicate, Some, Ok, Err, refl}
 use Rattle.std.proofs.Common.{lit<, arith}
+use Rattle.r10_body.specs.Messages.{bus_message, data_message, discrete_message, uart_message}
 use Rattle.r10_body.specs.declared.entry.Sample.{Sample}
 use Rattle.r10_body.specs.declared.gap.Gap.TheVariants.{Whole}
 use Rattle.r10_body.specs.declared.message.Kind.TheVariants as kinds
-use Rattle.r10_body.specs.declared.message.Message.TheVariants as messages
 use Rattle.r10_body.specs.declared.refusal.Refusal.TheVariants.{WrongKind, Overflow}
 use Rattle.r10_body.specs.declared.spec.ChannelSpec.{ChannelSpec}
 use Rattle.r10_port.specs.Ends.{Ring, Sending}
@@ -21,19 +21,19 @@ overflow_is_12 : number_answered (Err Overflow) ≡ 12
 overflow_is_12 = refl
 
 -- up to 38 bytes have their place in a message
-short_wants_none : WantsMemory (messages.Uart false 0 (replicate 38 0x41)) → ⊥
+short_wants_none : WantsMemory (uart_message false 0 (replicate 38 0x41)) → ⊥
 short_wants_none wants = absurd (omega (arith, wants))
 
-long_wants_some : WantsMemory (messages.Uart false 0 (replicate 39 0x41))
+long_wants_some : WantsMemory (uart_message false 0 (replicate 39 0x41))
 long_wants_some = lit< tt
 
-long_of_another_source : WantsMemory (messages.Message false false 0 (replicate 39 0x41))
+long_of_another_source : WantsMemory (data_message false false 0 (replicate 39 0x41))
 long_of_another_source = lit< tt
 
-words_want_some : WantsMemory (messages.Bus1553 0 0 [])
+words_want_some : WantsMemory (bus_message 0 0 [])
 words_want_some = tt
 
-states_want_none : WantsMemory (messages.Discrete 7) → ⊥
+states_want_none : WantsMemory (discrete_message 7) → ⊥
 states_want_none wants = wants
 
 -- what a port shows: how many it accepted, how many were lost, its room and its channel
@@ -42,7 +42,7 @@ module _ (ring : Ring) where
   channel = record { id = 5; kind = kinds.Discrete; capacity = 3; check = 0; bytes = 4096; number = 100; bits = 8 }
 
   abbrev sample : ℕ → Sample
-  sample count = record { count = count; message = messages.Discrete 1; gap = Whole }
+  sample count = record { count = count; message = discrete_message 1; gap = Whole }
 
   abbrev port : Sending
   port = record { ring = ring; lane = record { spec = channel; waiting = sample 1 ∷ sample 2 ∷ []; last = Some 2; missed = 1; lost = 4; erased = 0 }; free = 1 }

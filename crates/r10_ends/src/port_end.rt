@@ -1,7 +1,7 @@
 //! The sending end of a lane, as a caller of another language keeps it: a handle, and whether it is open.
 
 ghost use Rattle.std.specs.Prelude.{◌≡◌, false, is_some, true, None};
-ghost use Rattle.r10_body.specs.declared.message.Message.TheVariants as messages;
+ghost use Rattle.r10_body.specs.Messages.{arinc_message, bus_message, data_message, discrete_message, uart_message};
 ghost use Rattle.r10_port.specs.Ends.{with_losses};
 ghost use Rattle.r10_ends.specs.Sending.{OffersByPort, OffersOrLacks, port_out};
 
@@ -65,7 +65,7 @@ impl PortEnd {
         bytes: &[u8],
     ) -> u32
         ensures does { self.old.opened ≡ true
-            → PortGoes self.old self.new (λ old new. OffersOrLacks old count (messages.Uart parity sub bytes.now) result new) }
+            → PortGoes self.old self.new (λ old new. OffersOrLacks old count (uart_message parity sub bytes.now) result new) }
         ensures closed { self.old.opened ≡ false → (result ≡ 44) × (self.new ≡ self.old) }
     {
         if !self.is_open() {
@@ -87,7 +87,7 @@ impl PortEnd {
         words: &[u16],
     ) -> u32
         ensures does { self.old.opened ≡ true
-            → PortGoes self.old self.new (λ old new. OffersOrLacks old count (messages.Bus1553 status gap words.now) result new) }
+            → PortGoes self.old self.new (λ old new. OffersOrLacks old count (bus_message status gap words.now) result new) }
         ensures closed { self.old.opened ≡ false → (result ≡ 44) × (self.new ≡ self.old) }
     {
         if !self.is_open() {
@@ -111,7 +111,7 @@ impl PortEnd {
         word: u32,
     ) -> u32
         ensures does { self.old.opened ≡ true → PortGoes self.old self.new
-            (λ old new. OffersByPort old count (messages.Arinc bus format parity high word) result new) }
+            (λ old new. OffersByPort old count (arinc_message bus format parity high word) result new) }
         ensures closed { self.old.opened ≡ false → (result ≡ 44) × (self.new ≡ self.old) }
     {
         if !self.is_open() {
@@ -126,7 +126,7 @@ impl PortEnd {
     /// The states of a channel's discretes: 0, or 7 to 12, 44.
     pub fn offer_discrete(&mut self, alloc: Global, count: u64, states: u32) -> u32
         ensures does { self.old.opened ≡ true
-            → PortGoes self.old self.new (λ old new. OffersByPort old count (messages.Discrete states) result new) }
+            → PortGoes self.old self.new (λ old new. OffersByPort old count (discrete_message states) result new) }
         ensures closed { self.old.opened ≡ false → (result ≡ 44) × (self.new ≡ self.old) }
     {
         if !self.is_open() {
@@ -149,7 +149,7 @@ impl PortEnd {
         bytes: &[u8],
     ) -> u32
         ensures does { self.old.opened ≡ true → PortGoes self.old self.new
-            (λ old new. OffersOrLacks old count (messages.Message data_error format sub bytes.now) result new) }
+            (λ old new. OffersOrLacks old count (data_message data_error format sub bytes.now) result new) }
         ensures closed { self.old.opened ≡ false → (result ≡ 44) × (self.new ≡ self.old) }
     {
         if !self.is_open() {

@@ -1,13 +1,16 @@
 //! The sending end of a lane between threads, by offers that answer numbers.
 
 ghost use Rattle.std.specs.Prelude.{◌≡◌, ℕ, ◌≤◌, ◌^◌, Option, Some};
-ghost use Rattle.r10_body.specs.declared.message.Message.TheVariants as messages;
+ghost use Rattle.r10_body.specs.Messages.{arinc_message, bus_message, data_message, discrete_message, uart_message};
 ghost use Rattle.r10_machine.specs.Checks.{first_broken, taking_checks};
 ghost use Rattle.r10_port.specs.Ends.{with_losses};
 ghost use Rattle.r10_ends.specs.Sending.{OffersByPort, OffersOrLacks, number_answered, port_out};
 
 use crate::port_out::PortOut;
-use r10_body::{ChannelSpec, Message, Refusal};
+use r10_body::{
+    ArincMessage, BusMessage, ChannelSpec, DataMessage, DiscreteMessage, Message, Refusal,
+    UartMessage,
+};
 use r10_count::{Bytes, Count, Items};
 use r10_port::Port;
 use std::alloc::Global;
@@ -75,12 +78,12 @@ impl PortSender {
         sub: u16,
         bytes: &[u8],
     ) -> u32
-        ensures { OffersOrLacks self.old count (messages.Uart parity sub bytes.now) result self.new }
+        ensures { OffersOrLacks self.old count (uart_message parity sub bytes.now) result self.new }
     {
         let Ok(bytes) = Bytes::copy_of(alloc, bytes) else {
             return OUT_OF_MEMORY;
         };
-        self.offer(count, Message::Uart { parity, sub, bytes })
+        self.offer(count, Message::Uart(UartMessage { parity, sub, bytes }))
     }
 
     /// A message of a MIL-STD-1553 bus, at most 36 words: 0, or 7 to 12, or 30.
@@ -92,13 +95,13 @@ impl PortSender {
         gap: u16,
         words: &[u16],
     ) -> u32
-        ensures { OffersOrLacks self.old count (messages.Bus1553 status gap words.now) result self.new }
+        ensures { OffersOrLacks self.old count (bus_message status gap words.now) result self.new }
     {
         let Ok(words) = Vec::from_slice(alloc, words) else {
             return OUT_OF_MEMORY;
         };
         let words = Items::of(words);
-        self.offer(count, Message::Bus1553 { status, gap, words })
+        self.offer(count, Message::Bus1553(BusMessage { status, gap, words }))
     }
 
     /// A word of an ARINC 429 bus: 0, or 7 to 12.
@@ -111,23 +114,23 @@ impl PortSender {
         high: bool,
         word: u32,
     ) -> u32
-        ensures { OffersByPort self.old count (messages.Arinc bus format parity high word) result self.new }
+        ensures { OffersByPort self.old count (arinc_message bus format parity high word) result self.new }
     {
-        let message = Message::Arinc {
+        let message = Message::Arinc(ArincMessage {
             bus,
             format,
             parity,
             high,
             word,
-        };
+        });
         self.offer(count, message)
     }
 
     /// The states of a channel's discretes, a bit for each: 0, or 7 to 12.
     pub(crate) fn offer_discrete(&mut self, count: u64, states: u32) -> u32
-        ensures { OffersByPort self.old count (messages.Discrete states) result self.new }
+        ensures { OffersByPort self.old count (discrete_message states) result self.new }
     {
-        self.offer(count, Message::Discrete { states })
+        self.offer(count, Message::Discrete(DiscreteMessage { states }))
     }
 
     /// A message of a source of any other sort, at most 65,535 bytes: 0, or 7 to 12, or 30.
@@ -140,17 +143,17 @@ impl PortSender {
         sub: u16,
         bytes: &[u8],
     ) -> u32
-        ensures { OffersOrLacks self.old count (messages.Message data_error format sub bytes.now) result self.new }
+        ensures { OffersOrLacks self.old count (data_message data_error format sub bytes.now) result self.new }
     {
         let Ok(bytes) = Bytes::copy_of(alloc, bytes) else {
             return OUT_OF_MEMORY;
         };
-        let message = Message::Message {
+        let message = Message::Message(DataMessage {
             data_error,
             format,
             sub,
             bytes,
-        };
+        });
         self.offer(count, message)
     }
 

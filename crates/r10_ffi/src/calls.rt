@@ -1,8 +1,8 @@
 //! The calls of the library.
 
 ghost use Rattle.std.specs.Prelude.{◌≡◌, ◌≢◌, ◌⊎◌, ◌↔◌, ◌≤◌, ◌<◌, None, Some, length};
+ghost use Rattle.r10_body.specs.Messages.{arinc_message, bus_message, data_message, discrete_message, uart_message};
 ghost use Rattle.r10_body.specs.declared.entry.Entry.{Entry};
-ghost use Rattle.r10_body.specs.declared.message.Message.TheVariants as messages;
 ghost use Rattle.r10_machine.specs.declared.event.Event.TheVariants as events;
 ghost use Rattle.r10_calls.specs.Checking.{TellsFault, TellsSettings};
 ghost use Rattle.r10_calls.specs.Copies.{copied};
@@ -334,7 +334,7 @@ pub extern "C" fn r10_offer_uart(
     bytes: &[u8],
 ) -> u32
     ensures does { IsOpen recorder.old → Offers result channel recorder.old recorder.new (λ old new. DoesEvent region_disk old
-        (events.Offer channel count (messages.Uart parity sub bytes.now)) (λ reply. result ≡ number_of reply) new) }
+        (events.Offer channel count (uart_message parity sub bytes.now)) (λ reply. result ≡ number_of reply) new) }
     ensures closed { IsClosed recorder.old → (result ≡ 44) × (recorder.new ≡ recorder.old) }
 {
     if !recorder.is_open() {
@@ -360,7 +360,7 @@ pub extern "C" fn r10_offer_1553(
     words: &[u16],
 ) -> u32
     ensures does { IsOpen recorder.old → Offers result channel recorder.old recorder.new (λ old new. DoesEvent region_disk old
-        (events.Offer channel count (messages.Bus1553 status gap words.now)) (λ reply. result ≡ number_of reply) new) }
+        (events.Offer channel count (bus_message status gap words.now)) (λ reply. result ≡ number_of reply) new) }
     ensures closed { IsClosed recorder.old → (result ≡ 44) × (recorder.new ≡ recorder.old) }
 {
     if !recorder.is_open() {
@@ -388,7 +388,7 @@ pub extern "C" fn r10_offer_arinc(
     word: u32,
 ) -> u32
     ensures does { IsOpen recorder.old → Offers result channel recorder.old recorder.new (λ old new. DoesEvent region_disk old
-        (events.Offer channel count (messages.Arinc bus format parity high word)) (λ reply. result ≡ number_of reply) new) }
+        (events.Offer channel count (arinc_message bus format parity high word)) (λ reply. result ≡ number_of reply) new) }
     ensures closed { IsClosed recorder.old → (result ≡ 44) × (recorder.new ≡ recorder.old) }
 {
     if !recorder.is_open() {
@@ -414,7 +414,7 @@ pub extern "C" fn r10_offer_discrete(
     states: u32,
 ) -> u32
     ensures does { IsOpen recorder.old → Offers result channel recorder.old recorder.new (λ old new. DoesEvent region_disk old
-        (events.Offer channel count (messages.Discrete states)) (λ reply. result ≡ number_of reply) new) }
+        (events.Offer channel count (discrete_message states)) (λ reply. result ≡ number_of reply) new) }
     ensures closed { IsClosed recorder.old → (result ≡ 44) × (recorder.new ≡ recorder.old) }
 {
     if !recorder.is_open() {
@@ -441,7 +441,7 @@ pub extern "C" fn r10_offer_message(
     bytes: &[u8],
 ) -> u32
     ensures does { IsOpen recorder.old → Offers result channel recorder.old recorder.new (λ old new. DoesEvent region_disk old
-        (events.Offer channel count (messages.Message data_error format sub bytes.now)) (λ reply. result ≡ number_of reply) new) }
+        (events.Offer channel count (data_message data_error format sub bytes.now)) (λ reply. result ≡ number_of reply) new) }
     ensures closed { IsClosed recorder.old → (result ≡ 44) × (recorder.new ≡ recorder.old) }
 {
     if !recorder.is_open() {

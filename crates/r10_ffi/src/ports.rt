@@ -1,7 +1,7 @@
 //! The calls on the ends of lanes between threads.
 
 ghost use Rattle.std.specs.Prelude.{◌≡◌, ◌≢◌, ◌⊎◌, ◌↔◌, false, true, None};
-ghost use Rattle.r10_body.specs.declared.message.Message.TheVariants as messages;
+ghost use Rattle.r10_body.specs.Messages.{arinc_message, bus_message, data_message, discrete_message, uart_message};
 ghost use Rattle.r10_carrier.specs.Opening.{LacksChannel, OpensLane};
 ghost use Rattle.r10_ends.specs.Ends.{IsOpenOne, PortGoes};
 ghost use Rattle.r10_ends.specs.Sending.{OffersByPort, OffersOrLacks, port_out};
@@ -48,7 +48,7 @@ pub extern "C" fn r10_port_uart(
     bytes: &[u8],
 ) -> u32
     ensures does { port.old.opened ≡ true
-        → PortGoes port.old port.new (λ old new. OffersOrLacks old count (messages.Uart parity sub bytes.now) result new) }
+        → PortGoes port.old port.new (λ old new. OffersOrLacks old count (uart_message parity sub bytes.now) result new) }
     ensures closed { port.old.opened ≡ false → (result ≡ 44) × (port.new ≡ port.old) }
 {
     port.offer_uart(alloc, count, parity, sub, bytes)
@@ -65,7 +65,7 @@ pub extern "C" fn r10_port_1553(
     words: &[u16],
 ) -> u32
     ensures does { port.old.opened ≡ true
-        → PortGoes port.old port.new (λ old new. OffersOrLacks old count (messages.Bus1553 status gap words.now) result new) }
+        → PortGoes port.old port.new (λ old new. OffersOrLacks old count (bus_message status gap words.now) result new) }
     ensures closed { port.old.opened ≡ false → (result ≡ 44) × (port.new ≡ port.old) }
 {
     port.offer_1553(alloc, count, status, gap, words)
@@ -84,7 +84,7 @@ pub extern "C" fn r10_port_arinc(
     word: u32,
 ) -> u32
     ensures does { port.old.opened ≡ true
-        → PortGoes port.old port.new (λ old new. OffersByPort old count (messages.Arinc bus format parity high word) result new) }
+        → PortGoes port.old port.new (λ old new. OffersByPort old count (arinc_message bus format parity high word) result new) }
     ensures closed { port.old.opened ≡ false → (result ≡ 44) × (port.new ≡ port.old) }
 {
     port.offer_arinc(alloc, count, bus, format, parity, high, word)
@@ -99,7 +99,7 @@ pub extern "C" fn r10_port_discrete(
     states: u32,
 ) -> u32
     ensures does { port.old.opened ≡ true
-        → PortGoes port.old port.new (λ old new. OffersByPort old count (messages.Discrete states) result new) }
+        → PortGoes port.old port.new (λ old new. OffersByPort old count (discrete_message states) result new) }
     ensures closed { port.old.opened ≡ false → (result ≡ 44) × (port.new ≡ port.old) }
 {
     port.offer_discrete(alloc, count, states)
@@ -117,7 +117,7 @@ pub extern "C" fn r10_port_message(
     bytes: &[u8],
 ) -> u32
     ensures does { port.old.opened ≡ true → PortGoes port.old port.new
-        (λ old new. OffersOrLacks old count (messages.Message data_error format sub bytes.now) result new) }
+        (λ old new. OffersOrLacks old count (data_message data_error format sub bytes.now) result new) }
     ensures closed { port.old.opened ≡ false → (result ≡ 44) × (port.new ≡ port.old) }
 {
     port.offer_message(alloc, count, data_error, format, sub, bytes)

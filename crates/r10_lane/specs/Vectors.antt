@@ -1,12 +1,12 @@
 -- A lane of two messages, offer by offer.
 use Rattle.std.specs.Prelude.{◌≡◌, ℕ, false, List, [], ◌∷◌, Option, Some, None, Ok, Err, refl}
 use Rattle.std.proofs.Common.{lit≤}
+use Rattle.r10_body.specs.Messages.{uart_message}
 use Rattle.r10_body.specs.declared.entry.Sample.{Sample}
 use Rattle.r10_body.specs.declared.gap.Gap.{Gap}
 use Rattle.r10_body.specs.declared.gap.Gap.TheVariants.{Whole, Lost}
 use Rattle.r10_body.specs.declared.message.Kind.TheVariants as kinds
 use Rattle.r10_body.specs.declared.message.Message.{Message}
-use Rattle.r10_body.specs.declared.message.Message.TheVariants.{Uart}
 use Rattle.r10_body.specs.declared.refusal.Refusal.TheVariants.{CountBack, Overflow, BadMessage}
 use Rattle.r10_body.specs.declared.spec.ChannelSpec.{ChannelSpec}
 use Rattle.r10_machine.specs.Calls.{losing}
@@ -17,7 +17,7 @@ abbrev channel : ChannelSpec
 channel = record { id = 5; kind = kinds.Uart; capacity = 2; check = 0; bytes = 524288; number = 65535; bits = 0 }
 
 abbrev text : ℕ → Message
-text byte = Uart false 0 (byte ∷ [])
+text byte = uart_message false 0 (byte ∷ [])
 
 abbrev sample : ℕ → ℕ → Gap → Sample
 sample count byte gap = record { count = count; message = text byte; gap = gap }
@@ -84,7 +84,7 @@ both_stay = refl
 a_count_back : Offers full 1001 (text 0x43) (Err CountBack) full
 a_count_back = (refl, refl)
 
-a_bad_message : Offers full 1001 (Uart false 16384 []) (Err BadMessage) full
+a_bad_message : Offers full 1001 (uart_message false 16384 []) (Err BadMessage) full
 a_bad_message = (refl, refl)
 
 -- what has been reached: nothing, the first that waits, the last accepted

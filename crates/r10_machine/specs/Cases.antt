@@ -1,6 +1,7 @@
 -- Single cases of the whole machine: the order of refusals, steps and what is none, what is found, and what a recorder tells of itself.
 use Rattle.std.specs.Prelude.{◌≡◌, ℕ, ◌-◌, ◌^◌, true, false, List, [], ◌∷◌, refl, length, map, replicate, Some, None}
 use Rattle.std.proofs.Common.{lit<, lit≤, arith, inl}
+use Rattle.r10_body.specs.Messages.{uart_message}
 use Rattle.r10_body.specs.declared.gap.Gap.TheVariants.{Whole}
 use Rattle.r10_body.specs.declared.message.Message.TheVariants as messages
 use Rattle.r10_body.specs.declared.refusal.Refusal.TheVariants as refusals
@@ -172,7 +173,7 @@ pump-no-channel = refl
 pub time-offered : refusal settings started (events.Offer 5 1001 (messages.Time leap_day)) ≡ Some refusals.WrongKind
 time-offered = refl
 
-pub sub-too-large : refusal settings started (events.Offer 5 281474976710656 (messages.Uart false 16384 [])) ≡ Some refusals.BadMessage
+pub sub-too-large : refusal settings started (events.Offer 5 281474976710656 (uart_message false 16384 [])) ≡ Some refusals.BadMessage
 sub-too-large = refl
 
 -- a packet of 128 bytes has room for a message of 88 without a checksum, and of 86 with one

@@ -6,11 +6,12 @@ use Rattle.std.proofs.lemmas.List.Sorted.{IsPermutation-refl}
 use Rattle.std.specs.List.Sorted.{IsSortedByKey}
 use Rattle.std.specs.Ordering.{is_lt}
 use Rattle.r10_count.specs.declared.civil.Parts.{Parts}
+use Rattle.r10_body.specs.Messages.{uart_message}
 use Rattle.r10_body.specs.declared.entry.Entry.{Entry}
 use Rattle.r10_body.specs.declared.gap.Gap.{Gap}
 use Rattle.r10_body.specs.declared.gap.Gap.TheVariants.{Whole, Lost}
 use Rattle.r10_body.specs.declared.message.Message.{Message}
-use Rattle.r10_body.specs.declared.message.Message.TheVariants.{Uart, Time}
+use Rattle.r10_body.specs.declared.message.Message.TheVariants.{Time}
 use Rattle.r10_body.specs.declared.message.Kind.TheVariants as kinds
 use Rattle.r10_body.specs.declared.spec.ChannelSpec.{ChannelSpec}
 use Rattle.r10_machine.specs.declared.mode.Mode.TheVariants.{Idle, Recording}
@@ -32,7 +33,7 @@ abbrev pub new : Machine
 new = fresh settings.channels [] 0
 
 abbrev pub text : List ℕ → Message
-text bytes = Uart false 0 bytes
+text bytes = uart_message false 0 bytes
 
 abbrev pub entry : ℕ → ℕ → Message → Gap → Entry
 entry channel count message gap = record { channel = channel; count = count; message = message; gap = gap }

@@ -11,7 +11,7 @@ use Rattle.r10_message.specs.Message.{message_entry, message_header, message_of,
 use Rattle.r10_message.specs.declared.entry.MessageEntry.{MessageEntry}
 
 pub message_entry-size : (e : MessageEntry) → length (message_entry e) ≡ message_entry_size e
-message_entry-size e = omega (arith, padded-size e.bytes)
+message_entry-size e = omega (arith, padded-size e.message.bytes)
 
 pub message_word-fits : (n : ℕ) → n % 65536 < 2 ^ 32
 message_word-fits n = omega arith
@@ -56,23 +56,23 @@ same_message_fields m n p q a b i j s t counts data_errors formats subs texts = 
 pub message_entry-told : (e : MessageEntry) → FitsMessage e → IsEntryBytes 12 told_size (message_entry e)
 message_entry-told e fits =
     let size = message_entry-size e in
-    let head : u32_at (take 12 (message_entry e)) 8 ≡ message_header e = from_le_bytes-to_le_bytes_4 (message_header e) (message_header-fits e.data_error e.format e.sub (length e.bytes) fits.sub fits.bytes) in
-    let low = message_header-low e.data_error e.format e.sub (length e.bytes) fits.bytes in
+    let head : u32_at (take 12 (message_entry e)) 8 ≡ message_header e = from_le_bytes-to_le_bytes_4 (message_header e) (message_header-fits e.message.data_error e.message.format e.message.sub (length e.message.bytes) fits.sub fits.bytes) in
+    let low = message_header-low e.message.data_error e.message.format e.message.sub (length e.message.bytes) fits.bytes in
     (omega (arith, size), ap (λ n. Some n) (omega (arith, size, head, low)))
 
 -- no other entry is spelled so
 pub message_entry-one : (e d : MessageEntry) → FitsMessage e → FitsMessage d → message_entry e ≡ message_entry d → e ≡ d
 message_entry-one e d fe fd same =
-    let first = same_stamp e.count d.count (le_bytes 4 (message_header e) ++ padded e.bytes) (le_bytes 4 (message_header d) ++ padded d.bytes) fe.count fd.count same in
-    let second = same_u32 (message_header e) (message_header d) (padded e.bytes) (padded d.bytes)
-    (message_header-fits e.data_error e.format e.sub (length e.bytes) fe.sub fe.bytes) (message_header-fits d.data_error d.format d.sub (length d.bytes) fd.sub fd.bytes) first.1 in
-    let sizes : length e.bytes ≡ length d.bytes =
-    sym (message_header-low e.data_error e.format e.sub (length e.bytes) fe.bytes) ∙ ap (λ h. h % 65536) second.0 ∙ message_header-low d.data_error d.format d.sub (length d.bytes) fd.bytes in
-    same_message_fields e.count d.count e.data_error d.data_error e.format d.format e.sub d.sub e.bytes d.bytes first.0
-    (sym (header-data_error e.data_error e.format e.sub (length e.bytes) fe.sub fe.bytes) ∙ ap (λ h. nat_eq (h / 2147483648) 1) second.0 ∙ header-data_error d.data_error d.format d.sub (length d.bytes) fd.sub fd.bytes)
-    (sym (header-format e.data_error e.format e.sub (length e.bytes) fe.sub fe.bytes) ∙ ap (λ h. nat_eq (h / 1073741824 % 2) 1) second.0 ∙ header-format d.data_error d.format d.sub (length d.bytes) fd.sub fd.bytes)
-    (sym (message_header-sub e.data_error e.format e.sub (length e.bytes) fe.sub fe.bytes) ∙ ap (λ h. h / 65536 % 16384) second.0 ∙ message_header-sub d.data_error d.format d.sub (length d.bytes) fd.sub fd.bytes)
-    (same_padded e.bytes d.bytes sizes second.1)
+    let first = same_stamp e.count d.count (le_bytes 4 (message_header e) ++ padded e.message.bytes) (le_bytes 4 (message_header d) ++ padded d.message.bytes) fe.count fd.count same in
+    let second = same_u32 (message_header e) (message_header d) (padded e.message.bytes) (padded d.message.bytes)
+    (message_header-fits e.message.data_error e.message.format e.message.sub (length e.message.bytes) fe.sub fe.bytes) (message_header-fits d.message.data_error d.message.format d.message.sub (length d.message.bytes) fd.sub fd.bytes) first.1 in
+    let sizes : length e.message.bytes ≡ length d.message.bytes =
+    sym (message_header-low e.message.data_error e.message.format e.message.sub (length e.message.bytes) fe.bytes) ∙ ap (λ h. h % 65536) second.0 ∙ message_header-low d.message.data_error d.message.format d.message.sub (length d.message.bytes) fd.bytes in
+    same_message_fields e.count d.count e.message.data_error d.message.data_error e.message.format d.message.format e.message.sub d.message.sub e.message.bytes d.message.bytes first.0
+    (sym (header-data_error e.message.data_error e.message.format e.message.sub (length e.message.bytes) fe.sub fe.bytes) ∙ ap (λ h. nat_eq (h / 2147483648) 1) second.0 ∙ header-data_error d.message.data_error d.message.format d.message.sub (length d.message.bytes) fd.sub fd.bytes)
+    (sym (header-format e.message.data_error e.message.format e.message.sub (length e.message.bytes) fe.sub fe.bytes) ∙ ap (λ h. nat_eq (h / 1073741824 % 2) 1) second.0 ∙ header-format d.message.data_error d.message.format d.message.sub (length d.message.bytes) fd.sub fd.bytes)
+    (sym (message_header-sub e.message.data_error e.message.format e.message.sub (length e.message.bytes) fe.sub fe.bytes) ∙ ap (λ h. h / 65536 % 16384) second.0 ∙ message_header-sub d.message.data_error d.message.format d.message.sub (length d.message.bytes) fd.sub fd.bytes)
+    (same_padded e.message.bytes d.message.bytes sizes second.1)
 
 abbrev pub message_form : Form MessageEntry
 message_form = record {

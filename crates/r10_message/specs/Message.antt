@@ -6,6 +6,7 @@ use Rattle.r10_count.specs.Count.{IsCount, stamp}
 use Rattle.r10_count.specs.Form.{IsEntryBytes}
 use Rattle.r10_count.specs.Padding.{padded}
 use Rattle.r10_count.specs.Texts.{told_size}
+use Rattle.r10_message.specs.declared.data.DataMessage.{DataMessage}
 use Rattle.r10_message.specs.declared.entry.MessageEntry.{MessageEntry}
 use Rattle.r10_message.specs.declared.header.MessageHeader.{MessageHeader}
 
@@ -24,7 +25,7 @@ pub record FitsHeader (h : MessageHeader) : Type 0 where
 
 -- the header of an entry
 abbrev pub header_of : MessageEntry → MessageHeader
-header_of e = record { data_error = e.data_error; format = e.format; sub = e.sub; length = length e.bytes }
+header_of e = record { data_error = e.message.data_error; format = e.message.format; sub = e.message.sub; length = length e.message.bytes }
 
 -- and its bits
 abbrev pub message_header : MessageEntry → ℕ
@@ -32,23 +33,28 @@ message_header e = header_bits (header_of e)
 
 -- a zero byte stands after an odd number of bytes
 abbrev pub message_entry : MessageEntry → List ℕ
-message_entry e = stamp e.count ++ le_bytes 4 (message_header e) ++ padded e.bytes
+message_entry e = stamp e.count ++ le_bytes 4 (message_header e) ++ padded e.message.bytes
 
 -- the length of an entry in the body
 abbrev pub message_entry_size : MessageEntry → ℕ
-message_entry_size e = 12 + length e.bytes + length e.bytes % 2
+message_entry_size e = 12 + length e.message.bytes + length e.message.bytes % 2
 
 abbrev pub message_body : List MessageEntry → List ℕ
 message_body entries = message_word (length entries) ++ flat_map message_entry entries
 
+-- a message at a count
+abbrev pub message_at : ℕ → DataMessage → MessageEntry
+message_at count m = record { count = count; message = m }
+
 abbrev pub message_of : ℕ → Bool → Bool → ℕ → List ℕ → MessageEntry
-message_of count data_error format sub bytes = record { count = count; data_error = data_error; format = format; sub = sub; bytes = bytes }
+message_of count data_error format sub bytes =
+    message_at count (record { data_error = data_error; format = format; sub = sub; bytes = bytes })
 
 -- the ranges of the fields
 pub record FitsMessage (e : MessageEntry) : Type 0 where
   pub count : IsCount e.count
-  pub sub : e.sub < 2 ^ 14
-  pub bytes : length e.bytes < 2 ^ 16
+  pub sub : e.message.sub < 2 ^ 14
+  pub bytes : length e.message.bytes < 2 ^ 16
 
 -- the messages of one packet: there is one, and there are no more than the word's 16 bits count
 pub record FitsMessageBody (entries : List MessageEntry) : Type 0 where

@@ -2,8 +2,9 @@
 
 ghost use Rattle.std.specs.Prelude.{◌≡◌, ◌↔◌, ◌^◌, ◌<◌, IsTrue, length};
 ghost use Rattle.r10_count.specs.Append.{Appends};
-ghost use Rattle.r10_message.specs.Message.{FitsMessage, message_entry, message_of, message_word};
+ghost use Rattle.r10_message.specs.Message.{FitsMessage, message_at, message_entry, message_word};
 
+use crate::data::DataMessage;
 use crate::header::MessageHeader;
 use r10_count::{BodyEntry, Bytes, Count, append_text, split_u32, strip_padding};
 use std::alloc::{AllocError, Global};
@@ -13,14 +14,7 @@ use std::alloc::{AllocError, Global};
 pub struct MessageEntry {
     /// The count of its first data, in units of 100 ns.
     pub count: Count,
-    /// A data error came in it.
-    pub data_error: bool,
-    /// A format error came in it.
-    pub format: bool,
-    /// The subchannel, below 16,384.
-    pub sub: u16,
-    /// At most 65,535 bytes.
-    pub bytes: Bytes,
+    pub message: DataMessage,
 }
 
 impl MessageEntry {
@@ -29,7 +23,7 @@ impl MessageEntry {
         ensures { IsTrue result ↔ FitsMessage self.now }
     {
         let _ = self.count.get();
-        self.sub < 0x4000 && self.bytes.len() < 0x1_0000
+        self.message.sub < 0x4000 && self.message.bytes.len() < 0x1_0000
     }
 }
 
@@ -41,28 +35,22 @@ pub fn channel_word(messages: u16) -> [u8; 4]
     u32::from(messages).to_le_bytes()
 }
 
-/// Adds the bytes of one message from its parts: a stamp of 8 bytes, a header of 4, the bytes, and
+/// Adds the bytes of one message at a count: a stamp of 8 bytes, a header of 4, the bytes, and
 /// a zero byte where their number is odd. Where memory is refused, nothing is added.
 /// Source: IRIG 106-17 chapter 11, message data packets, format 0.
 #[inline(always)]
-pub fn push_entry(
-    out: &mut Vec<u8>,
-    count: Count,
-    data_error: bool,
-    format: bool,
-    sub: u16,
-    bytes: &Bytes,
-) -> Result<(), AllocError>
-    requires sub { sub < 2 ^ 14 }
-    requires bytes { length bytes.now < 2 ^ 16 }
-    ensures { Appends (message_entry (message_of count data_error format sub bytes.now)) out.old out.new result }
+pub fn push_entry(out: &mut Vec<u8>, count: Count, message: &DataMessage) -> Result<(), AllocError>
+    requires sub { message.now.sub < 2 ^ 14 }
+    requires bytes { length message.now.bytes < 2 ^ 16 }
+    ensures { Appends (message_entry (message_at count message.now)) out.old out.new result }
 {
     let stamp = count.stamp();
+    let bytes = &message.bytes;
     let length = bytes.len();
     let header = MessageHeader {
-        data_error,
-        format,
-        sub,
+        data_error: message.data_error,
+        format: message.format,
+        sub: message.sub,
         length,
     };
     append_text(out, stamp, header.bits().to_le_bytes(), bytes)
@@ -108,19 +96,12 @@ impl BodyEntry for MessageEntry {
 
     fn size(&self, before: u64) -> usize {
         let _ = before;
-        12 + self.bytes.len() + self.bytes.len() % 2
+        12 + self.message.bytes.len() + self.message.bytes.len() % 2
     }
 
     fn encode_into(&self, before: u64, out: &mut Vec<u8>) -> Result<(), AllocError> {
         let _ = before;
-        push_entry(
-            out,
-            self.count,
-            self.data_error,
-            self.format,
-            self.sub,
-            &self.bytes,
-        )
+        push_entry(out, self.count, &self.message)
     }
 
     fn read(alloc: Global, before: u64, bytes: &[u8]) -> Result<Option<MessageEntry>, AllocError> {
@@ -135,12 +116,12 @@ impl BodyEntry for MessageEntry {
         let Some(text) = strip_padding(rest, parts.length) else {
             return Ok(None);
         };
-        Ok(Some(MessageEntry {
-            count,
+        let message = DataMessage {
             data_error: parts.data_error,
             format: parts.format,
             sub: parts.sub,
             bytes: Bytes::copy_of(alloc, text)?,
-        }))
+        };
+        Ok(Some(MessageEntry { count, message }))
     }
 }

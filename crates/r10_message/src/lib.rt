@@ -3,9 +3,11 @@
 #![tactic(auto)]
 
 mod body;
+mod data;
 mod entry;
 mod header;
 
 pub use body::MessageBody;
+pub use data::DataMessage;
 pub use entry::{MessageEntry, channel_word, push_entry};
 pub use header::MessageHeader;

@@ -50,15 +50,15 @@ bus_glimpse setting before bytes text rest count status gap size lc named lg mos
 -- a message that stands there has this status and so many bytes of words
 pub bus_told : (bytes text rest left : List ℕ) (count status gap size : ℕ) (e : BusEntry) → IsCount count → status < 2 ^ 16 → gap < 2 ^ 16 → size < 2 ^ 16
     → bytes ≡ stamp count ++ le_bytes 2 status ++ le_bytes 2 gap ++ le_bytes 2 size ++ text ++ rest → FitsBus e → bytes ≡ bus_entry e ++ left
-    → (status ≡ e.status) × (size ≡ 2 * length e.words)
+    → (status ≡ e.message.status) × (size ≡ 2 * length e.message.words)
 bus_told bytes text rest left count status gap size e lc ls lg lz is fits other =
     let few = fits.few in
-    let words = words_low_first e.words ++ left in
-    let counts = same_stamp count e.count (le_bytes 2 status ++ le_bytes 2 gap ++ le_bytes 2 size ++ text ++ rest) (le_bytes 2 e.status ++ le_bytes 2 e.gap ++ le_bytes 2 (2 * length e.words) ++ words)
+    let words = words_low_first e.message.words ++ left in
+    let counts = same_stamp count e.count (le_bytes 2 status ++ le_bytes 2 gap ++ le_bytes 2 size ++ text ++ rest) (le_bytes 2 e.message.status ++ le_bytes 2 e.message.gap ++ le_bytes 2 (2 * length e.message.words) ++ words)
     lc fits.count (sym is ∙ other) in
-    let statuses = same_u16 status e.status (le_bytes 2 gap ++ le_bytes 2 size ++ text ++ rest) (le_bytes 2 e.gap ++ le_bytes 2 (2 * length e.words) ++ words) ls (status-fits e.status fits.status) counts.1 in
-    let gaps = same_u16 gap e.gap (le_bytes 2 size ++ text ++ rest) (le_bytes 2 (2 * length e.words) ++ words) lg fits.gap statuses.1 in
-    let sizes = same_u16 size (2 * length e.words) (text ++ rest) words lz (omega arith) gaps.1 in
+    let statuses = same_u16 status e.message.status (le_bytes 2 gap ++ le_bytes 2 size ++ text ++ rest) (le_bytes 2 e.message.gap ++ le_bytes 2 (2 * length e.message.words) ++ words) ls (status-fits e.message.status fits.status) counts.1 in
+    let gaps = same_u16 gap e.message.gap (le_bytes 2 size ++ text ++ rest) (le_bytes 2 (2 * length e.message.words) ++ words) lg fits.gap statuses.1 in
+    let sizes = same_u16 size (2 * length e.message.words) (text ++ rest) words lz (omega arith) gaps.1 in
     (statuses.0, sizes.0)
 
 -- ---- bytes are below 256

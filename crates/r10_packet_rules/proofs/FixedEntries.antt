@@ -22,7 +22,7 @@ bit_part part (suc (suc n)) lt = absurd (omega (arith, lt))
 
 -- the entry that a header and a word make at a count
 abbrev pub arinc_of : ℕ → ℕ → ℕ → ArincEntry
-arinc_of count header word = record { count = count; bus = header / 16777216; format = bit_of 23 header; parity = bit_of 22 header; high = bit_of 21 header; word = word }
+arinc_of count header word = record { count = count; message = record { bus = header / 16777216; format = bit_of 23 header; parity = bit_of 22 header; high = bit_of 21 header; word = word } }
 
 header_of : (count header word : ℕ) → arinc_header (header % 2097152) (arinc_of count header word) ≡ header
 header_of count header word =
@@ -78,8 +78,8 @@ pub arinc_told : (before : ℕ) (bytes rest left : List ℕ) (header word : ℕ)
 arinc_told before bytes rest left header word e lt is fits other =
     let soon : e.count - before ≤ 1000000 = omega (arith, fits.soon.0, fits.soon.1) in
     let gap = e.count - before in
-    let same = same_u32 header (arinc_header gap e) (le_bytes 4 word ++ rest) (le_bytes 4 e.word ++ left) lt (header_fits e.format e.parity e.high e.bus gap fits.fields.bus soon) (sym is ∙ other) in
-    let low : header % 2097152 ≡ gap = ap (λ h. h % 2097152) same.0 ∙ low_header e.format e.parity e.high e.bus gap soon in
+    let same = same_u32 header (arinc_header gap e) (le_bytes 4 word ++ rest) (le_bytes 4 e.message.word ++ left) lt (header_fits e.message.format e.message.parity e.message.high e.message.bus gap fits.fields.bus soon) (sym is ∙ other) in
+    let low : header % 2097152 ≡ gap = ap (λ h. h % 2097152) same.0 ∙ low_header e.message.format e.message.parity e.message.high e.message.bus gap soon in
     (omega (arith, low, soon), omega (arith, low, fits.soon.0))
 
 -- ---- changes of discretes
@@ -89,14 +89,14 @@ pub discrete_glimpse : (setting before : ℕ) (bytes rest : List ℕ) (count sta
     → bytes ≡ stamp count ++ le_bytes 4 states ++ rest
     → (e : DiscreteEntry) × IsGlimpse discrete_form discrete_kind.said setting before (discrete_entry e) (record { count = count; cost = 116 }) e × (bytes ≡ discrete_entry e ++ rest)
 discrete_glimpse setting before bytes rest count states lc lt only is = (
-  record { count = count; states = states },
+  record { count = count; message = record { states = states } },
   record { fits = record { count = lc; states = lt }; suits = only; spelled = refl; count = refl; same = refl; cost = refl; cheap = omega arith },
   is,
 )
 
 -- a change that stands there has these states
 pub discrete_told : (bytes rest left : List ℕ) (count states : ℕ) (e : DiscreteEntry) → IsCount count → states < 2 ^ 32 → bytes ≡ stamp count ++ le_bytes 4 states ++ rest
-    → FitsFields e → bytes ≡ discrete_entry e ++ left → states ≡ e.states
+    → FitsFields e → bytes ≡ discrete_entry e ++ left → states ≡ e.message.states
 discrete_told bytes rest left count states e lc lt is fits other =
-    let first = same_stamp count e.count (le_bytes 4 states ++ rest) (le_bytes 4 e.states ++ left) lc fits.count (sym is ∙ other) in
-    (same_u32 states e.states rest left lt fits.states first.1).0
+    let first = same_stamp count e.count (le_bytes 4 states ++ rest) (le_bytes 4 e.message.states ++ left) lc fits.count (sym is ∙ other) in
+    (same_u32 states e.message.states rest left lt fits.states first.1).0

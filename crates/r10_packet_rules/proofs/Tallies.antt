@@ -122,11 +122,11 @@ pub content_cheap : (counter : ℕ) (c : Content) → sum_by timed_cost (message
 content_cheap counter (setup text) = omega arith
 content_cheap counter (time civil) = omega arith
 content_cheap counter (event e) = omega arith
-content_cheap counter (uart es) = omega (arith, uart_length es, entries_cheap uart_entry_size (λ e. timed e.count (messages.Uart e.parity e.sub e.bytes)) (λ e. omega arith) es)
-content_cheap counter (bus es) = omega (arith, bus_length es, entries_cheap bus_entry_size (λ e. timed e.count (messages.Bus1553 e.status e.gap e.words)) (λ e. omega arith) es)
-content_cheap counter (arinc es) = omega (arith, arinc_length counter es, same_sizes 8 es, entries_cheap (λ e. 8) (λ e. timed e.count (messages.Arinc e.bus e.format e.parity e.high e.word)) (λ e. omega arith) es)
-content_cheap counter (discrete bits es) = omega (arith, discrete_length bits es, same_sizes 12 es, entries_cheap (λ e. 12) (λ e. timed e.count (messages.Discrete e.states)) (λ e. omega arith) es)
-content_cheap counter (message es) = omega (arith, message_length es, entries_cheap message_entry_size (λ e. timed e.count (messages.Message e.data_error e.format e.sub e.bytes)) (λ e. omega arith) es)
+content_cheap counter (uart es) = omega (arith, uart_length es, entries_cheap uart_entry_size (λ e. timed e.count (messages.Uart e.message)) (λ e. omega arith) es)
+content_cheap counter (bus es) = omega (arith, bus_length es, entries_cheap bus_entry_size (λ e. timed e.count (messages.Bus1553 e.message)) (λ e. omega arith) es)
+content_cheap counter (arinc es) = omega (arith, arinc_length counter es, same_sizes 8 es, entries_cheap (λ e. 8) (λ e. timed e.count (messages.Arinc e.message)) (λ e. omega arith) es)
+content_cheap counter (discrete bits es) = omega (arith, discrete_length bits es, same_sizes 12 es, entries_cheap (λ e. 12) (λ e. timed e.count (messages.Discrete e.message)) (λ e. omega arith) es)
+content_cheap counter (message es) = omega (arith, message_length es, entries_cheap message_entry_size (λ e. timed e.count (messages.Message e.message)) (λ e. omega arith) es)
 content_cheap counter (node es) = omega arith
 content_cheap counter (root es) = omega arith
 content_cheap counter (report loss) = omega arith

@@ -32,11 +32,11 @@ none_at : (q : ℕ) (p : Packet) (c : Content) → type_of c == 2 ≡ false → 
 none_at q p (setup text) e = refl
 none_at q p (time civil) e = refl
 none_at q p (event one) e = absurd (let no : true ≡ false = e in cc)
-none_at q p (uart es) e = none_of (λ d. timed d.count (messages.Uart d.parity d.sub d.bytes)) q p.channel p.gap es (λ d g. refl)
-none_at q p (bus es) e = none_of (λ d. timed d.count (messages.Bus1553 d.status d.gap d.words)) q p.channel p.gap es (λ d g. refl)
-none_at q p (arinc es) e = none_of (λ d. timed d.count (messages.Arinc d.bus d.format d.parity d.high d.word)) q p.channel p.gap es (λ d g. refl)
-none_at q p (discrete bits es) e = none_of (λ d. timed d.count (messages.Discrete d.states)) q p.channel p.gap es (λ d g. refl)
-none_at q p (message es) e = none_of (λ d. timed d.count (messages.Message d.data_error d.format d.sub d.bytes)) q p.channel p.gap es (λ d g. refl)
+none_at q p (uart es) e = none_of (λ d. timed d.count (messages.Uart d.message)) q p.channel p.gap es (λ d g. refl)
+none_at q p (bus es) e = none_of (λ d. timed d.count (messages.Bus1553 d.message)) q p.channel p.gap es (λ d g. refl)
+none_at q p (arinc es) e = none_of (λ d. timed d.count (messages.Arinc d.message)) q p.channel p.gap es (λ d g. refl)
+none_at q p (discrete bits es) e = none_of (λ d. timed d.count (messages.Discrete d.message)) q p.channel p.gap es (λ d g. refl)
+none_at q p (message es) e = none_of (λ d. timed d.count (messages.Message d.message)) q p.channel p.gap es (λ d g. refl)
 none_at q p (node es) e = refl
 none_at q p (root es) e = refl
 none_at q p (report loss) e = refl
@@ -114,11 +114,11 @@ in_packets packets builders entries q same none = omega (arith, same_events (tak
 -- ---- a sample that its channel takes is none
 
 plain_at : (kind : Kind) (q : ℕ) (e : Entry) (m : Message) → e.message ≡ m → is_kind kind m ≡ true → count_by (is_event_of q) (e ∷ []) ≡ 0
-plain_at kind q e (messages.Uart parity sub bytes) same is = rw same refl
-plain_at kind q e (messages.Bus1553 status gap words) same is = rw same refl
-plain_at kind q e (messages.Arinc line format parity high word) same is = rw same refl
-plain_at kind q e (messages.Discrete states) same is = rw same refl
-plain_at kind q e (messages.Message data_error format sub bytes) same is = rw same refl
+plain_at kind q e (messages.Uart m) same is = rw same refl
+plain_at kind q e (messages.Bus1553 m) same is = rw same refl
+plain_at kind q e (messages.Arinc m) same is = rw same refl
+plain_at kind q e (messages.Discrete m) same is = rw same refl
+plain_at kind q e (messages.Message m) same is = rw same refl
 plain_at kind q e (messages.Time civil) same is = rw same refl
 plain_at kinds.Uart q e (messages.Event n o) same is = absurd (false≢true is)
 plain_at kinds.Bus1553 q e (messages.Event n o) same is = absurd (false≢true is)

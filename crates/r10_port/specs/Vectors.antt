@@ -4,12 +4,12 @@ use Rattle.std.proofs.Common.{lit<, lit≤, arith}
 use Rattle.std.specs.declared.alloc.Global.{Global}
 use Rattle.rtrb.specs.Ends.{capacity_of}
 use Rattle.rtrb.specs.declared.end.End.{End}
+use Rattle.r10_body.specs.Messages.{discrete_message, uart_message}
 use Rattle.r10_body.specs.declared.entry.Sample.{Sample}
 use Rattle.r10_body.specs.declared.gap.Gap.{Gap}
 use Rattle.r10_body.specs.declared.gap.Gap.TheVariants.{Whole, Lost}
 use Rattle.r10_body.specs.declared.message.Kind.TheVariants as kinds
 use Rattle.r10_body.specs.declared.message.Message.{Message}
-use Rattle.r10_body.specs.declared.message.Message.TheVariants.{Uart, Discrete}
 use Rattle.r10_body.specs.declared.refusal.Refusal.TheVariants.{WrongKind, BadMessage, CountBack, Overflow}
 use Rattle.r10_body.specs.declared.spec.ChannelSpec.{ChannelSpec}
 use Rattle.r10_machine.specs.Machine.{fresh_lane}
@@ -23,7 +23,7 @@ abbrev channel : ChannelSpec
 channel = record { id = 5; kind = kinds.Uart; capacity = 2; check = 0; bytes = 524288; number = 65535; bits = 0 }
 
 abbrev text : ℕ → Message
-text byte = Uart false 0 (byte ∷ [])
+text byte = uart_message false 0 (byte ∷ [])
 
 abbrev sample : ℕ → ℕ → Gap → Sample
 sample count byte gap = record { count = count; message = text byte; gap = gap }
@@ -93,10 +93,10 @@ module _ (ring : Ring) where
   one_is_left = refl
 
   -- the kind is looked at before the message, the message before its length, and the count last; none of them is a loss
-  a_wrong_kind : Offered full 1 (Discrete 0) (Err WrongKind) full
+  a_wrong_kind : Offered full 1 (discrete_message 0) (Err WrongKind) full
   a_wrong_kind = (refl, refl)
 
-  a_bad_message : Offered full 1 (Uart false 16384 []) (Err BadMessage) full
+  a_bad_message : Offered full 1 (uart_message false 16384 []) (Err BadMessage) full
   a_bad_message = (refl, refl)
 
   a_count_back : Offered full 1 (text 0x43) (Err CountBack) full

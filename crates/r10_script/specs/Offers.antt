@@ -13,26 +13,26 @@ use Rattle.r10_script.specs.Kinds.{kind_word, offer_keys}
 
 -- the keys of a message of each kind; no step gives a time or an event
 abbrev pub AreMessageKeys : Members → Message → Type 0
-AreMessageKeys table (messages.Uart parity sub bytes) =
-    (flag_or_false_at table (codes "parity") ≡ Some parity)
-    × (integer_or_zero_at table (codes "sub") ≡ Some (pos sub))
-    × (bytes_or_none_at table (codes "bytes") ≡ Some bytes)
-AreMessageKeys table (messages.Bus1553 status gap words) =
-    (integer_or_zero_at table (codes "status") ≡ Some (pos status))
-    × (integer_or_zero_at table (codes "gap") ≡ Some (pos gap))
-    × (bytes_or_none_at table (codes "words") ≡ Some (words_high_first words))
-AreMessageKeys table (messages.Arinc bus format parity high word) =
-    (integer_or_zero_at table (codes "bus") ≡ Some (pos bus))
-    × (flag_or_false_at table (codes "format") ≡ Some format)
-    × (flag_or_false_at table (codes "parity") ≡ Some parity)
-    × (flag_or_false_at table (codes "high") ≡ Some high)
-    × (integer_or_zero_at table (codes "data") ≡ Some (pos word))
-AreMessageKeys table (messages.Discrete states) = integer_or_zero_at table (codes "states") ≡ Some (pos states)
-AreMessageKeys table (messages.Message data_error format sub bytes) =
-    (flag_or_false_at table (codes "data") ≡ Some data_error)
-    × (flag_or_false_at table (codes "format") ≡ Some format)
-    × (integer_or_zero_at table (codes "sub") ≡ Some (pos sub))
-    × (bytes_or_none_at table (codes "bytes") ≡ Some bytes)
+AreMessageKeys table (messages.Uart m) =
+    (flag_or_false_at table (codes "parity") ≡ Some m.parity)
+    × (integer_or_zero_at table (codes "sub") ≡ Some (pos m.sub))
+    × (bytes_or_none_at table (codes "bytes") ≡ Some m.bytes)
+AreMessageKeys table (messages.Bus1553 m) =
+    (integer_or_zero_at table (codes "status") ≡ Some (pos m.status))
+    × (integer_or_zero_at table (codes "gap") ≡ Some (pos m.gap))
+    × (bytes_or_none_at table (codes "words") ≡ Some (words_high_first m.words))
+AreMessageKeys table (messages.Arinc m) =
+    (integer_or_zero_at table (codes "bus") ≡ Some (pos m.bus))
+    × (flag_or_false_at table (codes "format") ≡ Some m.format)
+    × (flag_or_false_at table (codes "parity") ≡ Some m.parity)
+    × (flag_or_false_at table (codes "high") ≡ Some m.high)
+    × (integer_or_zero_at table (codes "data") ≡ Some (pos m.word))
+AreMessageKeys table (messages.Discrete m) = integer_or_zero_at table (codes "states") ≡ Some (pos m.states)
+AreMessageKeys table (messages.Message m) =
+    (flag_or_false_at table (codes "data") ≡ Some m.data_error)
+    × (flag_or_false_at table (codes "format") ≡ Some m.format)
+    × (integer_or_zero_at table (codes "sub") ≡ Some (pos m.sub))
+    × (bytes_or_none_at table (codes "bytes") ≡ Some m.bytes)
 AreMessageKeys table (messages.Time civil) = ⊥
 AreMessageKeys table (messages.Event number count) = ⊥
 

@@ -10,7 +10,9 @@ ghost use Rattle.r10_script.specs.Offers.{IsOffered, AreValues, offered_word};
 
 use crate::settings::kind_of;
 use crate::table::Fields;
-use r10_body::{ChannelSpec, Kind, Message};
+use r10_body::{
+    ArincMessage, BusMessage, ChannelSpec, DataMessage, DiscreteMessage, Kind, Message, UartMessage,
+};
 use r10_count::{Bytes, Items};
 use r10_text::{ScriptFault, Wrong};
 
@@ -102,7 +104,7 @@ fn uart_of(fields: Fields<'_>) -> Result<Message, ScriptFault>
     let parity = fields.truth_or_false("parity")?;
     let sub = fields.short_or_zero("sub")?;
     let bytes = Bytes::of(fields.bytes_or_none("bytes")?);
-    Ok(Message::Uart { parity, sub, bytes })
+    Ok(Message::Uart(UartMessage { parity, sub, bytes }))
 }
 
 /// A message of a MIL-STD-1553 bus.
@@ -112,27 +114,27 @@ fn bus_of(fields: Fields<'_>) -> Result<Message, ScriptFault>
     let status = fields.short_or_zero("status")?;
     let gap = fields.short_or_zero("gap")?;
     let words = Items::of(fields.words_or_none("words")?);
-    Ok(Message::Bus1553 { status, gap, words })
+    Ok(Message::Bus1553(BusMessage { status, gap, words }))
 }
 
 /// A word of an ARINC 429 bus.
 fn arinc_of(fields: Fields<'_>) -> Result<Message, ScriptFault>
     ensures { IfOk result (λ message. AreValues kinds.Arinc (table_view fields.entry.table.now) message) }
 {
-    Ok(Message::Arinc {
+    Ok(Message::Arinc(ArincMessage {
         bus: fields.byte_or_zero("bus")?,
         format: fields.truth_or_false("format")?,
         parity: fields.truth_or_false("parity")?,
         high: fields.truth_or_false("high")?,
         word: fields.long_or_zero("data")?,
-    })
+    }))
 }
 
 fn discrete_of(fields: Fields<'_>) -> Result<Message, ScriptFault>
     ensures { IfOk result (λ message. AreValues kinds.Discrete (table_view fields.entry.table.now) message) }
 {
     let states = fields.long_or_zero("states")?;
-    Ok(Message::Discrete { states })
+    Ok(Message::Discrete(DiscreteMessage { states }))
 }
 
 /// A message of a message channel.
@@ -143,10 +145,10 @@ fn bytes_of(fields: Fields<'_>) -> Result<Message, ScriptFault>
     let format = fields.truth_or_false("format")?;
     let sub = fields.short_or_zero("sub")?;
     let bytes = Bytes::of(fields.bytes_or_none("bytes")?);
-    Ok(Message::Message {
+    Ok(Message::Message(DataMessage {
         data_error,
         format,
         sub,
         bytes,
-    })
+    }))
 }

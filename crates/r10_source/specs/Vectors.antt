@@ -1,12 +1,12 @@
 -- A source of three messages, pumped to a port that has room for two.
 use Rattle.std.specs.Prelude.{◌≡◌, ℕ, true, false, List, [], ◌∷◌, Option, Some, None, Result, Ok, Err, refl}
 use Rattle.std.proofs.Common.{lit≤}
+use Rattle.r10_body.specs.Messages.{uart_message}
 use Rattle.r10_body.specs.declared.entry.Sample.{Sample}
 use Rattle.r10_body.specs.declared.entry.Timed.{Timed}
 use Rattle.r10_body.specs.declared.gap.Gap.{Gap}
 use Rattle.r10_body.specs.declared.gap.Gap.TheVariants.{Whole, Lost}
 use Rattle.r10_body.specs.declared.message.Kind.TheVariants as kinds
-use Rattle.r10_body.specs.declared.message.Message.TheVariants.{Uart}
 use Rattle.r10_body.specs.declared.refusal.Refusal.{Refusal}
 use Rattle.r10_body.specs.declared.refusal.Refusal.TheVariants.{BadMessage, Overflow}
 use Rattle.r10_body.specs.declared.spec.ChannelSpec.{ChannelSpec}
@@ -22,10 +22,10 @@ abbrev channel : ChannelSpec
 channel = record { id = 5; kind = kinds.Uart; capacity = 2; check = 0; bytes = 524288; number = 65535; bits = 0 }
 
 abbrev timed : ℕ → Timed
-timed count = record { count = count; message = Uart false 0 [] }
+timed count = record { count = count; message = uart_message false 0 [] }
 
 abbrev sample : ℕ → Gap → Sample
-sample count gap = record { count = count; message = Uart false 0 []; gap = gap }
+sample count gap = record { count = count; message = uart_message false 0 []; gap = gap }
 
 abbrev port : Ring → List Sample → Option ℕ → ℕ → ℕ → Sending
 port ring sent last lost free = record {
@@ -41,7 +41,7 @@ abbrev tried : ℕ → Result (Unit {0}) Refusal → Tried
 tried count answer = tries (timed count) answer
 
 -- the first of what is left; nothing yet; nothing at all
-an_item : GivesNext (Item 1 (Uart false 0 [])) (turn 1 ∷ turn 2 ∷ []) (turn 2 ∷ [])
+an_item : GivesNext (Item 1 (uart_message false 0 [])) (turn 1 ∷ turn 2 ∷ []) (turn 2 ∷ [])
 an_item = refl
 
 a_loss : GivesNext (given.Lost 40) (brings.Lost 40 ∷ turn 2 ∷ []) (turn 2 ∷ [])

@@ -1,14 +1,14 @@
 //! Calls for bodies that no program makes: `r10_uart`, `r10_b1553`, `r10_a429`, `r10_discrete`, `r10_message`, `r10_timebody`,
 //! `r10_indexbody`.
 
-use r10_a429::{ArincBody, ArincEntry};
-use r10_b1553::{BusBody, BusEntry};
+use r10_a429::{ArincBody, ArincEntry, ArincMessage};
+use r10_b1553::{BusBody, BusEntry, BusMessage};
 use r10_count::{Civil, Count, Parts, Reading};
-use r10_discrete::{DiscreteBody, DiscreteEntry};
+use r10_discrete::{DiscreteBody, DiscreteEntry, DiscreteMessage};
 use r10_indexbody::{LossBody, NodeBody, NodeEntry, RootBody, RootEntry};
-use r10_message::{MessageBody, MessageEntry};
+use r10_message::{DataMessage, MessageBody, MessageEntry};
 use r10_timebody::TimeBody;
-use r10_uart::{UartBody, UartEntry};
+use r10_uart::{UartBody, UartEntry, UartMessage};
 use std::alloc::{AllocError, Global};
 use std::test::Fail;
 
@@ -62,9 +62,7 @@ fn said_of_uart(body: &UartBody) -> u64 {
     let [
         UartEntry {
             count,
-            parity,
-            sub,
-            bytes,
+            message: UartMessage { parity, sub, bytes },
         },
     ] = body.entries.as_slice()
     else {
@@ -92,9 +90,7 @@ fn said_of_bus(body: &BusBody) -> u64 {
     let [
         BusEntry {
             count,
-            status,
-            gap,
-            words,
+            message: BusMessage { status, gap, words },
         },
     ] = body.entries.as_slice()
     else {
@@ -122,11 +118,13 @@ fn said_of_arinc(body: &ArincBody) -> u64 {
     let [
         ArincEntry {
             count,
-            bus,
-            format,
-            parity,
-            high,
-            word,
+            message: ArincMessage {
+                bus,
+                format,
+                parity,
+                high,
+                word,
+            },
         },
     ] = body.entries.as_slice()
     else {
@@ -151,7 +149,13 @@ fn discrete(alloc: Global) -> Result<(Vec<u8>, usize, u64), AllocError> {
 }
 
 fn said_of_discrete(body: &DiscreteBody) -> u64 {
-    let [DiscreteEntry { count, states }] = body.entries.as_slice() else {
+    let [
+        DiscreteEntry {
+            count,
+            message: DiscreteMessage { states },
+        },
+    ] = body.entries.as_slice()
+    else {
         return 0;
     };
     if body.bits == 8 && *states == 0x81 {
@@ -176,10 +180,12 @@ fn said_of_message(body: &MessageBody) -> u64 {
     let [
         MessageEntry {
             count,
-            data_error,
-            format,
-            sub,
-            bytes,
+            message: DataMessage {
+                data_error,
+                format,
+                sub,
+                bytes,
+            },
         },
     ] = body.entries.as_slice()
     else {

@@ -6,7 +6,7 @@ ghost use Rattle.r10_held.specs.LockFact.{outlet_received, outlet_spec};
 ghost use Rattle.r10_held.specs.Naming.{AreNamed};
 ghost use Rattle.r10_medium.specs.MemoryDisk.{memory_disk};
 
-use r10_body::{ChannelSpec, Kind, Message};
+use r10_body::{ChannelSpec, Kind, Message, UartMessage};
 use r10_control::Recorder;
 use r10_count::{Bytes, Count, Parts};
 use r10_held::{Gauged, new_recorders_account_for_their_lanes};
@@ -119,11 +119,11 @@ pub fn cabinet_of<N: Rings>(gauged: Gauged<Memory>) -> (Cabinet<Memory, N>, Pass
 
 /// Offers a message of a byte at the count 1001, which the lane has room for.
 pub fn offer(alloc: Global, port: &mut Port) -> Result<(), Fail> {
-    let message = Message::Uart {
+    let message = Message::Uart(UartMessage {
         parity: false,
         sub: 0,
         bytes: Bytes::copy_of(alloc, b"A")?,
-    };
+    });
     let count = Count::of(1001).ok_or("no count")?;
     match port.offer(count, message) {
         Ok(_) => Ok(()),

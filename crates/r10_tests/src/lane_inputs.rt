@@ -1,6 +1,6 @@
 // What the tests send.
 
-use r10_body::{ChannelSpec, Kind, Message};
+use r10_body::{ChannelSpec, Kind, Message, UartMessage};
 use r10_count::{Bytes, Count};
 use std::alloc::Global;
 
@@ -17,11 +17,11 @@ pub const CHANNEL: ChannelSpec = ChannelSpec {
 
 /// A message without bytes, which takes no memory.
 pub fn empty(alloc: Global) -> Message {
-    Message::Uart {
+    Message::Uart(UartMessage {
         parity: false,
         sub: 0,
         bytes: Bytes::of(Vec::new(alloc)),
-    }
+    })
 }
 
 /// The count of the lowest 32 bits.

@@ -1,6 +1,6 @@
 //! The order of a replay: `r10_machine`.
 
-use r10_body::{Entry, Gap, Message};
+use r10_body::{Entry, Gap, Message, UartMessage};
 use r10_count::{Bytes, Count};
 use r10_machine::instalment;
 use std::alloc::{AllocError, Global};
@@ -18,11 +18,11 @@ fn entry(alloc: Global, channel: u16, units: u32) -> Entry {
     Entry {
         channel,
         count: count(units),
-        message: Message::Uart {
+        message: Message::Uart(UartMessage {
             parity: false,
             sub: 0,
             bytes: Bytes::of(Vec::new(alloc)),
-        },
+        }),
         gap: Gap::Whole,
     }
 }

@@ -1,6 +1,6 @@
 // A source that gives what it was made of.
 
-use r10_body::{Message, Timed};
+use r10_body::{Message, Timed, UartMessage};
 use r10_count::{Bytes, Count};
 use r10_shared::StopFlag;
 use r10_source::{ChannelSource, Given, SourceItem};
@@ -53,11 +53,11 @@ impl ListSource {
         let mut left = VecDeque::new(alloc);
         for place in 0..messages {
             let count = Count::of(place.wrapping_add(first)).ok_or("no count")?;
-            let message = Message::Uart {
+            let message = Message::Uart(UartMessage {
                 parity: false,
                 sub: 0,
                 bytes: Bytes::of(Vec::new(alloc)),
-            };
+            });
             left.push_back(SourceItem::Message(Timed { count, message }))?;
         }
         Ok(ListSource { left })

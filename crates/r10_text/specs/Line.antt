@@ -35,13 +35,13 @@ abbrev pub long_text : ℕ → List ℕ
 long_text n = encode_lower (to_be_bytes w32 n)
 
 abbrev pub message_text : Message → List ℕ
-message_text (messages.Uart parity sub bytes) = spaced (codes "uart" ∷ flag_text parity ∷ decimal sub ∷ bytes_text bytes ∷ [])
-message_text (messages.Bus1553 status gap words) = spaced (codes "1553" ∷ word_text status ∷ word_text gap ∷ words_text words ∷ [])
-message_text (messages.Arinc bus format parity high word) =
-    spaced (codes "arinc" ∷ decimal bus ∷ flag_text format ∷ flag_text parity ∷ flag_text high ∷ long_text word ∷ [])
-message_text (messages.Discrete states) = spaced (codes "discrete" ∷ long_text states ∷ [])
-message_text (messages.Message data_error format sub bytes) =
-    spaced (codes "message" ∷ flag_text data_error ∷ flag_text format ∷ decimal sub ∷ bytes_text bytes ∷ [])
+message_text (messages.Uart m) = spaced (codes "uart" ∷ flag_text m.parity ∷ decimal m.sub ∷ bytes_text m.bytes ∷ [])
+message_text (messages.Bus1553 m) = spaced (codes "1553" ∷ word_text m.status ∷ word_text m.gap ∷ words_text m.words ∷ [])
+message_text (messages.Arinc m) =
+    spaced (codes "arinc" ∷ decimal m.bus ∷ flag_text m.format ∷ flag_text m.parity ∷ flag_text m.high ∷ long_text m.word ∷ [])
+message_text (messages.Discrete m) = spaced (codes "discrete" ∷ long_text m.states ∷ [])
+message_text (messages.Message m) =
+    spaced (codes "message" ∷ flag_text m.data_error ∷ flag_text m.format ∷ decimal m.sub ∷ bytes_text m.bytes ∷ [])
 message_text (messages.Time civil) = spaced (codes "time" ∷ civil_text civil ∷ [])
 message_text (messages.Event number count) = spaced (codes "event" ∷ decimal number ∷ decimal count ∷ [])
 

@@ -2,6 +2,7 @@
 use Rattle.std.specs.Prelude.{◌≡◌, ℕ, true, false, [], ◌∷◌, Some, None, codes, refl}
 use Rattle.std.specs.Fmt.{digits}
 use Rattle.hex.specs.Hex.{encode_with}
+use Rattle.r10_body.specs.Messages.{arinc_message, bus_message, data_message, discrete_message, uart_message}
 use Rattle.r10_body.specs.declared.entry.Entry.{Entry}
 use Rattle.r10_body.specs.declared.fault.FileFault.TheVariants as file_faults
 use Rattle.r10_body.specs.declared.gap.Gap.{Gap}
@@ -19,31 +20,31 @@ use Rattle.r10_text.specs.Replies.{mode_text, reply_lines}
 pub two_words-bytes : words_high_first (0x0821 ∷ 0xABCD ∷ []) ≡ 0x08 ∷ 0x21 ∷ 0xAB ∷ 0xCD ∷ []
 two_words-bytes = refl
 
-pub bus-text : message_text (messages.Bus1553 0x2000 0 (0x0821 ∷ 0xABCD ∷ [])) ≡ codes "1553 2000 0000 0821abcd"
+pub bus-text : message_text (bus_message 0x2000 0 (0x0821 ∷ 0xABCD ∷ [])) ≡ codes "1553 2000 0000 0821abcd"
 unfolding encode_with
 bus-text = refl
 
-pub no_words-text : message_text (messages.Bus1553 0 7 []) ≡ codes "1553 0000 0007 -"
+pub no_words-text : message_text (bus_message 0 7 []) ≡ codes "1553 0000 0007 -"
 unfolding encode_with
 no_words-text = refl
 
-pub discrete-text : message_text (messages.Discrete 0x81) ≡ codes "discrete 00000081"
+pub discrete-text : message_text (discrete_message 0x81) ≡ codes "discrete 00000081"
 unfolding encode_with
 discrete-text = refl
 
-pub uart-text : message_text (messages.Uart true 16383 (0x41 ∷ 0xAB ∷ 0x0F ∷ [])) ≡ codes "uart 1 16383 41ab0f"
+pub uart-text : message_text (uart_message true 16383 (0x41 ∷ 0xAB ∷ 0x0F ∷ [])) ≡ codes "uart 1 16383 41ab0f"
 unfolding encode_with digits
 uart-text = refl
 
-pub no_bytes-text : message_text (messages.Uart false 0 []) ≡ codes "uart 0 0 -"
+pub no_bytes-text : message_text (uart_message false 0 []) ≡ codes "uart 0 0 -"
 unfolding digits
 no_bytes-text = refl
 
-pub arinc-text : message_text (messages.Arinc 1 false true false 0x0034567F) ≡ codes "arinc 1 0 1 0 0034567f"
+pub arinc-text : message_text (arinc_message 1 false true false 0x0034567F) ≡ codes "arinc 1 0 1 0 0034567f"
 unfolding encode_with digits
 arinc-text = refl
 
-pub message-text : message_text (messages.Message true false 2 (0x0A ∷ [])) ≡ codes "message 1 0 2 0a"
+pub message-text : message_text (data_message true false 2 (0x0A ∷ [])) ≡ codes "message 1 0 2 0a"
 unfolding encode_with digits
 message-text = refl
 
@@ -129,7 +130,7 @@ failed-text = refl
 
 -- an empty message
 abbrev pub empty_behind : Gap → ℕ → Entry
-empty_behind gap count = record { channel = 5; count = count; message = messages.Uart false 0 []; gap = gap }
+empty_behind gap count = record { channel = 5; count = count; message = uart_message false 0 []; gap = gap }
 
 abbrev pub empty_entry : ℕ → Entry
 empty_entry count = empty_behind Whole count

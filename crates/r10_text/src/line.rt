@@ -32,39 +32,31 @@ fn message_text(alloc: Global, message: &Message) -> Result<String, AllocError>
     ensures { IfOk result (λ text. string_bytes text ≡ message_words message.now) }
 {
     match message {
-        Message::Uart { parity, sub, bytes } => {
-            let parity = flag_text(*parity);
-            let bytes = hex_text(alloc, bytes.as_slice())?;
+        Message::Uart(message) => {
+            let (parity, sub) = (flag_text(message.parity), message.sub);
+            let bytes = hex_text(alloc, message.bytes.as_slice())?;
             format!(in alloc; "uart {parity} {sub} {bytes}")
         }
-        Message::Bus1553 { status, gap, words } => {
-            let (status, gap) = (word_text(alloc, *status)?, word_text(alloc, *gap)?);
-            let words = words_text(alloc, words.as_slice())?;
+        Message::Bus1553(message) => {
+            let status = word_text(alloc, message.status)?;
+            let gap = word_text(alloc, message.gap)?;
+            let words = words_text(alloc, message.words.as_slice())?;
             format!(in alloc; "1553 {status} {gap} {words}")
         }
-        Message::Arinc {
-            bus,
-            format,
-            parity,
-            high,
-            word,
-        } => {
-            let (format, parity, high) = (flag_text(*format), flag_text(*parity), flag_text(*high));
-            let data = long_text(alloc, *word)?;
+        Message::Arinc(message) => {
+            let (bus, format) = (message.bus, flag_text(message.format));
+            let (parity, high) = (flag_text(message.parity), flag_text(message.high));
+            let data = long_text(alloc, message.word)?;
             format!(in alloc; "arinc {bus} {format} {parity} {high} {data}")
         }
-        Message::Discrete { states } => {
-            let states = long_text(alloc, *states)?;
+        Message::Discrete(message) => {
+            let states = long_text(alloc, message.states)?;
             format!(in alloc; "discrete {states}")
         }
-        Message::Message {
-            data_error,
-            format,
-            sub,
-            bytes,
-        } => {
-            let (data, format) = (flag_text(*data_error), flag_text(*format));
-            let bytes = hex_text(alloc, bytes.as_slice())?;
+        Message::Message(message) => {
+            let (data, format) = (flag_text(message.data_error), flag_text(message.format));
+            let sub = message.sub;
+            let bytes = hex_text(alloc, message.bytes.as_slice())?;
             format!(in alloc; "message {data} {format} {sub} {bytes}")
         }
         Message::Time { civil } => {

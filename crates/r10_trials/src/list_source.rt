@@ -1,6 +1,6 @@
 //! A source that gives what it was made of, and what its messages are.
 
-use r10_body::{Gap, Message, Timed};
+use r10_body::{Gap, Message, Timed, UartMessage};
 use r10_count::{Bytes, Count};
 use r10_source::{ChannelSource, Given, SourceItem};
 use std::alloc::{AllocError, Global};
@@ -35,11 +35,11 @@ fn message(alloc: Global, number: u8) -> Result<Timed, AllocError> {
     let Some(count) = Count::of(FIRST + u64::from(number)) else {
         return Err(AllocError);
     };
-    let message = Message::Uart {
+    let message = Message::Uart(UartMessage {
         parity: false,
         sub: 0,
         bytes: Bytes::copy_of(alloc, &[number])?,
-    };
+    });
     Ok(Timed { count, message })
 }
 
@@ -58,7 +58,7 @@ pub fn source(alloc: Global) -> Result<Box<ListSource>, AllocError> {
 /// Whether this is the message of this number, after no overflow.
 pub fn is_message(number: u64, count: Count, message: &Message, gap: Gap) -> bool {
     match message {
-        Message::Uart { parity, sub, bytes } => {
+        Message::Uart(UartMessage { parity, sub, bytes }) => {
             let bytes = bytes.as_slice();
             gap == Gap::Whole
                 && count.get() == FIRST.saturating_add(number)

@@ -1,7 +1,8 @@
 -- A UART body is a body of its form.
-use Rattle.std.proofs.Common.{◌≡◌, ℕ, ◌+◌, ◌<◌, List, [], ◌∷◌, ◌++◌, length, refl, sym, ap, ◌∙◌, arith}
+use Rattle.std.proofs.Common.{◌≡◌, ℕ, ◌+◌, ◌<◌, List, [], ◌∷◌, ◌++◌, length, drop, refl, sym, ap, ◌∙◌, arith}
 use Rattle.std.specs.List.{flat_map, AllByRecursion, sum_by}
 use Rattle.r10_count.specs.Form.{IsBody, IsForeign, FitsAll, OpensAll, SuitsAll, spelled_all, body_bytes}
+use Rattle.r10_count.proofs.Bodies.{one_spelled}
 use Rattle.r10_count.proofs.BodyParts.{first_is}
 use Rattle.r10_count.proofs.Lengths.{sizes_from}
 use Rattle.r10_count.specs.Texts.{told_size}
@@ -48,6 +49,11 @@ pub one_uart_entry : (e d : UartEntry) (x y : List ℕ) → FitsUart e → FitsU
 one_uart_entry e d x y fe fd same =
     let first = first_is 12 told_size (uart_entry e) x (uart_entry d) y (uart_entry-told e fe) (uart_entry-told d fd) same in
     (uart_entry-one e d fe fd first.0, first.1)
+
+-- a body is made of one list of entries
+pub one_uart_body : (es ds : List UartEntry) → AllByRecursion FitsUart es → AllByRecursion FitsUart ds → uart_body es ≡ uart_body ds → es ≡ ds
+one_uart_body es ds fe fd same =
+    one_spelled uart_form 0 es ds (fits_are 0 es fe) (fits_are 0 ds fd) (spelled_is 0 es ∙ ap (drop 4) same ∙ sym (spelled_is 0 ds))
 
 -- a body has its word and the sizes of its entries
 pub body-length : (es : List UartEntry) → length (uart_body es) ≡ 4 + sum_by uart_entry_size es

@@ -27,6 +27,6 @@ entry_read bytes rest behind text count header h lc fits told e1 e2 e3 n =
 pub no_entry : (bytes rest behind text : List ℕ) (count header : ℕ) (e : UartEntry) → IsCount count → header < 2 ^ 32 → ((h : UartHeader) → FitsHeader h → header ≡ header_bits h → ⊥)
     → bytes ≡ stamp count ++ rest → rest ≡ le_bytes 4 header ++ behind → FitsUart e → bytes ≡ uart_entry e ++ text → ⊥
 no_entry bytes rest behind text count header e lc lt none e1 e2 fits is =
-    let first = same_stamp count e.count rest (le_bytes 4 (uart_header e) ++ padded e.bytes ++ text) lc fits.count (sym e1 ∙ is) in
-    let second = same_u32 header (uart_header e) behind (padded e.bytes ++ text) lt (uart_header-fits e.parity e.sub (length e.bytes) fits.sub fits.bytes) (sym e2 ∙ first.1) in
+    let first = same_stamp count e.count rest (le_bytes 4 (uart_header e) ++ padded e.message.bytes ++ text) lc fits.count (sym e1 ∙ is) in
+    let second = same_u32 header (uart_header e) behind (padded e.message.bytes ++ text) lt (uart_header-fits e.message.parity e.message.sub (length e.message.bytes) fits.sub fits.bytes) (sym e2 ∙ first.1) in
     none (header_of e) (record { sub = fits.sub; length = fits.bytes }) second.0

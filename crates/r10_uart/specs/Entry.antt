@@ -11,7 +11,7 @@ use Rattle.r10_uart.specs.Uart.{uart_entry, uart_header, uart_of, uart_entry_siz
 use Rattle.r10_uart.specs.declared.entry.UartEntry.{UartEntry}
 
 pub uart_entry-size : (e : UartEntry) → length (uart_entry e) ≡ uart_entry_size e
-uart_entry-size e = omega (arith, padded-size e.bytes)
+uart_entry-size e = omega (arith, padded-size e.message.bytes)
 
 -- a header has 32 bits, and its fields are read from it
 pub uart_header-fits : (parity : Bool) (sub size : ℕ) → sub < 2 ^ 14 → size < 2 ^ 16 → flag_at 31 parity + 65536 * sub + size < 2 ^ 32
@@ -40,21 +40,21 @@ same_uart_fields m n p q i j s t counts parities subs texts = rw (counts, pariti
 pub uart_entry-told : (e : UartEntry) → FitsUart e → IsEntryBytes 12 told_size (uart_entry e)
 uart_entry-told e fits =
     let size = uart_entry-size e in
-    let head : u32_at (take 12 (uart_entry e)) 8 ≡ uart_header e = from_le_bytes-to_le_bytes_4 (uart_header e) (uart_header-fits e.parity e.sub (length e.bytes) fits.sub fits.bytes) in
-    let low = uart_header-low e.parity e.sub (length e.bytes) fits.bytes in
+    let head : u32_at (take 12 (uart_entry e)) 8 ≡ uart_header e = from_le_bytes-to_le_bytes_4 (uart_header e) (uart_header-fits e.message.parity e.message.sub (length e.message.bytes) fits.sub fits.bytes) in
+    let low = uart_header-low e.message.parity e.message.sub (length e.message.bytes) fits.bytes in
     (omega (arith, size), ap (λ n. Some n) (omega (arith, size, head, low)))
 
 -- no other entry is spelled so
 pub uart_entry-one : (e d : UartEntry) → FitsUart e → FitsUart d → uart_entry e ≡ uart_entry d → e ≡ d
 uart_entry-one e d fe fd same =
-    let first = same_stamp e.count d.count (le_bytes 4 (uart_header e) ++ padded e.bytes) (le_bytes 4 (uart_header d) ++ padded d.bytes) fe.count fd.count same in
-    let second = same_u32 (uart_header e) (uart_header d) (padded e.bytes) (padded d.bytes)
-    (uart_header-fits e.parity e.sub (length e.bytes) fe.sub fe.bytes) (uart_header-fits d.parity d.sub (length d.bytes) fd.sub fd.bytes) first.1 in
-    let sizes : length e.bytes ≡ length d.bytes = sym (uart_header-low e.parity e.sub (length e.bytes) fe.bytes) ∙ ap (λ h. h % 65536) second.0 ∙ uart_header-low d.parity d.sub (length d.bytes) fd.bytes in
-    same_uart_fields e.count d.count e.parity d.parity e.sub d.sub e.bytes d.bytes first.0
-    (sym (header-parity e.parity e.sub (length e.bytes) fe.sub fe.bytes) ∙ ap (λ h. nat_eq (h / 2147483648) 1) second.0 ∙ header-parity d.parity d.sub (length d.bytes) fd.sub fd.bytes)
-    (sym (uart_header-sub e.parity e.sub (length e.bytes) fe.sub fe.bytes) ∙ ap (λ h. h / 65536 % 16384) second.0 ∙ uart_header-sub d.parity d.sub (length d.bytes) fd.sub fd.bytes)
-    (same_padded e.bytes d.bytes sizes second.1)
+    let first = same_stamp e.count d.count (le_bytes 4 (uart_header e) ++ padded e.message.bytes) (le_bytes 4 (uart_header d) ++ padded d.message.bytes) fe.count fd.count same in
+    let second = same_u32 (uart_header e) (uart_header d) (padded e.message.bytes) (padded d.message.bytes)
+    (uart_header-fits e.message.parity e.message.sub (length e.message.bytes) fe.sub fe.bytes) (uart_header-fits d.message.parity d.message.sub (length d.message.bytes) fd.sub fd.bytes) first.1 in
+    let sizes : length e.message.bytes ≡ length d.message.bytes = sym (uart_header-low e.message.parity e.message.sub (length e.message.bytes) fe.bytes) ∙ ap (λ h. h % 65536) second.0 ∙ uart_header-low d.message.parity d.message.sub (length d.message.bytes) fd.bytes in
+    same_uart_fields e.count d.count e.message.parity d.message.parity e.message.sub d.message.sub e.message.bytes d.message.bytes first.0
+    (sym (header-parity e.message.parity e.message.sub (length e.message.bytes) fe.sub fe.bytes) ∙ ap (λ h. nat_eq (h / 2147483648) 1) second.0 ∙ header-parity d.message.parity d.message.sub (length d.message.bytes) fd.sub fd.bytes)
+    (sym (uart_header-sub e.message.parity e.message.sub (length e.message.bytes) fe.sub fe.bytes) ∙ ap (λ h. h / 65536 % 16384) second.0 ∙ uart_header-sub d.message.parity d.message.sub (length d.message.bytes) fd.sub fd.bytes)
+    (same_padded e.message.bytes d.message.bytes sizes second.1)
 
 abbrev pub uart_form : Form UartEntry
 uart_form = record {

@@ -8,6 +8,7 @@ use Rattle.r10_count.specs.Padding.{padded}
 use Rattle.r10_count.specs.Texts.{told_size}
 use Rattle.r10_uart.specs.declared.entry.UartEntry.{UartEntry}
 use Rattle.r10_uart.specs.declared.header.UartHeader.{UartHeader}
+use Rattle.r10_uart.specs.declared.message.UartMessage.{UartMessage}
 
 -- the word says that stamps are present
 abbrev pub uart_word : List ℕ
@@ -24,7 +25,7 @@ pub record FitsHeader (h : UartHeader) : Type 0 where
 
 -- the header of an entry
 abbrev pub header_of : UartEntry → UartHeader
-header_of e = record { parity = e.parity; sub = e.sub; length = length e.bytes }
+header_of e = record { parity = e.message.parity; sub = e.message.sub; length = length e.message.bytes }
 
 -- and its bits
 abbrev pub uart_header : UartEntry → ℕ
@@ -32,23 +33,27 @@ uart_header e = header_bits (header_of e)
 
 -- a zero byte stands after an odd number of bytes
 abbrev pub uart_entry : UartEntry → List ℕ
-uart_entry e = stamp e.count ++ le_bytes 4 (uart_header e) ++ padded e.bytes
+uart_entry e = stamp e.count ++ le_bytes 4 (uart_header e) ++ padded e.message.bytes
 
 -- the length of an entry in the body
 abbrev pub uart_entry_size : UartEntry → ℕ
-uart_entry_size e = 12 + length e.bytes + length e.bytes % 2
+uart_entry_size e = 12 + length e.message.bytes + length e.message.bytes % 2
 
 abbrev pub uart_body : List UartEntry → List ℕ
 uart_body entries = uart_word ++ flat_map uart_entry entries
 
+-- a message at a count
+abbrev pub uart_at : ℕ → UartMessage → UartEntry
+uart_at count m = record { count = count; message = m }
+
 abbrev pub uart_of : ℕ → Bool → ℕ → List ℕ → UartEntry
-uart_of count parity sub bytes = record { count = count; parity = parity; sub = sub; bytes = bytes }
+uart_of count parity sub bytes = uart_at count (record { parity = parity; sub = sub; bytes = bytes })
 
 -- the ranges of the fields
 pub record FitsUart (e : UartEntry) : Type 0 where
   pub count : IsCount e.count
-  pub sub : e.sub < 2 ^ 14
-  pub bytes : length e.bytes < 2 ^ 16
+  pub sub : e.message.sub < 2 ^ 14
+  pub bytes : length e.message.bytes < 2 ^ 16
 
 -- the messages of one packet: there is one
 abbrev pub FitsUartBody : List UartEntry → Type 0

@@ -34,7 +34,8 @@ impl UartBody {
     {
         let mut size = 4;
         for entry in self.entries.as_slice() {
-            size += 12 + entry.bytes.len() + entry.bytes.len() % 2;
+            let bytes = &entry.message.bytes;
+            size += 12 + bytes.len() + bytes.len() % 2;
         }
         size
     }

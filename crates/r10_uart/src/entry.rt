@@ -2,9 +2,10 @@
 
 ghost use Rattle.std.specs.Prelude.{◌≡◌, ◌↔◌, ◌^◌, ◌<◌, IsTrue, length};
 ghost use Rattle.r10_count.specs.Append.{Appends};
-ghost use Rattle.r10_uart.specs.Uart.{FitsUart, uart_entry, uart_of, uart_word};
+ghost use Rattle.r10_uart.specs.Uart.{FitsUart, uart_at, uart_entry, uart_word};
 
 use crate::header::UartHeader;
+use crate::message::UartMessage;
 use r10_count::{BodyEntry, Bytes, Count, append_text, split_u32, strip_padding};
 use std::alloc::{AllocError, Global};
 
@@ -13,12 +14,7 @@ use std::alloc::{AllocError, Global};
 pub struct UartEntry {
     /// The count of its first data, in units of 100 ns.
     pub count: Count,
-    /// A parity error came in it.
-    pub parity: bool,
-    /// The subchannel, below 16,384.
-    pub sub: u16,
-    /// At most 65,535 bytes.
-    pub bytes: Bytes,
+    pub message: UartMessage,
 }
 
 impl UartEntry {
@@ -27,7 +23,7 @@ impl UartEntry {
         ensures { IsTrue result ↔ FitsUart self.now }
     {
         let _ = self.count.get();
-        self.sub < 0x4000 && self.bytes.len() < 0x1_0000
+        self.message.sub < 0x4000 && self.message.bytes.len() < 0x1_0000
     }
 }
 
@@ -39,23 +35,18 @@ pub fn channel_word() -> [u8; 4]
     [0, 0, 0, 0x80]
 }
 
-/// Adds the bytes of one message from its parts: a stamp of 8 bytes, a header of 4, the bytes, and
+/// Adds the bytes of one message at a count: a stamp of 8 bytes, a header of 4, the bytes, and
 /// a zero byte where their number is odd. Where memory is refused, nothing is added.
 /// Source: IRIG 106-17 chapter 11, UART data packets, format 0.
 #[inline(always)]
-pub fn push_entry(
-    out: &mut Vec<u8>,
-    count: Count,
-    parity: bool,
-    sub: u16,
-    bytes: &Bytes,
-) -> Result<(), AllocError>
-    requires sub { sub < 2 ^ 14 }
-    requires bytes { length bytes.now < 2 ^ 16 }
-    ensures { Appends (uart_entry (uart_of count parity sub bytes.now)) out.old out.new result }
+pub fn push_entry(out: &mut Vec<u8>, count: Count, message: &UartMessage) -> Result<(), AllocError>
+    requires sub { message.now.sub < 2 ^ 14 }
+    requires bytes { length message.now.bytes < 2 ^ 16 }
+    ensures { Appends (uart_entry (uart_at count message.now)) out.old out.new result }
 {
-    let flag = if parity { 0x8000_0000 } else { 0 };
-    let header = flag + 0x1_0000 * u32::from(sub) + bytes.len() as u32;
+    let bytes = &message.bytes;
+    let flag = if message.parity { 0x8000_0000 } else { 0 };
+    let header = flag + 0x1_0000 * u32::from(message.sub) + bytes.len() as u32;
     append_text(out, count.stamp(), header.to_le_bytes(), bytes)
 }
 
@@ -100,12 +91,12 @@ impl BodyEntry for UartEntry {
 
     fn size(&self, before: u64) -> usize {
         let _ = before;
-        12 + self.bytes.len() + self.bytes.len() % 2
+        12 + self.message.bytes.len() + self.message.bytes.len() % 2
     }
 
     fn encode_into(&self, before: u64, out: &mut Vec<u8>) -> Result<(), AllocError> {
         let _ = before;
-        push_entry(out, self.count, self.parity, self.sub, &self.bytes)
+        push_entry(out, self.count, &self.message)
     }
 
     fn read(alloc: Global, before: u64, bytes: &[u8]) -> Result<Option<UartEntry>, AllocError> {
@@ -122,11 +113,11 @@ impl BodyEntry for UartEntry {
         let Some(text) = strip_padding(rest, header.length) else {
             return Ok(None);
         };
-        Ok(Some(UartEntry {
-            count,
+        let message = UartMessage {
             parity: header.parity,
             sub: header.sub,
             bytes: Bytes::copy_of(alloc, text)?,
-        }))
+        };
+        Ok(Some(UartEntry { count, message }))
     }
 }

@@ -5,7 +5,9 @@
 mod body;
 mod entry;
 mod header;
+mod message;
 
 pub use body::UartBody;
 pub use entry::{UartEntry, channel_word, push_entry};
 pub use header::UartHeader;
+pub use message::UartMessage;

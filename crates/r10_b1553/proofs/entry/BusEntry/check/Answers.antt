@@ -7,5 +7,5 @@ pub returns-then-self : goal.returns-then-self
 returns-then-self c =
     let words = c.as_slice-words.result.now in
     let fit : AllByRecursion (λ w. w < 2 ^ 16) words = all_fit words (λ i. search rules) in
-    let fields : AllByRecursion (λ w. w < 2 ^ 16) c.args.self.now.words = rw (← c.as_slice-words.ensures) fit in
+    let fields : AllByRecursion (λ w. w < 2 ^ 16) c.args.self.now.message.words = rw (← c.as_slice-words.ensures) fit in
     search rules

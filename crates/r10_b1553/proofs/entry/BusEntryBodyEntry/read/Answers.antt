@@ -12,7 +12,7 @@ returns-then-status-clause-none c = λ e fits is.
       | then-status-via-then-status w ↦ w.if-status.true (rw are.0 fits.status)
       | then-status-via-else-status+then-size-eq1 w ↦ omega (arith, w.if-size-eq1.true, are.1)
       | then-status-via-else-status+else-size-eq1+then-size-gt-MOST_BYTES w ↦ omega (arith, w.if-size-gt-MOST_BYTES.true, are.1, fits.few)
-      | then-status-via-else-status+else-size-eq1+else-size-gt-MOST_BYTES+then-rest-from w ↦ omega (arith, w.if-rest-from.true, w.from.ensures, are.1, ap length are.2, words-size e.words)
+      | then-status-via-else-status+else-size-eq1+else-size-gt-MOST_BYTES+then-rest-from w ↦ omega (arith, w.if-rest-from.true, w.from.ensures, are.1, ap length are.2, words-size e.message.words)
     ]
 
 pub returns-clause-found : goal.returns-clause-found

@@ -7,7 +7,7 @@ use Rattle.r10_packet_rules.proofs.glance.BusEntryScannedEntry.glance.Goals as g
 pub returns-in_default-clause-none : goal.returns-in_default-clause-none
 returns-in_default-clause-none c = λ e rest fits suits is.
     let few = fits.few in
-    c.in_default.ensures.none e.count e.status e.gap (2 * length e.words) (words_low_first e.words) rest fits.count (status-fits e.status fits.status) fits.gap (omega arith) (words-size e.words) is
+    c.in_default.ensures.none e.count e.message.status e.message.gap (2 * length e.message.words) (words_low_first e.message.words) rest fits.count (status-fits e.message.status fits.status) fits.gap (omega arith) (words-size e.message.words) is
 
 pub returns-then-front-clause-none : goal.returns-then-front-clause-none
 returns-then-front-clause-none c = λ e rest fits suits is.

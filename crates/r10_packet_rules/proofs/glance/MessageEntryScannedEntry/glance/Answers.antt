@@ -6,8 +6,8 @@ use Rattle.r10_packet_rules.proofs.glance.MessageEntryScannedEntry.glance.Goals 
 
 pub returns-in_default-clause-none : goal.returns-in_default-clause-none
 returns-in_default-clause-none c = λ e rest fits suits is.
-    c.in_default.ensures.none e.count (message_header e) e.bytes rest fits.count (message_header-fits e.data_error e.format e.sub (length e.bytes) fits.sub fits.bytes)
-    (sym (message_header-low e.data_error e.format e.sub (length e.bytes) fits.bytes)) is
+    c.in_default.ensures.none e.count (message_header e) e.message.bytes rest fits.count (message_header-fits e.message.data_error e.message.format e.message.sub (length e.message.bytes) fits.sub fits.bytes)
+    (sym (message_header-low e.message.data_error e.message.format e.message.sub (length e.message.bytes) fits.bytes)) is
 
 pub returns-clause-found : goal.returns-clause-found
 returns-clause-found c =

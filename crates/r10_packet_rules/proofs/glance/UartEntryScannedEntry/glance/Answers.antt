@@ -9,8 +9,8 @@ use Rattle.r10_packet_rules.proofs.glance.UartEntryScannedEntry.glance.Goals as 
 
 pub returns-in_default-clause-none : goal.returns-in_default-clause-none
 returns-in_default-clause-none c = λ e rest fits suits is.
-    c.in_default.ensures.none e.count (uart_header e) e.bytes rest fits.count (uart_header-fits e.parity e.sub (length e.bytes) fits.sub fits.bytes)
-    (sym (uart_header-low e.parity e.sub (length e.bytes) fits.bytes)) is
+    c.in_default.ensures.none e.count (uart_header e) e.message.bytes rest fits.count (uart_header-fits e.message.parity e.message.sub (length e.message.bytes) fits.sub fits.bytes)
+    (sym (uart_header-low e.message.parity e.message.sub (length e.message.bytes) fits.bytes)) is
 
 pub returns-in_default-of-clause-none : goal.returns-in_default-of-clause-none
 returns-in_default-of-clause-none c = λ e rest fits suits is.
