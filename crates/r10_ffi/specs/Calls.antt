@@ -1,6 +1,6 @@
 -- What a call makes of what a handle holds.
 use Rattle.std.specs.Prelude.{◌≡◌, ℕ, List, [], map, Option, None, Some, Bool, true, false}
-use Rattle.r10_medium.specs.Disk.{Image}
+use Rattle.r10_medium.specs.Disk.{Image, Rose}
 use Rattle.r10_machine.specs.declared.event.Event.TheVariants.{Status}
 use Rattle.r10_machine.specs.declared.reply.Reply.TheVariants.{Done}
 use Rattle.r10_calls.specs.Accounts.{account_given, counted, not_yet}
@@ -12,7 +12,7 @@ use Rattle.r10_calls.specs.declared.desk.Desk.{Desk as DeskValue}
 use Rattle.r10_calls.specs.Opening.{FormatsByScript, FormatsOver, OpensRecorder}
 use Rattle.r10_region.specs.Orders.{handed, IsOtherEnd, MakesRoom}
 use Rattle.r10_region.specs.Queue.{queue_room, places_known}
-use Rattle.r10_region.specs.RegionDisk.{region_disk, lent_to, asked}
+use Rattle.r10_region.specs.RegionDisk.{region_disk, lent_to, asked, identity_of}
 use Rattle.r10_region.specs.declared.region.Region.{Region}
 use Rattle.r10_world.specs.State.{with_medium}
 use Rattle.r10_ffi.specs.declared.held.LentRecorder.{LentRecorder}
@@ -92,6 +92,18 @@ pub record FormatsHeld (text : List ℕ) (image : Image) (h : LentRecorder) : Ty
 abbrev pub IsFormattedRegion : List ℕ → Image → Option LentRecorder → Type 0
 IsFormattedRegion text image None = ⊥
 IsFormattedRegion text image (Some h) = FormatsHeld text image h
+
+-- A medium over the memory that held this, with so many places in its queue, of which nothing was asked yet and no call had failed;
+-- and the same one after calls in which its count of failures rose.
+pub record FailsOver (image : Image) (room : ℕ) : Type 0 where
+  pub medium : Region
+  pub later : Region
+  pub lent : lent_to medium ≡ image
+  pub none_yet : asked medium ≡ []
+  pub none_failed : (region_disk medium).failures ≡ 0
+  pub room_is : queue_room medium ≡ room
+  pub same : identity_of later ≡ identity_of medium
+  pub rose : Rose (region_disk medium).failures (region_disk later).failures
 
 -- Of what the region asked of its disk something was handed out, or all was before: so of the region before and after. All else of the recorder is as it was.
 pub record HandsHeld (old new : LentRecorder) (so : Region → Region → Type 0) : Type 0 where

@@ -15,8 +15,8 @@ ghost use Rattle.r10_calls.specs.Reading.{count_in, found_in, is_count_in, lent,
 ghost use Rattle.r10_calls.specs.Told.{DoesEvent, number_of};
 ghost use Rattle.r10_region.specs.Orders.{CountsQueue, HandsOrderOut, HandsRunOut, HasTold};
 ghost use Rattle.r10_region.specs.RegionDisk.{region_disk};
-ghost use Rattle.r10_ffi.specs.Calls.{Accounts, Does, DoesWriting, Goes, HandsHeld, IsClosed, IsFormattedRegion, IsOpen};
-ghost use Rattle.r10_ffi.specs.Calls.{IsOpened, Offers};
+ghost use Rattle.r10_ffi.specs.Calls.{Accounts, Does, DoesWriting, FailsOver, Goes, HandsHeld, IsClosed, IsFormattedRegion};
+ghost use Rattle.r10_ffi.specs.Calls.{IsOpen, IsOpened, Offers};
 ghost use Rattle.r10_ffi.specs.Civil.{parts_of};
 
 use crate::civil::{Civil, parts_of};
@@ -77,6 +77,7 @@ pub extern "C" fn r10_format(
 ) -> u32
     ensures formats { result ≡ 0 → IsOpen recorder.new × IsFormattedRegion script.now region.held recorder.new.handle.held }
     ensures untouched { result ≢ 0 → recorder.new ≡ recorder.old }
+    ensures failed { result ≡ 28 → FailsOver region.held room }
     ensures other { result ≡ 41 → HasOtherBlocks script.now (length region.held) }
     ensures opened { (result ≡ 45) ↔ IsOpen recorder.old }
     ensures numbers { (result ≡ 0) ⊎ (result ≡ 28) ⊎ (result ≡ 30) ⊎ (result ≡ 40) ⊎ (result ≡ 41) ⊎ (result ≡ 45) }

@@ -97,15 +97,18 @@ none_again : (again : List File) → AreAgain [] again → again ≡ []
 none_again [] same = refl
 none_again (f ∷ files) same = absurd same
 
-pub records_new : (s : Config) (events : List EventValue) (replies : List ReplyValue) (old mid new : Disk) → Leaves (λ image. MayLeave old image ⊎ IsFormatted s old.blocks image) old mid → Settled (IsFormatted s old.blocks) mid
+pub records_new : (s : Config) (events : List EventValue) (replies : List ReplyValue) (old mid new : Disk)
+    → old.failures ≤ mid.failures
+    → Leaves (λ image. MayLeave old image ⊎ IsFormatted s old.blocks image) old mid → Settled (IsFormatted s old.blocks) mid
     → RecordsRun s [] events replies mid new → RecordsNew s events replies old new
-records_new s events replies old mid new formats formatted ran =
+records_new s events replies old mid new no_fewer formats formatted ran =
     let none : Settled (λ image. MediumSays s image []) mid = λ image may. (formatted image may).has.0 in
     let first : fresh s.channels ran.again mid.failures ≡ fresh s.channels [] mid.failures = ap (λ (l : List File). fresh s.channels l mid.failures) (none_again ran.again ran.same) in
     let m : Machine = fresh s.channels [] mid.failures in
     let so : Image → Type 0 = IsLeftNew s m events replies old in
     record {
       failures_before = mid.failures;
+      no_fewer = no_fewer;
       images = ran.images;
       machine = ran.machine;
       run = subst (λ (x : Machine). Run s x events replies ran.images ran.machine) first ran.run;

@@ -1,5 +1,5 @@
 -- What a stop of the medium leaves at events, and over runs.
-use Rattle.std.specs.Prelude.{◌≡◌, ◌⊎◌, ℕ, true, false, List, [], Option, IsSome, zip}
+use Rattle.std.specs.Prelude.{◌≡◌, ◌⊎◌, ℕ, ◌≤◌, true, false, List, [], Option, IsSome, zip}
 use Rattle.std.specs.List.{list_any}
 use Rattle.r10_account.specs.Accepted.{accepted_entries}
 use Rattle.r10_account.specs.Account.{IsAccount}
@@ -86,11 +86,14 @@ abbrev pub IsLeftNew : Config → Machine → List EventValue → List ReplyValu
 IsLeftNew s m events replies old image = (MayLeave old image ⊎ IsFormatted s old.blocks image) ⊎ IsLeft s m events replies image
 
 -- From a machine without files, on a medium that had failed so often when it was formatted, the replies to the events are a run; the
--- medium says the files that it ends with, and has failed as often as the run says. The accepted messages are where `RecordsRun` says.
+-- medium says the files that it ends with, and has failed as often as the run says. The count was no lower when it was formatted than
+-- before, so a reply that the medium failed comes only where the count rose in this recording. The accepted messages are where
+-- `RecordsRun` says.
 -- At any moment a stop leaves what it could leave before, or the formatted medium, or the files of a state of the run, or those that the
 -- next event makes of them; a stop now leaves what `RecordsRun` says.
 pub record RecordsNew (s : Config) (events : List EventValue) (replies : List ReplyValue) (old new : Disk) : Type 0 where
   pub failures_before : ℕ
+  pub no_fewer : old.failures ≤ failures_before
   pub images : List Image
   pub machine : Machine
   pub run : Run s (fresh s.channels [] failures_before) events replies images machine

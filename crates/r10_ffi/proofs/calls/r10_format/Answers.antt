@@ -21,3 +21,15 @@ returns-in-Ok-new-clause-formats c zero =
         empty = c.in-Ok-open.ensures.empty;
       }),
     )
+
+pub returns-then-number-ne0-clause-failed : goal.returns-then-number-ne0-clause-failed
+returns-then-number-ne0-clause-failed c = λ failed. record {
+  medium = c.in-Ok.blank;
+  later = c.format-number.result.1;
+  lent = c.in-Ok.ensures.lent;
+  none_yet = c.in-Ok.ensures.none_yet;
+  none_failed = c.in-Ok.ensures.failures;
+  room_is = c.in-Ok.ensures.room.0;
+  same = c.format-number.ensures.stays;
+  rose = c.format-number.ensures.failed failed;
+}

@@ -8,4 +8,5 @@ returns-in-Ok-clause-records g c =
     let n = vec_len c.args.replies.now in
     let done = c.in-Ok.done in
     records_new c.args.settings (take done.0 c.args.events.now) (drop n c.record_all.new.replies.items) (disk c.args.medium) (disk c.format.new.medium) (disk done.1)
+    c.format.ensures.counts.no_fewer
     c.format.ensures.moments c.in_default.ensures.settled (c.in-Ok.ensures.records [] c.in_default.ensures.has.0)
