@@ -8,9 +8,10 @@ use Rattle.r10_body.specs.declared.entry.Sample.{Sample}
 use Rattle.r10_body.specs.declared.refusal.Refusal.{Refusal}
 use Rattle.r10_body.specs.declared.refusal.Refusal.TheVariants as refusals
 use Rattle.r10_body.specs.declared.spec.ChannelSpec.{ChannelSpec}
-use Rattle.r10_control.specs.Checks.{advancing_checks, recorder_refusal}
+use Rattle.r10_control.specs.Checks.{advancing_checks, counting_checks, erasing_checks, finding_checks, idling_checks, listing_checks, mounting_checks}
+use Rattle.r10_control.specs.Checks.{no_checks, noting_checks, opening_checks, pumping_checks, recorder_refusal, running_checks, sealing_checks, starting_checks, ticking_checks}
 use Rattle.r10_control.specs.Effects.{CommitEffect, DismountEffect, EraseEffect, EventEffect, MountEffect, PumpEffect, StartEffect, StopEffect, TickEffect}
-use Rattle.r10_control.specs.Fronts.{Spares}
+use Rattle.r10_control.specs.Fronts.{CommitSpares, IdleSpares, MountSpares, RecordedSpares, SealSpares, StartSpares, StopSpares}
 use Rattle.r10_control.specs.Lanes.{WaitQuietly}
 use Rattle.r10_control.specs.Leading.{CallStepsTaking, KeptStepsTaking, MachinesKeepShown, none_taken}
 use Rattle.r10_control.specs.Own.{AreOwn, OwnStay}
@@ -31,7 +32,8 @@ use Rattle.r10_cursor.specs.Read.{IsReadTo, TakesNext}
 use Rattle.r10_cursor.specs.Replays.{AdvancesReading}
 use Rattle.r10_cursor.specs.Standing.{fresh_slot}
 use Rattle.r10_cursor.specs.declared.cursor.Cursor.{Cursor as CursorValue}
-use Rattle.r10_machine.specs.Checks.{advance_checks, mounted_checks}
+use Rattle.r10_dirchain.specs.Steps.{emptied, with_shutdown}
+use Rattle.r10_machine.specs.Checks.{Check, advance_checks, mounted_checks}
 use Rattle.r10_machine.specs.EventChecks.{refusal as machine_refusal}
 use Rattle.r10_machine.specs.Finding.{count_after, first_from, last_until, status_of, ticks_of}
 use Rattle.r10_machine.specs.Limits.{channel_ids}
@@ -43,34 +45,129 @@ use Rattle.r10_machine.specs.declared.reply.Found.{Found as FoundValue}
 use Rattle.r10_machine.specs.declared.reply.Reply.{Reply as ReplyValue}
 use Rattle.r10_machine.specs.declared.reply.Reply.TheVariants as replies
 use Rattle.r10_refinement.specs.Kept.{Kept, mode_of}
-use Rattle.r10_refinement.specs.Left.{AnswersSafely}
+use Rattle.r10_refinement.specs.Left.{AnswersSafely, StaysSafe}
 use Rattle.r10_refinement.specs.Means.{KeptStandsFor}
 use Rattle.r10_medium.specs.Disk.{Disk, Image, IsSynced}
 
--- ---- by the event
+-- ---- a call by its parts
 
--- Why the call is refused, and what is left: the first check that doesn't hold; else what it lacks; or the medium failed. A tick puts
--- an entry of 112 bytes into the file that is recorded, an event one of 116. A pump and a stop have their own, below.
-abbrev pub RefusesBy : {M : Type 0} → (M → Disk) → EventValue → Kept → Kept → M → M → Refusal → Type 0
-RefusesBy disk events.Mount k later old new r =
-    RefusesCall disk (recorder_refusal k events.Mount) (IsMountRefusal k.config.directory (disk old)) k later old new r
-RefusesBy disk (events.Start name setup) k later old new r =
-    RefusesCall disk (recorder_refusal k (events.Start name setup)) (IsStartRefusal k setup) k later old new r
-RefusesBy disk events.Seal k later old new r =
-    RefusesCall disk (recorder_refusal k events.Seal) (IsSealRefusal k (disk old)) k later old new r
-RefusesBy disk (events.Tick count parts) k later old new r =
-    RefusesOpen disk (recorder_refusal k (events.Tick count parts)) (IsEntryRefusal k.config k.work 112) k later old new r
-RefusesBy disk (events.Event number count) k later old new r =
-    RefusesOpen disk (recorder_refusal k (events.Event number count)) (IsEntryRefusal k.config k.work 116) k later old new r
-RefusesBy disk events.Commit k later old new r =
-    RefusesOpen disk (recorder_refusal k events.Commit) IsCommitRefusal k later old new r
-RefusesBy disk event k later old new r = RefusesCall disk (recorder_refusal k event) nothing_lacks k later old new r
+-- Of a call: the event that it is; what it checks, in order; why else it is refused, and what each refusal leaves; what an Ok has
+-- done; what the recorder's own files have then; and which blocks stay, at every moment and whatever is answered.
+pub record CallForm (M : Type 0) : Type 1 where
+  pub event : EventValue
+  pub checks : Kept → List Check
+  pub refuses : (M → Disk) → Option Refusal → Kept → Kept → M → M → Refusal → Type 0
+  pub effect : Kept → Disk → Kept → Disk → Type 0
+  pub owns : Result (Unit {0}) Refusal → Kept → Image → Kept → Image → Type 0
+  pub spares : Kept → Disk → Disk → Type 0
+
+-- the recorder's own files have no entry then
+abbrev pub own_nothing : Result (Unit {0}) Refusal → Kept → Image → Kept → Image → Type 0
+own_nothing answer k old later new = MatchResult answer (λ _. AreOwn later new []) (λ _. OwnStay k old later new)
+
+abbrev pub mount_call : {M : Type 0} → CallForm M
+mount_call = record {
+  event = events.Mount;
+  checks = mounting_checks;
+  refuses = λ disk first k later old new r. RefusesCall disk first (IsMountRefusal k.config.directory (disk old)) k later old new r;
+  effect = MountEffect;
+  owns = λ answer. OwnStay;
+  spares = λ k old new. MountSpares k.config.directory old new;
+}
+
+abbrev pub dismount_call : {M : Type 0} → CallForm M
+dismount_call = record {
+  event = events.Dismount;
+  checks = idling_checks;
+  refuses = λ disk first k later old new r. RefusesCall disk first nothing_lacks k later old new r;
+  effect = DismountEffect;
+  owns = λ answer. OwnStay;
+  spares = λ k old new. IdleSpares (with_shutdown 0xFF) k.work old new;
+}
+
+abbrev pub erase_call : {M : Type 0} → CallForm M
+erase_call = record {
+  event = events.Erase;
+  checks = erasing_checks;
+  refuses = λ disk first k later old new r. RefusesCall disk first nothing_lacks k later old new r;
+  effect = EraseEffect;
+  owns = own_nothing;
+  spares = λ k old new. IdleSpares emptied k.work old new;
+}
+
+-- a start of a file of this name, with this setup text
+abbrev pub start_call : {M : Type 0} → List ℕ → List ℕ → CallForm M
+start_call name setup = record {
+  event = events.Start name setup;
+  checks = starting_checks name setup;
+  refuses = λ disk first k later old new r. RefusesCall disk first (IsStartRefusal k setup) k later old new r;
+  effect = StartEffect name setup;
+  owns = λ answer. OwnStay;
+  spares = StartSpares name;
+}
+
+-- a tick puts an entry of 112 bytes into the file that is recorded
+abbrev pub tick_call : {M : Type 0} → ℕ → Parts → CallForm M
+tick_call count parts = record {
+  event = events.Tick count parts;
+  checks = ticking_checks count parts;
+  refuses = λ disk first k later old new r. RefusesOpen disk first (IsEntryRefusal k.config k.work 112) k later old new r;
+  effect = TickEffect (record { count = count; civil = parts });
+  owns = λ answer. OwnStay;
+  spares = λ k old new. RecordedSpares k.work old new;
+}
+
+-- an event puts one of 116
+abbrev pub event_call : {M : Type 0} → ℕ → ℕ → CallForm M
+event_call number count = record {
+  event = events.Event number count;
+  checks = noting_checks number count;
+  refuses = λ disk first k later old new r. RefusesOpen disk first (IsEntryRefusal k.config k.work 116) k later old new r;
+  effect = EventEffect number count;
+  owns = λ answer. OwnStay;
+  spares = λ k old new. RecordedSpares k.work old new;
+}
+
+abbrev pub commit_call : {M : Type 0} → CallForm M
+commit_call = record {
+  event = events.Commit;
+  checks = running_checks;
+  refuses = λ disk first k later old new r. RefusesOpen disk first IsCommitRefusal k later old new r;
+  effect = CommitEffect;
+  owns = λ answer. OwnStay;
+  spares = CommitSpares;
+}
 
 -- a seal: the last file is closed with its index, which is on the disk, and nothing else that is kept changes
 pub record SealEffect (k : Kept) (old : Disk) (later : Kept) (new : Disk) : Type 0 where
   pub sealed : IsSealed k.config old.blocks k.work new.blocks later.work
   pub synced : IsSynced new
   pub rest : later ≡ record k { work = later.work }
+
+abbrev pub seal_call : {M : Type 0} → CallForm M
+seal_call = record {
+  event = events.Seal;
+  checks = sealing_checks;
+  refuses = λ disk first k later old new r. RefusesCall disk first (IsSealRefusal k (disk old)) k later old new r;
+  effect = SealEffect;
+  owns = λ answer. OwnStay;
+  spares = λ k old new. SealSpares k.config k.work old new;
+}
+
+-- ---- by the event
+
+-- why the call is refused, and what is left; a pump and a stop have their own, below
+abbrev pub RefusesBy : {M : Type 0} → (M → Disk) → EventValue → Kept → Kept → M → M → Refusal → Type 0
+RefusesBy disk events.Mount k later old new r = mount_call.refuses disk (recorder_refusal k events.Mount) k later old new r
+RefusesBy disk (events.Start name setup) k later old new r =
+    (start_call name setup).refuses disk (recorder_refusal k (events.Start name setup)) k later old new r
+RefusesBy disk events.Seal k later old new r = seal_call.refuses disk (recorder_refusal k events.Seal) k later old new r
+RefusesBy disk (events.Tick count parts) k later old new r =
+    (tick_call count parts).refuses disk (recorder_refusal k (events.Tick count parts)) k later old new r
+RefusesBy disk (events.Event number count) k later old new r =
+    (event_call number count).refuses disk (recorder_refusal k (events.Event number count)) k later old new r
+RefusesBy disk events.Commit k later old new r = commit_call.refuses disk (recorder_refusal k events.Commit) k later old new r
+RefusesBy disk event k later old new r = RefusesCall disk (recorder_refusal k event) nothing_lacks k later old new r
 
 -- what an Ok has done, whatever files the medium has; a call that is not named here changes nothing that is kept
 abbrev pub EffectBy : EventValue → Kept → Disk → Kept → Disk → Type 0
@@ -99,32 +196,29 @@ StepsFrom disk event reply before after answer =
     CallStepsTaking none_taken before.kept (disk before.medium).blocks (disk before.medium).failures event reply answer
     after.kept (disk after.medium).blocks (disk after.medium).failures
 
--- the bytes that files show stay
-abbrev pub KeepsShown : {M L : Type 0} → (M → Disk) → RecorderState M L → RecorderState M L → Type 0
-KeepsShown disk before after =
-    MachinesKeepShown before.kept (disk before.medium).blocks (disk before.medium).failures (disk after.medium).blocks
-
 -- ---- a call that takes nothing from lanes
 
--- The call that an event is, with this answer.
-pub record DoesCall {M L : Type 0} (disk : M → Disk) (event : EventValue) (before after : RecorderState M L)
+-- A call with this answer.
+pub record DoesCall {M L : Type 0} (disk : M → Disk) (call : CallForm M) (before after : RecorderState M L)
     (answer : Result (Unit {0}) Refusal) : Type 0 where
   -- no check refuses an Ok
-  pub passed : OnOk answer (recorder_refusal before.kept event ≡ None)
+  pub passed : OnOk answer (first_broken (call.checks before.kept) ≡ None)
   -- a refusal is the first that applies, and leaves what is stated there
-  pub refused : IfErr answer (RefusesBy disk event before.kept after.kept before.medium after.medium)
+  pub refused : IfErr answer (call.refuses disk (first_broken (call.checks before.kept)) before.kept after.kept before.medium after.medium)
   -- it is a step of the model
-  pub steps : StepsFrom disk event (λ _. replies.Done) before after answer
+  pub steps : StepsFrom disk call.event (λ _. replies.Done) before after answer
   -- the bytes that files show stay
-  pub shown : KeepsShown disk before after
-  -- a loss of power during it leaves the files from before it, or those that its step makes
-  pub power_loss : AnswersSafely before.kept (disk before.medium) event (λ _. replies.Done) answer after.kept (disk after.medium)
+  pub shown : MachinesKeepShown before.kept (disk before.medium).blocks (disk before.medium).failures (disk after.medium).blocks
+  -- a loss of power at any moment of it leaves the files from before it, or those that its step makes
+  pub power_loss : MatchResult answer
+      (λ _. StaysSafe (λ m. Unit {0}) before.kept call.event replies.Done (disk before.medium) after.kept (disk after.medium))
+      (λ r. StaysSafe (λ m. Unit {0}) before.kept call.event (replies.Refused r) (disk before.medium) after.kept (disk after.medium))
   -- what an Ok has done
-  pub effect : OnOk answer (EffectBy event before.kept (disk before.medium) after.kept (disk after.medium))
+  pub effect : OnOk answer (call.effect before.kept (disk before.medium) after.kept (disk after.medium))
   -- what the recorder's own files have
-  pub owned : OwnsBy event answer before.kept (disk before.medium).blocks after.kept (disk after.medium).blocks
+  pub owned : call.owns answer before.kept (disk before.medium).blocks after.kept (disk after.medium).blocks
   -- which blocks stay, at every moment and whatever is answered
-  pub spares : Spares before.kept (disk before.medium) event (disk after.medium)
+  pub spares : call.spares before.kept (disk before.medium) (disk after.medium)
   -- lanes and settings stay
   pub lanes : after.lanes ≡ before.lanes
   pub config : after.kept.config ≡ before.kept.config
@@ -135,8 +229,8 @@ pub record DoesCall {M L : Type 0} (disk : M → Disk) (event : EventValue) (bef
 pub record DoesPump {M L : Type 0} (took : L → List Sample → L → Type 0) (next_is : L → Sample → Type 0)
     (quiet : L → Option (List Sample)) (reached : L → ℕ) (spec_of : L → ChannelSpec) (disk : M → Disk)
     (channel most : ℕ) (before after : RecorderState M L) (answer : Result ℕ Refusal) : Type 0 where
-  pub passed : OnOk answer (recorder_refusal before.kept (events.Pump channel most) ≡ None)
-  pub refused : IfErr answer (RefusesReadied disk (recorder_refusal before.kept (events.Pump channel most))
+  pub passed : OnOk answer (first_broken (pumping_checks channel before.kept) ≡ None)
+  pub refused : IfErr answer (RefusesReadied disk (first_broken (pumping_checks channel before.kept))
       (FirstLacks quiet spec_of before.lanes after.kept.config after.kept.work channel most)
       before.kept after.kept before.medium after.medium)
   -- what it took from the lane, and the step that it is with that
@@ -151,18 +245,18 @@ pub record DoesPump {M L : Type 0} (took : L → List Sample → L → Type 0) (
   pub shows : PumpShows took next_is quiet reached spec_of channel (events.Pump channel most)
       before.kept (disk before.medium).blocks (disk before.medium).failures answer
       after.kept (disk after.medium).blocks (disk after.medium).failures before.lanes after.lanes
-  pub shown : KeepsShown disk before after
+  pub shown : MachinesKeepShown before.kept (disk before.medium).blocks (disk before.medium).failures (disk after.medium).blocks
   pub power_loss : AnswersSafely before.kept (disk before.medium) (events.Pump channel most) (λ n. replies.Moved n) answer
       after.kept (disk after.medium)
-  pub effect : OnOk answer (EffectBy (events.Pump channel most) before.kept (disk before.medium) after.kept (disk after.medium))
-  pub spares : Spares before.kept (disk before.medium) (events.Pump channel most) (disk after.medium)
+  pub effect : OnOk answer (PumpEffect before.kept (disk before.medium) after.kept (disk after.medium))
+  pub spares : RecordedSpares before.kept.work (disk before.medium) (disk after.medium)
   pub config : after.kept.config ≡ before.kept.config
 
 -- A stop: what waits in all lanes is taken, and the file is closed.
 pub record DoesStop {M L : Type 0} (took : L → List Sample → L → Type 0) (quiet : L → Option (List Sample)) (reached : L → ℕ)
     (spec_of : L → ChannelSpec) (disk : M → Disk) (before after : RecorderState M L) (answer : Result StoppedValue Refusal) : Type 0 where
-  pub passed : OnOk answer (recorder_refusal before.kept events.Stop ≡ None)
-  pub refused : IfErr answer (RefusesReadied disk (recorder_refusal before.kept events.Stop) nothing_lacks
+  pub passed : OnOk answer (first_broken (running_checks before.kept) ≡ None)
+  pub refused : IfErr answer (RefusesReadied disk (first_broken (running_checks before.kept)) nothing_lacks
       before.kept after.kept before.medium after.medium)
   -- what it took from the lanes, and the step that it is with that
   pub takes : StepsByTaking took quiet spec_of (rising (channel_ids before.kept.config.channels)) (most_of before.kept.config.channels)
@@ -175,21 +269,21 @@ pub record DoesStop {M L : Type 0} (took : L → List Sample → L → Type 0) (
       after.kept (disk after.medium).blocks (disk after.medium).failures before.lanes after.lanes
   pub alone : StopsAlone took reached spec_of before.kept (disk before.medium).blocks (disk before.medium).failures answer
       after.kept (disk after.medium).blocks (disk after.medium).failures before.lanes after.lanes
-  pub shown : KeepsShown disk before after
+  pub shown : MachinesKeepShown before.kept (disk before.medium).blocks (disk before.medium).failures (disk after.medium).blocks
   -- a loss of power during it, of lanes that are quiet; and whatever else waits in them
   pub power_loss : StopsSafely quiet spec_of before.lanes before.kept (disk before.medium) answer after.kept (disk after.medium)
   pub leaves : LeavesTaking took reached spec_of before.kept (disk before.medium) (disk after.medium) before.lanes after.lanes
-  pub effect : OnOk answer (EffectBy events.Stop before.kept (disk before.medium) after.kept (disk after.medium))
-  pub spares : Spares before.kept (disk before.medium) events.Stop (disk after.medium)
+  pub effect : OnOk answer (StopEffect before.kept (disk before.medium) after.kept (disk after.medium))
+  pub spares : StopSpares before.kept (disk before.medium) (disk after.medium)
   pub config : after.kept.config ≡ before.kept.config
 
 -- ---- the calls that read
 
 -- A call that reads the file of a number, and answers with this reply.
-pub record DoesRead {M L T : Type 0} (disk : M → Disk) (event : EventValue) (file : ℕ) (reply : T → ReplyValue)
-    (before after : RecorderState M L) (answer : Result T Refusal) : Type 0 where
-  pub passed : OnOk answer (recorder_refusal before.kept event ≡ None)
-  pub refused : IfErr answer (RefusesCall disk (recorder_refusal before.kept event)
+pub record DoesRead {M L T : Type 0} (disk : M → Disk) (event : EventValue) (checks : Kept → List Check) (file : ℕ)
+    (reply : T → ReplyValue) (before after : RecorderState M L) (answer : Result T Refusal) : Type 0 where
+  pub passed : OnOk answer (first_broken (checks before.kept) ≡ None)
+  pub refused : IfErr answer (RefusesCall disk (first_broken (checks before.kept))
       (IsReadFileRefusal before.kept.work (disk before.medium).blocks file) before.kept after.kept before.medium after.medium)
   pub steps : StepsFrom disk event reply before after answer
   -- the file is there, and strict
@@ -199,11 +293,11 @@ pub record DoesRead {M L T : Type 0} (disk : M → Disk) (event : EventValue) (f
 -- the first entry of a channel from a count on, in the file of a number; and the count there at a civil time
 abbrev pub DoesFind : {M L : Type 0} → (M → Disk) → ℕ → ℕ → ℕ → RecorderState M L → RecorderState M L → Result (Option FoundValue) Refusal → Type 0
 DoesFind disk file channel count before after answer =
-    DoesRead disk (events.Find file channel count) file (λ found. replies.Found found) before after answer
+    DoesRead disk (events.Find file channel count) (finding_checks file count) file (λ found. replies.Found found) before after answer
 
 abbrev pub DoesCountAt : {M L : Type 0} → (M → Disk) → ℕ → Parts → RecorderState M L → RecorderState M L → Result (Option ℕ) Refusal → Type 0
 DoesCountAt disk file parts before after answer =
-    DoesRead disk (events.CountAt file parts) file (λ count. replies.CountAt count) before after answer
+    DoesRead disk (events.CountAt file parts) (counting_checks file parts) file (λ count. replies.CountAt count) before after answer
 
 -- whatever packets the medium shows of the file, that is what they have
 abbrev pub FindsFirst : {M L : Type 0} → (M → Disk) → ℕ → ℕ → ℕ → RecorderState M L → Result (Option FoundValue) Refusal → Type 0
@@ -219,10 +313,9 @@ TellsCountAt disk file parts now answer =
 -- Whether a cursor may be opened on the file of a number for a range of counts, which it answers, whatever its channels.
 pub record ChecksFile {M L : Type 0} (disk : M → Disk) (file from to : ℕ) (before after : RecorderState M L)
     (answer : Result (ℕ × ℕ) Refusal) : Type 0 where
-  pub passed : (channels : List ℕ) → OnOk answer (recorder_refusal before.kept (events.Cursor file channels from to) ≡ None)
+  pub passed : OnOk answer (first_broken (opening_checks file from to before.kept) ≡ None)
   pub range : IfOk answer (λ r. (r.0 ≡ from) × (r.1 ≡ to))
-  pub refused : (channels : List ℕ)
-      → IfErr answer (RefusesCall disk (recorder_refusal before.kept (events.Cursor file channels from to))
+  pub refused : IfErr answer (RefusesCall disk (first_broken (opening_checks file from to before.kept))
       (IsReadFileRefusal before.kept.work (disk before.medium).blocks file) before.kept after.kept before.medium after.medium)
   -- of every machine that is represented, a cursor may be opened; or the refusal is a step
   pub steps : (channels : List ℕ) (m : Machine)
@@ -247,9 +340,9 @@ pub record TellsGeneration {M L : Type 0} (disk : M → Disk) (now : RecorderSta
 -- A cursor is opened on the file of a number, for these channels and counts.
 pub record OpensCursor {M L : Type 0} (disk : M → Disk) (file : ℕ) (channels : List ℕ) (from to : ℕ)
     (before after : RecorderState M L) (answer : Result CursorValue Refusal) : Type 0 where
-  pub passed : OnOk answer (recorder_refusal before.kept (events.Cursor file channels from to) ≡ None)
+  pub passed : OnOk answer (first_broken (opening_checks file from to before.kept) ≡ None)
   pub opened : IfOk answer (λ c. c ≡ fresh_slot before.kept.generation channels file from to)
-  pub refused : IfErr answer (RefusesCall disk (recorder_refusal before.kept (events.Cursor file channels from to))
+  pub refused : IfErr answer (RefusesCall disk (first_broken (opening_checks file from to before.kept))
       (IsReadFileRefusal before.kept.work (disk before.medium).blocks file) before.kept after.kept before.medium after.medium)
   -- of every machine that is represented, a cursor may be opened; or the refusal is a step
   pub steps : (m : Machine) → KeptStandsFor before.kept (disk before.medium).blocks (disk before.medium).failures m
@@ -309,10 +402,10 @@ pub record AdvancesChecked {M L : Type 0} (disk : M → Disk) (before after : Re
   pub reads : OnlyReads disk before after answer
 
 -- A call that reads nothing of the medium and changes nothing, and answers with this reply.
-pub record OnlyTells {M L T : Type 0} (disk : M → Disk) (event : EventValue) (reply : T → ReplyValue) (now : RecorderState M L)
-    (answer : Result T Refusal) : Type 0 where
-  pub passed : OnOk answer (recorder_refusal now.kept event ≡ None)
-  pub refused : IfErr answer (RefusesCall disk (recorder_refusal now.kept event) nothing_lacks now.kept now.kept now.medium now.medium)
+pub record OnlyTells {M L T : Type 0} (disk : M → Disk) (event : EventValue) (checks : Kept → List Check) (reply : T → ReplyValue)
+    (now : RecorderState M L) (answer : Result T Refusal) : Type 0 where
+  pub passed : OnOk answer (first_broken (checks now.kept) ≡ None)
+  pub refused : IfErr answer (RefusesCall disk (first_broken (checks now.kept)) nothing_lacks now.kept now.kept now.medium now.medium)
   pub steps : StepsFrom disk event reply now now answer
 
 -- How the recorder is, in any mode; its lanes are looked at, and nothing is taken from them.

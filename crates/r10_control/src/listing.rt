@@ -2,6 +2,7 @@
 
 ghost use Rattle.std.specs.Prelude.{◌≡◌, map, IfOk};
 ghost use Rattle.r10_control.specs.Calls.{OnlyTells};
+ghost use Rattle.r10_control.specs.Checks.{listing_checks};
 ghost use Rattle.r10_control.specs.Checks.{files_of};
 ghost use Rattle.r10_control.specs.Work.{work_of};
 ghost use Rattle.r10_machine.specs.declared.event.Event.TheVariants as events;
@@ -29,7 +30,7 @@ impl<M: BlockMedium, L: LaneOut> Recorder<M, L> {
     /// The files in order, each with its name, its bytes, its blocks and whether it is closed; the one that is recorded is the
     /// last, as the medium shows it. Refused: Failed, NotMounted, OutOfMemory.
     pub fn files(&self) -> Result<Vec<FileInfo>, Refusal>
-        ensures does { OnlyTells M.disk events.Files (λ infos. replies.Files infos.items) self.now result }
+        ensures does { OnlyTells M.disk events.Files listing_checks (λ infos. replies.Files infos.items) self.now result }
         ensures told { IfOk result (λ infos. infos.items ≡ map info_in (files_of self.now.kept.work)) }
     {
         // For the proof: a step keeps a state sound; what is reported is the machine's; the channels are within limits.

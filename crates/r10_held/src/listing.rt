@@ -2,6 +2,7 @@
 
 ghost use Rattle.std.specs.Prelude.{IfOk, map, ◌≡◌};
 ghost use Rattle.r10_control.specs.Calls.{OnlyTells};
+ghost use Rattle.r10_control.specs.Checks.{listing_checks};
 ghost use Rattle.r10_control.specs.Checks.{files_of};
 ghost use Rattle.r10_control.specs.Told.{info_in, last_shown, number_on};
 ghost use Rattle.r10_machine.specs.declared.event.Event.TheVariants as events;
@@ -27,7 +28,7 @@ impl<M: BlockMedium, N: Rings> Held<M, N> {
     /// The files in order, each with its name, its bytes, its blocks and whether it is closed; the one that is recorded is the
     /// last, as the medium shows it. Refused: Failed, NotMounted, OutOfMemory.
     pub fn files(&self) -> Result<Vec<FileInfo>, Refusal>
-        ensures does { OnlyTells M.disk events.Files (λ infos. replies.Files infos.items) self.now.recorder result }
+        ensures does { OnlyTells M.disk events.Files listing_checks (λ infos. replies.Files infos.items) self.now.recorder result }
         ensures told { IfOk result (λ infos. infos.items ≡ map info_in (files_of self.now.recorder.kept.work)) }
     {
         self.recorder.files()

@@ -1,5 +1,5 @@
 -- What a stop leaves in the midst of a call, and of a run.
-use Rattle.std.specs.Prelude.{◌⊎◌, ◌≤◌, ℕ, List, length, take, IsSomeAnd, Result, MatchResult, slice_get}
+use Rattle.std.specs.Prelude.{◌≡◌, ◌⊎◌, ◌≤◌, ℕ, List, length, take, IsSomeAnd, Result, MatchResult, slice_get}
 use Rattle.r10_body.specs.declared.refusal.Refusal.{Refusal}
 use Rattle.r10_machine.specs.Config.{Config}
 use Rattle.r10_machine.specs.Machine.{Machine}
@@ -8,11 +8,11 @@ use Rattle.r10_machine.specs.Step.{Run, Step}
 use Rattle.r10_machine.specs.declared.event.Event.{Event as EventValue}
 use Rattle.r10_machine.specs.declared.reply.Reply.{Reply as ReplyValue}
 use Rattle.r10_machine.specs.declared.reply.Reply.TheVariants.{Refused}
-use Rattle.r10_refinement.specs.Kept.{Kept}
+use Rattle.r10_refinement.specs.Kept.{Kept, failed}
 use Rattle.r10_refinement.specs.Means.{KeptStepsTo, KeptStandsFor}
 use Rattle.r10_medium.specs.Disk.{Disk, Image}
 use Rattle.r10_medium.specs.Stop.{Leaves}
-use Rattle.r10_refinement.specs.Safe.{IsSafe, IsSafeOrFailed}
+use Rattle.r10_refinement.specs.Safe.{IsSafe}
 
 -- ---- a call
 
@@ -27,11 +27,16 @@ pub record Makes (s : Config) (m : Machine) (event : EventValue) (image : Image)
 abbrev pub IsEither : Config → Machine → EventValue → Image → Type 0
 IsEither s m event image = MediumSays s image m.files ⊎ Makes s m event image
 
--- Of each machine that is represented, and of which this is known: where its files were safe before the call, at every moment of the call a stop leaves these, or those that the event makes of them. After the call the files of each machine that the reply leads to are safe again, unless the recorder failed.
-pub record StaysSafe (known : Machine → Type 0) (k : Kept) (event : EventValue) (reply : ReplyValue) (old : Disk) (later : Kept) (new : Disk) : Type 0 where
-  pub left : (m : Machine) → KeptStandsFor k old.blocks old.failures m → known m → IsSafe k.config k.work m.files old → Leaves (IsEither k.config m event) old new
-  pub behind : (m : Machine) (machine : Machine) → KeptStandsFor k old.blocks old.failures m → IsSafe k.config k.work m.files old → KeptStepsTo k m event reply later new.blocks new.failures machine
-      → IsSafeOrFailed later.config later.work machine.files new
+-- Of each machine that is represented, and of which this is known: where its files were safe before the call, a loss of power at any
+-- moment of the call leaves these, or those that the event makes of them. After the call the files of each machine that the reply
+-- leads to are safe again, unless the recorder failed.
+pub record StaysSafe (known : Machine → Type 0) (k : Kept) (event : EventValue) (reply : ReplyValue) (old : Disk) (later : Kept)
+    (new : Disk) : Type 0 where
+  pub left : (m : Machine) → KeptStandsFor k old.blocks old.failures m → known m → IsSafe k.config k.work m.files old
+      → Leaves (λ image. MediumSays k.config image m.files ⊎ Makes k.config m event image) old new
+  pub behind : (m : Machine) (machine : Machine) → KeptStandsFor k old.blocks old.failures m → IsSafe k.config k.work m.files old
+      → KeptStepsTo k m event reply later new.blocks new.failures machine
+      → (later.work ≡ failed) ⊎ IsSafe later.config later.work machine.files new
 
 -- any machine that is represented
 abbrev pub whichever : Machine → Type 0

@@ -20,7 +20,7 @@ returns-in-Err-check_file g c =
       refused =
           subst (λ (from : ℕ). RefusesCall disk (recorder_refusal k (events.Cursor t.file t.channels from t.last)) (IsReadFileRefusal k.work (disk c.args.recorder.now.medium).blocks t.file) k c.check_file.new.self.kept c.args.recorder.now.medium c.check_file.new.self.medium c.in-Err-check_file.refusal) c.get-first.ensures.value
           (subst (λ (to : ℕ). RefusesCall disk (recorder_refusal k (events.Cursor t.file t.channels c.get-first.result to)) (IsReadFileRefusal k.work (disk c.args.recorder.now.medium).blocks t.file) k c.check_file.new.self.kept c.args.recorder.now.medium c.check_file.new.self.medium c.in-Err-check_file.refusal) c.get-last.ensures.value
-          (c.in-Err-check_file.ensures.refused t.channels));
+          (c.in-Err-check_file.ensures.refused));
       counts = search rules;
       reads = search rules;
     }
@@ -32,7 +32,7 @@ returns-in_default-duplicate g c =
     let k = c.args.recorder.now.kept in
     let passed : recorder_refusal k (events.Cursor t.file t.channels t.first t.last) ≡ None =
     subst (λ (from : ℕ). recorder_refusal k (events.Cursor t.file t.channels from t.last) ≡ None) c.get-first.ensures.value
-    (subst (λ (to : ℕ). recorder_refusal k (events.Cursor t.file t.channels c.get-first.result to) ≡ None) c.get-last.ensures.value (c.in_default.ensures.passed t.channels)) in
+    (subst (λ (to : ℕ). recorder_refusal k (events.Cursor t.file t.channels c.get-first.result to) ≡ None) c.get-last.ensures.value (c.in_default.ensures.passed)) in
     record {
       passed = search rules;
       opened = search rules;
@@ -50,7 +50,7 @@ returns g c =
     record {
       passed =
           subst (λ (from : ℕ). recorder_refusal k (events.Cursor t.file t.channels from t.last) ≡ None) c.get-first.ensures.value
-          (subst (λ (to : ℕ). recorder_refusal k (events.Cursor t.file t.channels c.get-first.result to) ≡ None) c.get-last.ensures.value (c.in_default.ensures.passed t.channels));
+          (subst (λ (to : ℕ). recorder_refusal k (events.Cursor t.file t.channels c.get-first.result to) ≡ None) c.get-last.ensures.value (c.in_default.ensures.passed));
       opened = search rules;
       ready = search rules;
       there = c.in_default.ensures.there;

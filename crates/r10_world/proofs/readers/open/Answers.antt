@@ -23,7 +23,7 @@ returns-in-Err-clause-tells g c = λ m stands.
 pub returns-in-Err-generation-clause-tells : goal.returns-in-Err-generation-clause-tells
 returns-in-Err-generation-clause-tells g c = λ m stands.
     let a = c.args in
-    absurd (is_mounted a.recorder.now.kept c.check_file.new.self.kept a.file a.channels.now a.from a.to c.in-Err-generation.refusal (c.in-Ok.ensures.passed a.channels.now) c.in-Ok.ensures.reads.kept c.in-Err-generation.ensures.tested)
+    absurd (is_mounted a.recorder.now.kept c.check_file.new.self.kept a.file a.channels.now a.from a.to c.in-Err-generation.refusal (c.in-Ok.ensures.passed) c.in-Ok.ensures.reads.kept c.in-Err-generation.ensures.tested)
 
 pub returns-in-Ok-open_cursor-clause-tells : goal.returns-in-Ok-open_cursor-clause-tells
 returns-in-Ok-open_cursor-clause-tells g c = λ m stands.
@@ -48,7 +48,7 @@ returns-in-Err-clause-power_loss g c =
     let call = c.check_file in
     let new = call.new.self in
     survives_refused disk old new (events.Cursor a.file a.channels.now a.from a.to) c.in-Err.refusal call.ensures.reads.config call.ensures.reads.same (λ is.
-    (ap (λ (k : Kept). k.work) (alone_if disk (recorder_refusal old.kept (events.Cursor a.file a.channels.now a.from a.to)) _ Failed old.kept new.kept old.medium new.medium c.in-Err.refusal (ap (λ (w : Work). recorder_refusal (record old.kept { work = w }) (events.Cursor a.file a.channels.now a.from a.to)) is) (c.in-Err.ensures.refused a.channels.now)).0 ∙ is))
+    (ap (λ (k : Kept). k.work) (alone_if disk (recorder_refusal old.kept (events.Cursor a.file a.channels.now a.from a.to)) _ Failed old.kept new.kept old.medium new.medium c.in-Err.refusal (ap (λ (w : Work). recorder_refusal (record old.kept { work = w }) (events.Cursor a.file a.channels.now a.from a.to)) is) (c.in-Err.ensures.refused)).0 ∙ is))
 
 pub returns-in-Err-generation-clause-power_loss : goal.returns-in-Err-generation-clause-power_loss
 returns-in-Err-generation-clause-power_loss g c =
@@ -73,13 +73,13 @@ returns-in-Err-clause-answers g c =
     let new = call.new.self in
     let disk = g.M.BlockMedium.disk in
     let lacks = IsReadFileRefusal old.kept.work (disk old.medium).blocks a.file in
-    refused_call disk (recorder_refusal old.kept (events.Cursor a.file a.channels.now a.from a.to)) lacks old new a.cursors.now.slots (events.Cursor a.file a.channels.now a.from a.to) c.in-Err.refusal (c.in-Err.ensures.refused a.channels.now) call.ensures.reads.lanes refl
+    refused_call disk (recorder_refusal old.kept (events.Cursor a.file a.channels.now a.from a.to)) lacks old new a.cursors.now.slots (events.Cursor a.file a.channels.now a.from a.to) c.in-Err.refusal (c.in-Err.ensures.refused) call.ensures.reads.lanes refl
     (or_either lacks) (λ none fails. tt) (λ lacks. tt) (λ left. left) call.ensures.reads.same (λ lanes. lanes)
 
 pub returns-in-Err-generation-clause-answers : goal.returns-in-Err-generation-clause-answers
 returns-in-Err-generation-clause-answers g c =
     let a = c.args in
-    absurd (is_mounted a.recorder.now.kept c.check_file.new.self.kept a.file a.channels.now a.from a.to c.in-Err-generation.refusal (c.in-Ok.ensures.passed a.channels.now) c.in-Ok.ensures.reads.kept c.in-Err-generation.ensures.tested)
+    absurd (is_mounted a.recorder.now.kept c.check_file.new.self.kept a.file a.channels.now a.from a.to c.in-Err-generation.refusal (c.in-Ok.ensures.passed) c.in-Ok.ensures.reads.kept c.in-Err-generation.ensures.tested)
 
 pub returns-in-Ok-open_cursor-clause-answers : goal.returns-in-Ok-open_cursor-clause-answers
 returns-in-Ok-open_cursor-clause-answers g c =
@@ -87,7 +87,7 @@ returns-in-Ok-open_cursor-clause-answers g c =
     let call = c.check_file in
     let opened = c.in-Ok-open_cursor in
     let generation = c.in-Ok-generation.ensures.tested.0 ∙ ap (λ (k : Kept). k.generation) c.in-Ok.ensures.reads.kept in (
-      c.in-Ok.ensures.passed a.channels.now,
+      c.in-Ok.ensures.passed,
       (
         c.in-Ok.ensures.there,
         opened.ensures.was_free,
@@ -102,7 +102,7 @@ returns-in-Err-open_cursor-clause-answers g c =
     let old = a.recorder.now in
     let call = c.check_file in
     refused_memory g.M.BlockMedium.disk (recorder_refusal old.kept (events.Cursor a.file a.channels.now a.from a.to)) old call.new.self a.cursors.now.slots c.open_cursor.new.cursors.slots (events.Cursor a.file a.channels.now a.from a.to)
-    (c.in-Ok.ensures.passed a.channels.now) tt (c.in-Ok.ensures.reads.kept, call.ensures.reads.same)
+    (c.in-Ok.ensures.passed) tt (c.in-Ok.ensures.reads.kept, call.ensures.reads.same)
     (own_same old.kept call.new.self.kept (g.M.BlockMedium.disk old.medium).blocks (g.M.BlockMedium.disk call.new.self.medium).blocks c.in-Ok.ensures.reads.kept call.ensures.reads.same.reads) call.ensures.reads.lanes c.in-Err-open_cursor.ensures.kept
 
 pub returns-in-Err-clause-spares : goal.returns-in-Err-clause-spares
