@@ -21,7 +21,7 @@ from .survey import Survey, ends_of, name_of
 from .table import clock_lines, said
 from .timeline import timeline
 from .tmats import tree
-from .traffic import buses_of
+from .traffic import buses_of, heat_map
 
 STYLE = """
 :root { color-scheme: light; --line: #c3c8cf; --ink: #1b1f24; --soft: #4a5159; --link: #0b4f9c; }
@@ -47,10 +47,12 @@ svg { max-width: 100%; height: auto; } figure { margin: 0.6rem 0; }
 @media print {
   body { max-width: none; padding: 0; font-size: 10.5pt; } nav, .skip { display: none; } a { color: inherit; text-decoration: \
 none; }
-  .scroll { overflow: visible; } table { font-size: 8pt; } tr, figure { break-inside: avoid; } h2, h3, caption { break-after: \
-avoid; }
-  section.recording { break-before: page; } thead { display: table-header-group; } .wrap { min-width: 8rem; }
-  pre { columns: 3; font-size: 7pt; }
+  @page { margin: 9mm; }
+  .scroll { overflow: visible; } table { font-size: 5.5pt; line-height: 1; } th, td { padding: 0 0.3rem; } tr, figure \
+{ break-inside: avoid; } h2, h3, caption { break-after: avoid; } h2 { margin: 0.5rem 0 0.1rem; font-size: 11pt; }
+  h3 { margin: 0.2rem 0 0; font-size: 8pt; } p, li { font-size: 7pt; margin: 0.05rem 0; max-width: none; } ul { margin: 0; }
+  thead { display: table-header-group; } .wrap { min-width: 8rem; } details, figcaption, .screen { display: none; }
+  figure { display: inline-block; width: 32.5%; margin: 0; vertical-align: top; } figure.map { width: 24.5%; }
 }
 """
 MOST_STRETCHES = 500
@@ -107,27 +109,41 @@ def counted_text(counted: Counter, names: Any) -> str:
 
 
 def bus_parts(data: Any, begin: int, end: int, survey: Survey) -> List[str]:
-    messages, errors, labels = buses_of(data, begin, survey)
+    traffic = buses_of(data, begin, survey)
+    messages, _, errors, labels = traffic
     made: List[str] = []
     if messages:
+        channels = sorted({key[0] for key in messages})
+        below = '<figcaption>The darker, the more messages; red where some are wrong.</figcaption>'
+        figures = ['<figure class="map">%s%s</figure>' % (heat_map(traffic, channel, survey.names.channel(channel)), below)
+                   for channel in channels]
         rows = [(channel, survey.names.channel(channel) or '-', 'none' if rt < 0 else rt,
                  {'T': 'transmits', 'R': 'receives', None: '-'}[direction],
                  size_text(sum(counted.values())), counted_text(errors.get((channel, rt, direction), Counter()), str) or '-',
                  ('wrap', escape(counted_text(counted, lambda sa: 'SA %s' % ('-' if sa is None else sa)))))
                 for (channel, rt, direction), counted in sorted(messages.items(),
                                                                 key=lambda pair: (pair[0][0], pair[0][1], pair[0][2] or ''))]
-        made += ['<h3>MIL-STD-1553 by terminal and subaddress</h3>'] + table(
+        made += ['<h3>MIL-STD-1553 by terminal and subaddress</h3>'] + figures + folded('The numbers', table(
             'Messages of each remote terminal, by its direction and subaddress',
             ('channel', 'name', 'RT', 'direction', 'messages', 'errors', 'by subaddress'), rows,
-            ('name', 'direction', 'errors', 'by subaddress'))
+            ('name', 'direction', 'errors', 'by subaddress')))
     if labels:
         rows = [(channel, survey.names.channel(channel) or '-', bus, size_text(sum(counted.values())),
                  ('wrap', escape(counted_text(counted, label_of))))
                 for (channel, bus), counted in sorted(labels.items())]
-        made += ['<h3>ARINC 429 by label</h3>'] + table('Words of each bus, by label in octal',
-                                                        ('channel', 'name', 'bus', 'words', 'by label'), rows,
-                                                       ('name', 'by label'))
+        brief = [row[:4] + (len(labels[row[0], row[2]]),) for row in rows]
+        made += ['<h3>ARINC 429 by label</h3>', '<p>%s words on %d buses.</p>' % (
+            size_text(sum(sum(counted.values()) for counted in labels.values())), len(labels))]
+        made += ['<div class="screen">'] + table('Words of each bus', ('channel', 'name', 'bus', 'words', 'labels'), brief,
+                                                 ('name',)) + ['</div>']
+        made += folded('The numbers', table('Words of each bus, by label in octal',
+                                            ('channel', 'name', 'bus', 'words', 'by label'), rows, ('name', 'by label')))
     return made
+
+
+def folded(title: str, inner: List[str]) -> List[str]:
+    """What is opened to be read, and is not on paper."""
+    return ['<details><summary>%s</summary>' % title] + inner + ['</details>']
 
 
 # ---- one recording
@@ -202,8 +218,8 @@ def setup_part(survey: Survey) -> List[str]:
     made = ['<h3>Setup</h3>']
     if others:
         made.append('<ul>%s</ul>' % ''.join('<li>%s</li>' % escape(line) for line in others))
-    return made + ['<pre tabindex="0" aria-label="Setup attributes as a tree">%s</pre>'
-                   % escape('\n'.join(tree(survey.names.attributes)))]
+    return made + folded('%d attributes of chapter 9' % len(survey.names.attributes), [
+        '<pre tabindex="0" aria-label="Setup attributes as a tree">%s</pre>' % escape('\n'.join(tree(survey.names.attributes)))])
 
 
 def facts_part(task: Dict[str, Any], facts: Dict[str, Any]) -> List[str]:

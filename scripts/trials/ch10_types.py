@@ -7,6 +7,7 @@ import csv
 import io
 import json
 import pathlib
+import re
 import sqlite3
 import tempfile
 from typing import Callable, Dict, Iterable, List, Optional, Sequence, Tuple
@@ -304,6 +305,30 @@ def fibre_channel() -> Found:
         ['channel 1 is not named', 'channel 12 is named CANIN, and has packets of type 79, 7a'])
 
 
-TRIALS: List[Callable[[], Found]] = [stamps_of_second_headers, stamps_of_no_header, can_frames, can_frames_cut, fibre_channel,
+# ---- what the buses carried, drawn
+
+def heat_map_of_1553() -> Found:
+    """The map of a 1553 channel has a cell for each terminal, direction and subaddress, with how many messages there are and how
+    many of them are wrong; it is red where some are, and darker where there are more."""
+    some = [(5, 0, 3, 7, 0), (5, 1, 3, 2, 0), (6, 0, 4, 40, 10), (31, 1, 30, 1, 1)]  # RT, T/R, SA, messages, wrong ones
+    made = [word(2000, 8) + word(0x1000 if place < wrong else 0, 2) + word(80, 2) + word(2, 2)
+            + word(rt << 11 | sends << 10 | sa << 5 | 1, 2) for rt, sends, sa, number, wrong in some for place in range(number)]
+    parts = opened() + [packet(7, 0x19, 2000, word(len(made), 4) + b''.join(made)),
+                        packet(4, 0x19, 2001, word(1, 4) + word(2001, 8) + word(0, 2) + word(80, 2) + word(0, 2))]
+    with tempfile.TemporaryDirectory() as folder:
+        path = pathlib.Path(folder, 'bus.ch10')
+        path.write_bytes(b''.join(parts))
+        status, page, _ = run(['report', '--unjudged', str(path)], b'')
+    cells_ = re.findall(r'fill="#(..)(..)(..)"><title>(RT [^<]*)</title>', page.decode())
+    colours = [(text, int(red, 16) > int(blue, 16), int(green, 16)) for red, green, blue, text in cells_]
+    return (status, [one[:2] for one in colours], colours[0][2] < colours[1][2], colours[2][2] > colours[3][2],
+            page.count(b'terminals receive'), page.count(b'<details>')), (
+        0, [('RT 5, SA 3, receives: 7 messages', False), ('RT 5, SA 3, transmits: 2 messages', False),
+            ('RT 6, SA 4, receives: 40 messages, 10 wrong', True), ('RT 31, SA 30, transmits: 1 messages, 1 wrong', True)],
+        True, True, 2, 2)
+
+
+TRIALS: List[Callable[[], Found]] = [heat_map_of_1553, stamps_of_second_headers, stamps_of_no_header,
+                                     can_frames, can_frames_cut, fibre_channel,
                                      uart_without_stamps, uart_without_stamps_cut, second_headers, second_headers_damaged,
                                      discretes_at_the_top, discretes_at_the_top_in_a_database]
