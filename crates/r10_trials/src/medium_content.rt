@@ -5,6 +5,7 @@ use r10_body::Refusal;
 use r10_checker::{Verdict, check_medium};
 use r10_dirchain::{ChainError, ListedFile, read_chain};
 use r10_machine::{Event, Reply, Settings};
+use r10_medium::BlockMedium;
 use std::alloc::{AllocError, Global};
 
 /// What a new recorder finds on a medium.
@@ -74,12 +75,16 @@ fn file_bytes<'a>(file: &ListedFile, image: &'a [u8]) -> &'a [u8] {
 /// How many files there are on a medium of these bytes, and how many are strict. A directory at fault counts as one file that is
 /// not.
 pub fn judged_on(alloc: Global, image: &[u8]) -> Result<(u64, u64), AllocError> {
-    let mut medium = medium_of(alloc, image)?;
-    let files = match check_medium(alloc, &mut medium) {
-        Ok(files) => files,
-        Err(Refusal::OutOfMemory) => return Err(AllocError),
-        Err(_) => return Ok((1, 0)),
-    };
+    match judge(alloc, &mut medium_of(alloc, image)?) {
+        Ok(counts) => Ok(counts),
+        Err(Refusal::OutOfMemory) => Err(AllocError),
+        Err(_) => Ok((1, 0)),
+    }
+}
+
+/// How many files there are on a medium, and how many are strict, or what the judgement was refused for.
+pub fn judge<M: BlockMedium>(alloc: Global, medium: &mut M) -> Result<(u64, u64), Refusal> {
+    let files = check_medium(alloc, medium)?;
     let mut strict = 0u64;
     for file in &files {
         if file.verdict == Verdict::Strict {

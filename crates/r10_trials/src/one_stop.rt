@@ -2,12 +2,17 @@
 
 use crate::course::{Course, run_to_failure, run_to_stop};
 use crate::each::changed_block;
-use crate::scene::{image_behind, image_left};
+use crate::medium_content::judge;
+use crate::scene::{image_behind, image_left, medium_of};
 use crate::tally::push_number;
+use r10_body::Refusal;
 use r10_machine::Reply;
-use r10_medium::Choice;
+use r10_medium::{BlockMedium, Choice, Faulty};
 use r10_text::reply_lines;
 use std::alloc::{AllocError, Global};
+
+/// More calls of the medium than any judgement here makes.
+const MOST: u64 = 1000;
 
 /// What a stop may leave, and the lines before what a new recorder does on it.
 const LEFT: [(Choice, &str); 4] = [
@@ -97,14 +102,14 @@ pub fn stop_after(
     Ok(())
 }
 
-/// Adds the lines of a new recorder that does the rest where one byte of what a course leaves is another.
-pub fn spoil_byte(
+/// What a course leaves, with another byte in this place; a line where there is no such byte.
+fn spoilt_image(
     alloc: Global,
     course: &Course<'_>,
     place: usize,
     byte: u8,
     text: &mut String,
-) -> Result<(), AllocError> {
+) -> Result<Vec<u8>, AllocError> {
     let (settings, events) = (course.settings, course.events);
     let mut replies = Vec::new(alloc);
     let mut image = image_behind(alloc, settings, course.image, events, &mut replies)?;
@@ -114,7 +119,54 @@ pub fn spoil_byte(
             let _ = text.push_str("no such byte\n");
         }
     }
+    Ok(image)
+}
+
+/// Adds the lines of a new recorder that does the rest where one byte of what a course leaves is another.
+pub fn spoil_byte(
+    alloc: Global,
+    course: &Course<'_>,
+    place: usize,
+    byte: u8,
+    text: &mut String,
+) -> Result<(), AllocError> {
+    let image = spoilt_image(alloc, course, place, byte, text)?;
     push_rest(alloc, course, "", image.as_slice(), text)
+}
+
+/// Adds how many files there are where one byte of what a course leaves is another, and how many are strict, or what the judgement
+/// is refused for. Then each call of the medium fails once, until none does: how many fail, and how many of these judgements are
+/// refused as Medium.
+pub fn judge_spoilt(
+    alloc: Global,
+    course: &Course<'_>,
+    place: usize,
+    byte: u8,
+    text: &mut String,
+) -> Result<(), AllocError> {
+    let image = spoilt_image(alloc, course, place, byte, text)?;
+    match judge(alloc, &mut medium_of(alloc, image.as_slice())?) {
+        Ok((files, strict)) => {
+            push_number(alloc, strict, " of ", text);
+            push_number(alloc, files, " files strict\n", text);
+        }
+        Err(refusal) => push_replies(alloc, course.events.len(), &[Reply::Refused(refusal)], text),
+    }
+    let (mut failed, mut told) = (0u64, 0u64);
+    for call in 1..MOST {
+        let mut medium = Faulty::new(medium_of(alloc, image.as_slice())?, call);
+        let said = judge(alloc, &mut medium);
+        if medium.failures() == 0 {
+            break;
+        }
+        failed = failed.saturating_add(1);
+        if matches!(said, Err(Refusal::Medium)) {
+            told = told.saturating_add(1);
+        }
+    }
+    push_number(alloc, failed, " calls fail, ", text);
+    push_number(alloc, told, " are told as Medium\n", text);
+    Ok(())
 }
 
 /// Adds this line, and those of a new recorder that does the rest on a medium of these bytes.

@@ -13,7 +13,7 @@ pub struct Task<'a> {
     pub first: usize,
 }
 
-/// What a title asks for: `NAME WORD NUMBER STEPS`, or `NAME spoils PLACE BYTE STEPS`.
+/// What a title asks for: `NAME WORD NUMBER STEPS`, or `NAME WORD PLACE BYTE STEPS` for `spoils` and `judges`.
 pub fn task_of(title: &str) -> Option<Task<'_>> {
     let (_, words) = title.split_once(' ')?;
     let (act, words) = words.split_once(' ')?;

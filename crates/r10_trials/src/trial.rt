@@ -3,7 +3,7 @@
 use crate::course::Course;
 use crate::each::try_each;
 use crate::fault::TrialFault;
-use crate::one_stop::{fail_at, spoil_byte, stop_after};
+use crate::one_stop::{fail_at, judge_spoilt, spoil_byte, stop_after};
 use crate::scene::{image_behind, image_recorded};
 use crate::tally::{Counts, Row, join, push_number, push_row};
 use crate::title::{Task, task_of};
@@ -68,7 +68,7 @@ fn try_script(
     for part in &["== ", title, "\n"] {
         let _ = text.push_str(part);
     }
-    let is_followed = matches!(task.act, "fails" | "stops" | "spoils");
+    let is_followed = matches!(task.act, "fails" | "stops" | "spoils" | "judges");
     if !is_followed {
         script.events.push(Event::Status)?;
     }
@@ -112,6 +112,7 @@ fn try_task(
         "fails" => fail_at(alloc, course, number, text),
         "stops" => stop_after(alloc, course, number, text),
         "spoils" => spoil_byte(alloc, course, task.place, (number % 256) as u8, text),
+        "judges" => judge_spoilt(alloc, course, task.place, (number % 256) as u8, text),
         _ => {
             let _ = text.push_str("no such trial\n");
             Ok(())
