@@ -23,6 +23,7 @@ BITS = 48  # of a count; the bits above them are the session's number
 LEAST_BACK = 2 * SECOND  # a channel's packets come in order: a step back by more is no order of writing
 MOST_OVER = 600 * SECOND  # between the last count before 2^48 and the first one after it
 LAST_DAY = datetime.date.max.toordinal()
+MOST_SESSIONS = 1 << 12  # more are none: the counter of such a recording tells nothing
 COUNTLESS = (LOSS, SETUP, INDEX, 0x04)  # types of what a computer makes, whose counters need not go on
 
 Jump = namedtuple('Jump', 'offset instant before after by')
@@ -79,6 +80,8 @@ class Sessions:
     def is_anew(self, counter: int, before: int, goes_on: bool) -> bool:
         """Whether a packet begins a session, after the highest counter of its channel so far, -1 for none; and whether its sequence
         number goes on."""
+        if len(self.starts) >= MOST_SESSIONS:
+            return False
         if self.is_after_setup:
             return counter < before or bool(self.last) and counter < max(self.last.values()) - LEAST_BACK and before < 0
         if counter >= before - LEAST_BACK:
@@ -183,6 +186,13 @@ class TimeLine:
                 else:
                     yield told.said.ticks, ticks, past, ticks - told.said.ticks - past, then.instant, then.offset
 
+    def by_session(self) -> Dict[int, List[Told]]:
+        """The times of each session; sessions between which the counter's bits were full are one."""
+        found: Dict[int, List[Told]] = {}
+        for told in self.told:
+            found.setdefault(self.run(told.instant), []).append(told)
+        return found
+
     def run(self, instant: int) -> int:
         return instant >> BITS if self.sessions is None else self.sessions.run_of(instant >> BITS)
 
@@ -214,10 +224,9 @@ class TimeLine:
 
     def without(self, ends: Sequence[Tuple[int, int]]) -> int:
         """How many whole seconds of some spans of instants have no time, where each second is to have one."""
-        missed = 0
-        marks = sorted(told.instant for told in self.told)
+        missed, by_session = 0, self.by_session()
         for low, high in ends:
-            some = [instant for instant in marks if self.run(instant) == self.run(low)]
+            some = sorted(told.instant for told in by_session.get(self.run(low), ()))
             if not some:
                 missed += (high - low) // SECOND
                 continue
@@ -392,26 +401,26 @@ class Clock:
         self.dated, self.year = lines[0].is_dated() or year is not None, year
         self.pieces: List[Piece] = []
         self.told: Dict[int, List[Tuple[int, int]]] = {}
+        by_session = [(line, line.by_session()) for line in lines]
         used: List[int] = []
         first: List[int] = []
         for session in range(sessions.number()):
             if session in sessions.wraps:
                 continue
-            chosen = next(((line, some) for line, some in (
-                (line, [told for told in line.told if sessions.run_of(told.instant >> BITS) == session]) for line in lines)
-                if some), None)
+            chosen = next(((line, told[session]) for line, told in by_session if session in told), None)
             if chosen is None:
                 self.pieces.append(Piece(session << BITS, UNKNOWN, False, ''))
                 continue
             line, some = chosen
-            used.append(line.channel)
+            if line.channel not in used:
+                used.append(line.channel)
             if from_end:
                 some = some[last_jump(line, some):]
             some = sorted(some, key=lambda told: told.instant)
             first.append(some[0].said.ticks)
             self.told[session] = [(told.instant, told.offset) for told in some]
             self.pieces += pieces_of(line, some, session << BITS, '+guessed year' if year and year.is_guessed else '')
-        self.channels = list(dict.fromkeys(used))
+        self.channels = used
         self.channel, self.first = self.channels[0], first[0]
         self.starts = [piece.start for piece in self.pieces]
         self.aheads = [piece.ahead for piece in self.pieces]

@@ -47,8 +47,10 @@ def doubts_of(survey: Any) -> List[str]:
     ends = survey.ends() if survey.rows else []
     if len(ends) > 1:
         lines.append('times: the counter went back, so there are %d sessions, each with times of its own' % len(ends))
-        if clock:
-            lines += ['times: session %d has none' % number for number, (low, _) in enumerate(ends, 1) if not clock.text(low)]
+        without = [number for number, (low, _) in enumerate(ends, 1) if clock and not clock.text(low)]
+        lines += ['times: session %d has none' % number for number in without[:MOST_SAID]]
+        if len(without) > MOST_SAID:
+            lines.append('times: %d sessions more have none' % (len(without) - MOST_SAID))
     for line in survey.times:
         if line.invalid:
             lines.append('times: %d of %d time packets of channel %d say that they are invalid, and are not used' % (
@@ -76,6 +78,7 @@ def doubts_of(survey: Any) -> List[str]:
     return lines
 
 
+MOST_SAID = 10  # sessions without times that are named
 MOST_APART = 500000  # two channels tell times to 10 ms each, and some recorders one of them late
 
 

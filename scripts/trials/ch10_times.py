@@ -7,6 +7,7 @@ import json
 import pathlib
 import sqlite3
 import tempfile
+import time
 from typing import Callable, Dict, List, Sequence, Tuple
 
 import chapter11 as made
@@ -179,6 +180,18 @@ def order_of_writing() -> Found:
     for count in (3, 2, 50, 49):
         entry(one, count * SECOND, str(count))
     return by_ways(one.data())['csv'], [('2024-05-17 09:00:%02d.0000000' % count, str(count)) for count in (2, 3, 49, 50)]
+
+
+def counter_to_and_fro() -> Found:
+    """A counter that goes to and fro at each packet takes no call an hour: there are only so many sessions, and no entry is
+    lost."""
+    one = opened()
+    for place in range(6000):
+        one.add(1, 0x11, place % 2 * 50 * SECOND + SECOND, made.time_f1('2024-05-17 09:00:00.00'))
+        entry(one, (1 - place % 2) * 50 * SECOND + SECOND, str(place))
+    begun = time.process_time()
+    found = [len(times([], one.data())), run(['summary'], one.data())[0], run(['svg'], one.data())[0]]
+    return found + [time.process_time() - begun < 60], [6000, 0, 0, True]
 
 
 def half_timed() -> bytes:
@@ -550,7 +563,8 @@ def long_front() -> Found:
 
 
 TRIALS: List[Callable[[], Found]] = [
-    counter_back, counter_back_ends, counter_back_range, range_holds_its_time, counter_back_states, counter_full,
+    counter_back, counter_back_ends, counter_back_range, range_holds_its_time, counter_back_states, counter_to_and_fro,
+    counter_full,
     order_of_writing, session_without_times, leap_second, leap_second_ranges, leap_second_of_a_day, new_year, invalid_format,
     no_source, qualities, qualities_of_many, best_channel, unlocked_start, network_times, network_leap_second, year_given,
     year_by_channel, year_guessed, left_out, no_setup, twice, wrong_sum, database_as_input, long_front]
