@@ -34,7 +34,7 @@ stand_in build/side_by_side.sh 'cat >/dev/null; echo "x: NOT TRIED: y"; exit ${F
 stand_in ffi.sh '[ "$*" = behind-ci ] && echo "behind it${R10_LATER:-}: ${UNTRIED:-all}"
 echo "3 passed, 0 failed"
 exit ${BEHIND:-0}'
-gate() { env -u RT_JOBS "$@" "$room/gate/.ci/run"; echo "status $?"; }
+gate() { env -u RT_JOBS -u R10_LATER "$@" "$room/gate/.ci/run"; echo "status $?"; }
 check "a gate where CI is set fails by it" is "$(gate CI=true | tail -n 2)" $'3 passed, 1 failed\nstatus 1'
 check "and by what is not tried behind rt ci" is \
     "$(gate CI=true UNTRIED='NOT TRIED: z' | tail -n 2)" $'3 passed, 2 failed\nstatus 1'
