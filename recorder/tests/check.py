@@ -27,6 +27,10 @@ TRIALS = {
 
 
 LONG_ONES = ('an-hour-of-a-clock', 'disk-failures', 'a-flood', 'power-cuts', 'kills')
+# Trials of times compare them to a tenth of a millisecond. Where another program had the processor they are tried again: what is
+# wrong each time fails.
+TIMED = {name for name, function in TRIALS.items() if function.__module__ == trials_of_time.__name__}
+TRIES = 3
 
 
 def main() -> None:
@@ -40,6 +44,15 @@ def main() -> None:
     tidy_up_at_signals()
 
     def run(name: str) -> Optional[str]:
+        """A trial, again where it compares times and failed: why it failed last."""
+        for left in reversed(range(TRIES if name in TIMED else 1)):
+            why = run_once(name)
+            if why and left:
+                print(f'recorder: {name}: tried again, as {why.splitlines()[0]}', flush=True)
+            else:
+                return why
+
+    def run_once(name: str) -> Optional[str]:
         """One trial: why it failed."""
         room, start = Room(programs), time.monotonic()
         try:
