@@ -9,6 +9,7 @@ sources=$top
 kit="$room/a kit"
 make_kit "$kit"
 with=$kit/bin:$PATH
+builds=${R10_BUILDS:-$top/out/builds}
 unset R10_BUILDS R10_LANES
 
 # Runs a command; what it prints goes to $said, to $errors, and its status to $status.
@@ -159,7 +160,7 @@ check "scripts/build.sh, where nobody reads, ends without a word" is "$(cat "$ro
 
 # ---- the program and the filters, over the build that is kept
 
-program=${1:-$("$sources/scripts/build/quick_build.py" --current)} || {
+program=${1:-$(R10_BUILDS=$builds "$sources/scripts/build/quick_build.py" --current)} || {
     no_build "the program"
     exit "$failed"
 }
