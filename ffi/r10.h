@@ -44,7 +44,7 @@
  *  - r10_advance queues all that was shown since the last call. A long file is read in parts by r10_part, also one that grows.
  *
  * Time
- *  - A pump is refused R10_MEDIUM_FULL by the most that its entries may need, which is 104 bytes and more each: see docs/USING.md for how full a medium gets. Stop
+ *  - A pump is refused R10_MEDIUM_FULL by the most that its entries may need, which is 104 bytes and more each: see docs/LIBRARY.md for how full a medium gets. Stop
  *    then, and start a new file: it begins right after the last one.
  *  - The standard wants a time packet each second: call r10_tick so often. A seal reads the whole file: 0.6 GB a second in a trial.
  *

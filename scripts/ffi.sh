@@ -327,7 +327,7 @@ but_the_last() {
     printf '%s\n' "$last" >"$1"
 }
 
-# The program that `rt ci` proved makes what README shows of the example of a flight. It and the library are installed and packaged,
+# The program that `rt ci` proved makes what USING shows of the example of a flight. It and the library are installed and packaged,
 # and tried where they were put.
 installed() {
     local program=$top/crates/r10_cli/out/r10_cli

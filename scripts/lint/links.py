@@ -3,8 +3,8 @@
 
     scripts/lint/links.py
 
-It reads README.md, docs/ and the READMEs of the crates and of the scripts. A link has to lead to a file, and what follows its # to
-a heading of that file. A name in backquotes that has the form of a file's has to be one: below the top, in a folder that documents
+It reads the documents of the top and of docs/, and the READMEs of the crates and of the scripts. A link has to lead to a file, and
+what follows its # to a heading of that file. A name in backquotes that has the form of a file's has to be one: below the top, in a folder that documents
 speak of, or in the crate whose README it stands in. `src/{one,two}.rt` are two names. Names with NAME, *, .. or < in them are forms
 of names, and are passed over, as are those in PASSED. Status 1 where one leads nowhere.
 
@@ -36,7 +36,10 @@ FOLDERS = ('', 'crates', 'docs', 'examples', 'ffi', 'recorder', 'scripts',
 PASSED = {'Reads.antt', 'program.c', 'script.toml', 'report.html', 'rtlib.py', 'START-HERE.md', 'lib.rs', 'settings.toml'}
 
 # Documents in which each word in backquotes with _, :: or a capital is one of the sources.
-NAMING = ('README.md', 'docs/ARCHITECTURE.md', 'docs/DECISIONS.md', 'docs/FORMAT.md', 'docs/MODEL.md', 'docs/UNPROVED.md')
+NAMING = ('README.md', 'docs/ARCHITECTURE.md', 'docs/DECISIONS.md', 'docs/FORMAT.md', 'docs/MODEL.md', 'docs/PROMISES.md',
+          'docs/UNPROVED.md')
+# The heading from which on a script writes a page: contracts, whose words are not looked at.
+MADE = '## The contracts'
 # Words of the language, of its ported crates, of C and of the system.
 WORDS = {'u64', 'MAX', 'Ok', 'Err', 'Some', 'None', 'Option', 'Result', 'Global', 'AllocError', 'BufWriter', 'Default', 'Copy',
          'Drop', 'malloc', 'stdin', 'stdout', 'r10', '_', '524_284', 'IsPair', 'slots_beside'}
@@ -143,7 +146,8 @@ def faults_of_names(path: pathlib.Path, sources: Sources) -> list[str]:
     if not crate and str(path.relative_to(TOP)) not in NAMING:
         return []
     found, section, is_headed = [], '', False
-    for number, line in enumerate(path.read_text(encoding='utf-8').split('\n'), 1):
+    text = path.read_text(encoding='utf-8')
+    for number, line in enumerate(text.split(f'\n{MADE}\n')[0].split('\n'), 1):
         section = line if line.startswith('## ') else section
         faults = []
         for code in re.findall(r'`((?:\w+::)*\w+)`', line):
@@ -202,7 +206,7 @@ def main() -> int:
     if sys.argv[1:]:
         print(__doc__, file=sys.stderr)
         return 2
-    paths = [TOP / 'README.md', *sorted((TOP / 'docs').glob('*.md')), *sorted((TOP / 'crates').glob('*/README.md')),
+    paths = [*sorted(TOP.glob('*.md')), *sorted((TOP / 'docs').glob('*.md')), *sorted((TOP / 'crates').glob('*/README.md')),
              TOP / 'scripts' / 'README.md']
     sources = Sources()
     found = [fault for path in paths for fault in faults_of(path) + faults_of_names(path, sources)] + faults_of_scripts()

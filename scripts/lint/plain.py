@@ -20,7 +20,9 @@ from typing import Iterator, NamedTuple
 
 TOP = Path(__file__).resolve().parents[2]
 ALLOWED = TOP / "scripts" / "lint" / "plain_allowed.txt"
-MADE = {"docs/PROOFS.md", "docs/CALLERS.md", "docs/THEOREM.md", "docs/PROMISES.md"}
+MADE = {"docs/PROOFS.md", "docs/CALLERS.md", "docs/THEOREM.md"}
+# Pages that a script writes from a heading on.
+MADE_FROM = {"docs/PROMISES.md": "## The contracts"}
 LONGEST = 25
 AVERAGE = 20
 WORDS = {
@@ -88,9 +90,10 @@ def blocks(text: str) -> Iterator[tuple[int, str, bool]]:
 
 
 def sentences(path: Path) -> list[Sentence]:
-    """The sentences of a document."""
-    found = []
-    for line, block, in_table in blocks(path.read_text(encoding="utf-8")):
+    """The sentences of a document, as far as a person writes it."""
+    found, text = [], path.read_text(encoding="utf-8")
+    heading = MADE_FROM.get("/".join(path.parts[-2:]))
+    for line, block, in_table in blocks(text.split(f"\n{heading}\n")[0] if heading else text):
         seen = readable(block)
         seen = SHORT.sub(lambda short: short.group().replace(".", "").rstrip() + " ", seen)
         for text in ENDS.split(seen):
@@ -111,7 +114,7 @@ def comments() -> Iterator[str]:
 
 def documents() -> list[Path]:
     """The documents that a person writes."""
-    found = [TOP / "README.md", *sorted((TOP / "docs").glob("*.md")), *sorted((TOP / "crates").glob("*/README.md")),
+    found = [*sorted(TOP.glob("*.md")), *sorted((TOP / "docs").glob("*.md")), *sorted((TOP / "crates").glob("*/README.md")),
              *(TOP / "scripts").glob("*.md")]
     return [path for path in found if str(path.relative_to(TOP)) not in MADE]
 

@@ -1,5 +1,5 @@
 #!/usr/bin/env python3
-"""Which proofs above need a clause that README's table of promises names: tried by taking the clause out.
+"""Which proofs above need a clause that the table of docs/PROMISES.md names: tried by taking the clause out.
 
     scripts/proofs/above.py [CRATE..]      tries each clause of these crates, or of all
     scripts/proofs/above.py --list         lists what would be tried, and tries nothing
@@ -96,7 +96,7 @@ def main() -> int:
     words.add_argument('--work', type=Path)
     it = words.parse_args()
     graph = wrong_bodies.crates()
-    found = emptied.unique(promises.promises_of(Tree(TOP), (TOP / 'README.md').read_text(encoding='utf-8')))
+    found = emptied.unique(promises.promises_of(Tree(TOP)))
     tool = rt_once.loaded(os.path.realpath(shutil.which('rt') or 'rt'))
     lane = None
     for promise in found:

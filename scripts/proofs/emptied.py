@@ -1,12 +1,12 @@
 #!/usr/bin/env python3
-"""Empties each clause that README's table of promises names, one after the other, and shows that the gate fails each time.
+"""Empties each clause that the table of docs/PROMISES.md names, one after the other, and shows that the gate fails each time.
 
     scripts/proofs/emptied.py --check      in a copy: the page of promises sees each; each clause has an edit of the gate. Seconds
     scripts/proofs/emptied.py [CRATE..]    tries, with the prover, an edit of the gate for each clause over the emptied clause
     scripts/proofs/emptied.py --table      writes the table of docs/SLIPS.md from the results of this script and of above.py
 
 A clause is emptied by `result ≡ result` in its place; the answers that prove it go with it. What stays of the contract is proved
-then, so a weakened promise would go through the prover in silence. Two things see it: docs/PROMISES.md is another page
+then, so a weakened promise would go through the prover in silence. Two things see it: docs/PROMISES.md has another contract
 (promises.py --check), and the edit that this clause refuses is refused by it no longer (slips.py --gate). Results stand in
 emptied.txt, a line for each clause: crate, function, clause, sum of the edit, sums of the crate as wrong_bodies.py has them, date,
 and what else refuses the edit then, or `through`.
@@ -109,7 +109,7 @@ def without_edit(found: list[Promise], guards: list[slips.Guard]) -> list[str]:
 def check() -> int:
     """The quick form."""
     tree = Tree(TOP)
-    found = promises.promises_of(tree, (TOP / 'README.md').read_text(encoding='utf-8'))
+    found = promises.promises_of(tree)
     with tempfile.TemporaryDirectory() as room:
         for crate in tree.crates:
             for folder in ('src', 'specs'):
@@ -152,7 +152,7 @@ def page_with(page: str, found: list[Promise]) -> str:
 
 def write_table() -> int:
     """Writes the table of the page."""
-    found = unique(promises.promises_of(Tree(TOP), (TOP / 'README.md').read_text(encoding='utf-8')))
+    found = unique(promises.promises_of(Tree(TOP)))
     page = wrong_bodies.PAGE.read_text(encoding='utf-8')
     wrong_bodies.PAGE.write_text(page_with(page, found), encoding='utf-8')
     return 0
@@ -220,7 +220,7 @@ def keep(line: str) -> None:
 
 def tried(names: list[str], work: Path) -> int:
     """The whole form: an edit for each clause over the emptied clause."""
-    found = unique(promises.promises_of(Tree(TOP), (TOP / 'README.md').read_text(encoding='utf-8')))
+    found = unique(promises.promises_of(Tree(TOP)))
     graph, bad = wrong_bodies.crates(), 0
     lane = wrong_bodies.Lane(work)
     for name in graph:

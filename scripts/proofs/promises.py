@@ -1,7 +1,7 @@
 #!/usr/bin/env python3
-"""Writes docs/PROMISES.md: each contract that README's table of promises names, clause by clause, as the sources have it.
+"""Writes the contracts of docs/PROMISES.md: each that its table of promises names, clause by clause, as the sources have it.
 
-    scripts/proofs/promises.py            writes the page
+    scripts/proofs/promises.py            writes what stands after the heading "The contracts"; what stands before it is by hand
     scripts/proofs/promises.py --check    fails if the page is not what would be written
     scripts/proofs/promises.py --list     prints a line for each clause that the table names: promise, function, clause, file
 
@@ -26,6 +26,7 @@ from reads import Fault, Item, Tree, clauses_of, without_comments  # noqa: E402
 TOP = Path(__file__).resolve().parents[2]
 PAGE = TOP / 'docs' / 'PROMISES.md'
 HEADING = '## What is promised'
+MADE = '## The contracts'
 NAME = r'`[\w:]+`'
 NAMES = rf'{NAME}(?:(?:, | and ){NAME})*'
 # (a list of functions, and then the clauses, or the word that there is one)
@@ -35,7 +36,7 @@ ROW = re.compile(r'^\| (\d+) \| (.*) \| (.*) \| (.*) \|$', re.M)
 
 
 class Promise(NamedTuple):
-    """A clause that README names: of which promise, of which function. A function with one clause has an empty name for it."""
+    """A clause that the table names: of which promise, of which function. A function with one clause has an empty name for it."""
 
     number: str
     function: str
@@ -61,21 +62,29 @@ def found_in(tree: Tree, name: str, crates: list[str]) -> Item:
     """The public function of this name in one of these crates."""
     found = [it for it in tree.named(name) if it.kind == 'function' and it.crate in crates]
     if len(found) != 1:
-        raise Fault(f'README.md names `{name}`, which is {len(found)} functions of {", ".join(crates) or "no crate"}')
+        raise Fault(f'docs/PROMISES.md names `{name}`, which is {len(found)} functions of {", ".join(crates) or "no crate"}')
     return found[0]
 
 
-def promises_of(tree: Tree, readme: str) -> list[Promise]:
-    """The clauses that the table names, in its order, each once a promise."""
-    if HEADING not in readme:
-        raise Fault(f'README.md has no {HEADING}')
-    table, made = readme[readme.index(HEADING):], []
+def by_hand(top: Path) -> str:
+    """What stands by hand on the page of a tree: all before the contracts."""
+    page = top / 'docs' / 'PROMISES.md'
+    text = page.read_text(encoding='utf-8') if page.is_file() else ''
+    return text.split(f'\n{MADE}\n')[0].rstrip('\n') + '\n'
+
+
+def promises_of(tree: Tree) -> list[Promise]:
+    """The clauses that the table of a tree names, in its order, each once a promise."""
+    page, made = by_hand(tree.top), []
+    if HEADING not in page:
+        raise Fault(f'docs/PROMISES.md has no {HEADING}')
+    table = page[page.index(HEADING):]
     for row in ROW.finditer(table):
         crates = list(dict.fromkeys(re.findall(r'`(r10_\w+)/', row[4])))
         named = [(function, clause) for it in NAMED.finditer(row[3])
                  for function in words_in(it[1]) for clause in (words_in(it[2]) if it[2] else [''])]
         if not named:
-            raise Fault(f'promise {row[1]} of README.md names no clause')
+            raise Fault(f'promise {row[1]} of docs/PROMISES.md names no clause')
         for it in ALIKE.finditer(row[3]):
             function, clause = named[0]
             owner = function.rpartition('::')[0]
@@ -89,7 +98,7 @@ def promises_of(tree: Tree, readme: str) -> list[Promise]:
             if one not in made:
                 made.append(one)
     if not made:
-        raise Fault(f'README.md has no promises after {HEADING}')
+        raise Fault(f'docs/PROMISES.md has no promises after {HEADING}')
     return made
 
 
@@ -187,7 +196,7 @@ def section_of(sums: Sums, item: Item, promises: list[Promise]) -> list[str]:
     head = bare[:bare.index(clauses[0][1])] if clauses else bare
     bound = frozenset([*re.findall(r'(\w+)\s*:(?!:)', head), 'self', 'result'])
     named = ', '.join(f'{f"`{it.clause}`" if it.clause else "its one clause"} (promise {it.number})' for it in promises)
-    out = [f'## `{item.name}`', '', f'In {place_of(item.path)}. README names {named}.', '',
+    out = [f'### `{item.name}`', '', f'In {place_of(item.path)}. Promised: {named}.', '',
            '```', contract_of(item), '```', '', '| For | Definition | File | Sum | Stands on |', '|---|---|---|---|---|']
     rows = [(text.split()[0] + ('' if name in ('requires', 'ensures') else f' `{name}`'), definitions_of(sums, item, text, bound))
             for name, text in clauses]
@@ -198,20 +207,21 @@ def section_of(sums: Sums, item: Item, promises: list[Promise]) -> list[str]:
     return [*out, '', *words_of_toolchain(sums.tree, item, bound)]
 
 
-def page_of(tree: Tree, readme: str) -> str:
-    """The page."""
-    promises = promises_of(tree, readme)
+def page_of(tree: Tree) -> str:
+    """The page: what stands there by hand, and the contracts."""
+    promises = promises_of(tree)
     by_item: dict[Item, list[Promise]] = {}
     for it in promises:
         by_item.setdefault(it.item, []).append(it)
     clauses = {(it.item, it.clause) for it in promises}
     out = [
-        '# The promises, clause by clause',
+        by_hand(tree.top),
+        MADE,
         '',
-        'Made by `scripts/proofs/promises.py` from the sources. The gate compares it (`--check`). So a change of a promise changes',
-        'a line here, and stands in the diff that makes it.',
+        'Made by `scripts/proofs/promises.py` from the table and the sources. The gate compares it (`--check`). So a change of a',
+        'promise changes a line here, and stands in the diff that makes it.',
         '',
-        f"[README's table](../README.md#what-is-promised) names {len(clauses)} clauses of {len(by_item)} functions.",
+        f'The table names {len(clauses)} clauses of {len(by_item)} functions.',
         'Here is the contract of each, whole, without comments.',
         'Below each contract stand the definitions that its clauses name. *Sum* is one over the text of a definition and of all',
         'that it stands on, near and far. *Stands on* counts these, itself among them.',
@@ -230,16 +240,15 @@ def main(words: list[str]) -> int:
         print(__doc__, file=sys.stderr)
         return 2
     tree = Tree(TOP)
-    readme = (TOP / 'README.md').read_text(encoding='utf-8')
     try:
         if words == ['--list']:
-            for it in promises_of(tree, readme):
+            for it in promises_of(tree):
                 print(it.number, it.item.name, it.clause or '-', it.item.path)
             return 0
-        page = page_of(tree, readme)
+        page = page_of(tree)
         if not words:
             PAGE.write_text(page, encoding='utf-8')
-        elif not PAGE.is_file() or PAGE.read_text(encoding='utf-8') != page:
+        elif PAGE.read_text(encoding='utf-8') != page:
             raise Fault('a promise, or what it stands on, is not what docs/PROMISES.md has. If that is meant: '
                         'run scripts/proofs/promises.py, and say in the commit why the promise changes')
     except Fault as fault:

@@ -1,7 +1,7 @@
 #!/usr/bin/env bash
 # The example of a flight, examples/flight.toml, and what the documents show of it.
 #
-#     scripts/rows/flight.sh make [PROGRAM]     draws docs/flight.svg, and prints the summary that README.md shows
+#     scripts/rows/flight.sh make [PROGRAM]     draws docs/flight.svg, and prints the summary that docs/USING.md shows
 #     scripts/rows/flight.sh check [PROGRAM]    sees that the setup is examples/flight.tmt, and that replies, summary and picture
 #                                               are what the files have
 #
@@ -49,7 +49,7 @@ fi
 "$top/scripts/ch10.py" setup --file 1 <"$made/flight.img" | cmp - "$text" ||
     give_up "the setup that is recorded is not examples/flight.tmt"
 cmp "$made/flight.svg" "$top/docs/flight.svg" || give_up "docs/flight.svg is another picture: scripts/rows/flight.sh make"
-python3 - "$made/shown" "$top/README.md" <<'PY' || give_up "README.md shows another summary: scripts/rows/flight.sh make"
+python3 - "$made/shown" "$top/docs/USING.md" <<'PY' || give_up "docs/USING.md shows another summary: scripts/rows/flight.sh make"
 import sys
 shown, page = (open(it, encoding='utf-8').read() for it in sys.argv[1:])
 sys.exit(shown.strip('\n') not in page)

@@ -71,7 +71,7 @@ printf 'pub fn twice(a: u64) -> u64\n{\n    count(count(a))\n}\n\npub fn thrice(
     'pub fn none(a: u64) -> u64 { other(a) }' >"$user/src/lib.rt"
 echo 'returns g c = c.count.ensures.counted' >"$user/proofs/twice/Answers.antt"
 printf '%s\n' '## What is promised' '' '| | Promise | Function | File |' '|---|---|---|---|' \
-    '| 1 | It counts. | `count`, clause `counted` | `r10_high/src/lib.rt` |' >"$tree/README.md"
+    '| 1 | It counts. | `count`, clause `counted` | `r10_high/src/lib.rt` |' >"$tree/docs/PROMISES.md"
 printf '%s\n' '## Emptied clauses' '' 'Made by `scripts/proofs/emptied.py --table`.' '' '## Next' >"$tree/docs/SLIPS.md"
 git init -q "$tree"
 commit() { git -C "$tree" add -A && git -C "$tree" commit -qm "$1"; }

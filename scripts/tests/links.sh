@@ -24,6 +24,9 @@ check "a link to a file and its heading" is \
     "$(of '[a](docs/ONE.md) [b](docs/ONE.md#two-words-one-more) [c](docs/ONE.md#two-words-one-more-1)'\
         ' [d](https://example.org/x)')" 0
 check "a link to no file" is "$(of '[a](docs/TWO.md)')" 1
+echo '[a](docs/TWO.md)' >"$room/CHANGELOG.md"
+check "also in another document of the top" is "$("$room/scripts/lint/links.py" | grep -c '^CHANGELOG.md:1: ')" 1
+rm "$room/CHANGELOG.md"
 check "a link to no heading" is "$(of '[a](docs/ONE.md#two-words-one-more-2)')" 1
 check "names of files" is \
     "$(of '`crates/r10_one/src/lib.rt` `r10_one/src/{lib,other}.rt` `docs/ONE.md` `crates/NAME/src/lib.rt`')" 0
@@ -33,6 +36,10 @@ check "what only begins like a file's name" is "$(of '`recorder.committed` `FLIG
 check "names of the sources" is "$(of 'By `go`, clause `comes`: `Kind::Small`, `Run`, `R10`, `lower`, `r10_two`, and `r10_one`.')" 0
 check "a name of nothing" is "$(of '`Kind::Large` `Walk`')" 2
 check "a clause that the function has not" is "$(of '`go`, clause `Run`')" 1
+promised() { printf '%b' "$1" >"$room/docs/PROMISES.md"; "$room/scripts/lint/links.py" | grep -c '^docs/PROMISES.md:1: '; }
+check "a name of nothing on the page of promises" is "$(promised '`Walk`\n\n## The contracts\n\n`Walk`\n')" 1
+check "and none in its contracts" is "$(promised '`Run`\n\n## The contracts\n\n`Walk`\n')" 0
+rm "$room/docs/PROMISES.md"
 row() { of "| Promise | Function | File below \`crates/\` |
 |---|---|---|
 | one | two | $1 |" | tail -n 1; "$room/scripts/lint/links.py" | grep -c '^README.md:3: '; }

@@ -36,6 +36,16 @@ check "names of code are not looked at" answers plain.py 0 ""
 with README.md "\n$(printf 'word %.0s' {1..26})."
 check "a document with a sentence of 26 words" answers plain.py 1 "26 words"
 
+with CHANGELOG.md "$(printf 'word %.0s' {1..26})."
+check "so is another document of the top" answers plain.py 1 "CHANGELOG.md:1: 26 words"
+rm "$room/CHANGELOG.md"
+with docs/PROMISES.md "$(printf 'word %.0s' {1..26}).\n\n## The contracts\n\nWords."
+check "what a person writes of a page is measured" answers plain.py 1 "docs/PROMISES.md:1: 26 words"
+rm "$room/docs/PROMISES.md"
+with docs/PROMISES.md "Words.\n\n## The contracts\n\n$(printf 'word %.0s' {1..26})."
+check "and what a script writes is not" answers plain.py 0 ""
+rm "$room/docs/PROMISES.md"
+
 check "each name of a type has one meaning in this tree, and no line is long" "$top/scripts/lint/check_names.py"
 anew
 sed -i '/^ALLOWED = {/,/^}/c\ALLOWED: dict[str, str] = {}' "$room/scripts/lint/check_names.py"

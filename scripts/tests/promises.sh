@@ -82,7 +82,9 @@ pub fn third(a: u64) -> u64
     a
 }
 RT
-cat >"$room/README.md" <<'MD'
+cat >"$room/docs/PROMISES.md" <<'MD'
+# The promises
+
 ## What is promised
 
 | | Promise | Function | File |
@@ -105,17 +107,24 @@ changes() {
     ends "$1" "${4-}"
 }
 
+cp "$room/docs/PROMISES.md" "$room/by_hand" && rm "$room/docs/PROMISES.md"
+promises --check
+check "without a page the check fails" ends 1 "docs/PROMISES.md has no ## What is promised"
+cp "$room/by_hand" "$room/docs/PROMISES.md"
 promises --list
 check "each clause is listed once, also one that is named by its neighbour" is "$said" "1 count counted crates/r10_high/src/lib.rt
 1 other - crates/r10_high/src/lib.rt
 1 third counted crates/r10_high/src/lib.rt
 2 LaneOut::take taken crates/r10_low/src/lane.rt"
 promises --check
-check "without a page the check fails" ends 1 "a promise, or what it stands on, is not what docs/PROMISES.md has"
+check "without the contracts the check fails" ends 1 "a promise, or what it stands on, is not what docs/PROMISES.md has"
 promises
 check "the page is written" ends 0 ""
 promises --check
 check "and is what would be written" ends 0 ""
+check "what stands there by hand stays" is "$(sed -n '1p;/^| 1 |/p;/^## /p' "$room/docs/PROMISES.md" | cut -c 1-20)" \
+    "$(printf '%s\n' '# The promises' '## What is promised' '| 1 | It is. And on.' '## The contracts')"
+check "and may be changed" changes 0 "$room/docs/PROMISES.md" 's/^# The promises/# All promises/'
 check "it has a contract whole, without its comments" is \
     "$(grep -c 'requires low\|ensures counted\|ensures same\|ensures { IsC\|no promise\|It counts' "$room/docs/PROMISES.md")" 5
 check "and what a type gives for a word of a trait" says "$(cat "$room/docs/PROMISES.md")" '`took of Ring`'
@@ -139,12 +148,12 @@ check "one below" changes 1 "$low/specs/Counts.antt" 's/{ℕ, ◌<◌}/{ℕ, ◌
 check "a comment is no change" changes 0 "$low/specs/Counts.antt" 's/-- a count has 48 bits/-- a count/'
 check "nor is a body" changes 0 "$high/src/lib.rt" 's/^    Ok(a)/    Ok(a + 0)/'
 check "nor how a line is broken" changes 0 "$low/specs/Counts.antt" 's/^IsCount n = n < bound/IsCount n =\n  n < bound/'
-check "README names no function that is not there" \
-    changes 1 "$room/README.md" 's/`count`/`counts`/' 'names `counts`, which is 0 functions'
-check "nor a clause" changes 1 "$room/README.md" 's/clause `counted`/clause `found`/' '`count` has no clause found'
-check "nor a one clause of several" changes 1 "$room/README.md" 's/`count`, clause `counted`/`count`, its one clause/' \
+check "the table names no function that is not there" \
+    changes 1 "$room/docs/PROMISES.md" 's/`count`/`counts`/' 'names `counts`, which is 0 functions'
+check "nor a clause" changes 1 "$room/docs/PROMISES.md" 's/clause `counted`/clause `found`/' '`count` has no clause found'
+check "nor a one clause of several" changes 1 "$room/docs/PROMISES.md" 's/`count`, clause `counted`/`count`, its one clause/' \
     '`count` has no clause that is its one'
 check "each promise names a clause" \
-    changes 1 "$room/README.md" 's/`LaneOut::take`, clause `taken`/none/' 'promise 2 of README.md names no clause'
-check "what README no longer names is seen too" changes 1 "$room/README.md" 's/; so too `third`//' "$change"
+    changes 1 "$room/docs/PROMISES.md" 's/`LaneOut::take`, clause `taken`/none/' 'promise 2 of docs/PROMISES.md names no clause'
+check "what the table no longer names is seen too" changes 1 "$room/docs/PROMISES.md" 's/; so too `third`//' "$change"
 exit "$failed"
