@@ -4,9 +4,9 @@
     scripts/lint/links.py
 
 It reads the documents of the top and of docs/, and the READMEs of the crates and of the scripts. A link has to lead to a file, and
-what follows its # to a heading of that file. A name in backquotes that has the form of a file's has to be one: below the top, in a folder that documents
-speak of, or in the crate whose README it stands in. `src/{one,two}.rt` are two names. Names with NAME, *, .. or < in them are forms
-of names, and are passed over, as are those in PASSED. Status 1 where one leads nowhere.
+what follows its # to a heading of that file. A name in backquotes that has the form of a file's has to be one: below the top, in a
+folder that documents speak of, or in the crate whose README it stands in. `src/{one,two}.rt` are two names. Names with NAME, *, ..
+or < in them are forms of names, and are passed over, as are those in PASSED. Status 1 where one leads nowhere.
 
 In a crate's README, and in the documents of NAMING, a word in backquotes has to be something of the sources: a function, a clause,
 a type, a definition, a field, a file, a crate, or a word of WORDS. Where a README says what is proved, it has to be of its own
