@@ -43,10 +43,26 @@ if [ -d "$REGISTRY/clap-4.0.32" ] || compgen -G "$REGISTRY/clap-4*" >/dev/null; 
     from=(--config "$top/recorder/debian.toml" --offline)
 fi
 
+# The crate in a folder of its own, with the sources as links: cargo writes sums into Cargo.lock, and Debian's crates have not all
+# of them. The versions are those of the tree's Cargo.lock; where the packages of another Debian have others, those are taken.
+crate() {
+    local to=$top/out/recorder/crate
+    mkdir -p "$to" && ln -sfn "$top/recorder/src" "$to/src" && ln -sfn "$top/recorder/examples" "$to/examples" || return
+    sed 's|path = "\.\./ffi/|path = "'"$(for_sed "$top")"'/ffi/|' "$top/recorder/Cargo.toml" >"$to/Cargo.toml.new" || return
+    cmp -s "$to/Cargo.toml.new" "$to/Cargo.toml" || cp "$to/Cargo.toml.new" "$to/Cargo.toml" || return
+    if ! cmp -s "$top/recorder/Cargo.lock" "$to/Cargo.lock.of_tree"; then
+        cp "$top/recorder/Cargo.lock" "$to/Cargo.lock" && cp "$to/Cargo.lock" "$to/Cargo.lock.of_tree" || return
+        cargo "${from[@]}" metadata --format-version 1 --manifest-path "$to/Cargo.toml" >/dev/null 2>&1 || rm "$to/Cargo.lock"
+    fi
+    echo "$to/Cargo.toml"
+}
+
 # cargo over the library, in a folder of its own.
 build_by() {
-    R10_LIB_DIR=$library R10_STATIC=1 CARGO_TARGET_DIR=$top/out/recorder/target nice -n 5 cargo "${from[@]}" "$@" --manifest-path \
-        "$top/recorder/Cargo.toml"
+    local manifest
+    manifest=$(crate) || return
+    R10_LIB_DIR=$library R10_STATIC=1 CARGO_TARGET_DIR=$top/out/recorder/target nice -n 5 cargo "$1" "${from[@]}" "${@:2}" \
+        --manifest-path "$manifest"
 }
 
 # The folder with libr10.a: one of its own, in which the file changes only if its bytes do, so that nothing is built anew.

@@ -376,7 +376,7 @@ mod tests {
         it.send(now, &format1(0, &packet(9, 0, 0x50, 500, &uart(500, b"a"))));
         // the time of this counter, to the hundredth
         let civil = clock::civil(clock::at(clock::now() + 1_000_000_000));
-        let bcd = |it: u16| it / 10 << 4 | it % 10;
+        let bcd = |it: u16| ((it / 10) << 4) | (it % 10);
         let words = [
             bcd(civil.second) << 8 | bcd(civil.centi),
             bcd(civil.hour) << 8 | bcd(civil.minute),

@@ -5,16 +5,15 @@ use crate::clock;
 use crate::control::Reply;
 use crate::dates::Dates;
 use crate::info;
+use crate::keeps::Current;
 use crate::medium::printed;
 use crate::owner::{Owner, State, Trouble};
-use crate::words::No;
+use crate::words::{Answer, No};
 
 /// The release of the standard that the setup record names: 12 is IRIG 106-17.
 const RELEASE: u32 = 12;
 /// Bits of `.HEALTH` that are critical, where nobody said otherwise: a full medium and a disk that failed.
 pub const CRITICAL: u32 = 0xc000_0000;
-/// How many events of a file are listed.
-const MOST: usize = 1000;
 /// The longest text of an event.
 const LONGEST: usize = 200;
 
@@ -28,47 +27,49 @@ pub struct Noted {
 
 impl Owner {
     /// `.EVENT`: lists the events of the file, or records one.
-    pub(crate) fn event(&mut self, words: &[&str]) -> Result<Result<Reply, No>, Trouble> {
+    pub(crate) fn event(&mut self, words: &[&str]) -> Answer {
         let Some((number, text)) = words.split_first() else {
             let line = |mut out: String, it: &Noted| {
                 let _ = writeln!(out, "{} {} {} {}", it.number, it.civil, it.count, it.text);
                 out
             };
-            return Ok(Ok(Reply::Text(self.noted.iter().fold(String::new(), line))));
+            return Ok(Reply::Text(self.file.iter().flat_map(Current::events).fold(String::new(), line)));
         };
         let Ok(number) = number.parse::<u16>() else {
-            return Ok(Err(No::Parameter(format!("{number} is no event: give 0 to 4095, and a text if you like"))));
+            return Err(No::Parameter(format!("{number} is no event: give 0 to 4095, and a text if you like")).into());
         };
         let text = text.join(" ");
         if text.len() > LONGEST || text.contains(char::is_control) {
-            return Ok(Err(No::Parameter(format!("the text of an event has at most {LONGEST} bytes, and no control characters"))));
+            return Err(
+                No::Parameter(format!("the text of an event has at most {LONGEST} bytes, and no control characters")).into()
+            );
         }
         match self.state {
             State::Recording => self.note_event(number)?,
             State::Full => {
-                return Ok(Err(No::Full(
+                return Err(No::Full(
                     "there is no room for another file, and the event is in none; copy the files, then give .ERASE and .RECORD"
                         .to_string(),
-                )));
+                )
+                .into());
             }
-            _ => return Ok(Err(No::Mode("no file is recorded; give .RECORD first".to_string()))),
+            _ => return Err(No::Mode("no file is recorded; give .RECORD first".to_string()).into()),
         }
         if !text.is_empty() {
             self.note(false, &format!("event {number}: {text}"));
         }
-        if let Some(it) = self.noted.back_mut() {
+        if let Some(it) = self.file.as_mut().and_then(Current::last_event) {
             it.text = text;
         }
-        Ok(Ok(Reply::Text(String::new())))
+        Ok(Reply::Text(String::new()))
     }
 
     /// Keeps an event for the list.
     pub(crate) fn list_event(&mut self, number: u16, count: u64) {
-        if self.noted.len() >= MOST {
-            self.noted.pop_front();
-        }
         let civil = clock::text(&clock::civil(clock::at(clock::now())));
-        self.noted.push_back(Noted { number, count, civil, text: String::new() });
+        if let Some(file) = &mut self.file {
+            file.add_event(Noted { number, count, civil, text: String::new() });
+        }
     }
 
     /// `.FILES`: with the dates and times that the directory has.
@@ -118,22 +119,22 @@ impl Owner {
     }
 
     /// `.DISMOUNT`: the medium can be taken away then.
-    pub(crate) fn dismount(&mut self) -> Result<Result<Reply, No>, Trouble> {
+    pub(crate) fn dismount(&mut self) -> Answer {
         if self.state == State::Recording {
-            return Ok(Err(No::Mode("a file is recorded; give .STOP first".to_string())));
+            return Err(No::Mode("a file is recorded; give .STOP first".to_string()).into());
         }
         self.medium.keep(false);
-        self.wants = false;
-        self.waits = None;
+        self.wish.wants = false;
+        self.wish.waits = None;
         self.readers.clear();
         self.recorder()?.dismount()?;
         self.settle()?;
         self.recorder = None;
         self.file = None;
         self.state = State::Dismounted;
-        self.why = "the medium is dismounted; .MOUNT takes it up again".to_string();
+        self.failures.why = "the medium is dismounted; .MOUNT takes it up again".to_string();
         info!("the medium was dismounted by a command, and can be taken away");
-        Ok(Ok(Reply::Text(String::new())))
+        Ok(Reply::Text(String::new()))
     }
 
     /// `.MOUNT`: takes a medium up again, or another one at the same path.
@@ -142,7 +143,7 @@ impl Owner {
             return Err(No::Mode("a medium is mounted already; .DISMOUNT gives it up".to_string()));
         }
         self.open_again().map_err(|it| No::NoMedia(it.text().to_string()))?;
-        self.why.clear();
+        self.failures.why.clear();
         info!("the medium was mounted by a command");
         Ok(Reply::Text(String::new()))
     }
@@ -178,9 +179,9 @@ impl Owner {
         found.push(match read {
             Some(Ok(())) => (true, "medium: its directory can be read".to_string()),
             Some(Err(refusal)) => (false, format!("medium: {}", refusal.text())),
-            None => (false, format!("medium: {}", self.why)),
+            None => (false, format!("medium: {}", self.failures.why)),
         });
-        let is_there = self.recorder.is_some() && self.medium.place() == self.place;
+        let is_there = self.recorder.is_some() && self.medium.is_at_its_path();
         found.push((is_there, "medium: what is recorded on has its path".to_string()));
         let free = match &mut self.recorder {
             Some(it) => it.status()?.free,

@@ -87,7 +87,7 @@ impl Pair {
         let before = Instant::now();
         let other = other()?;
         let (before, after) = (counter.nanos_at(before), counter.nanos_at(Instant::now()));
-        Ok(Pair { counter: (before + after) / 2, other, uncertainty: (after - before + 1) / 2 })
+        Ok(Pair { counter: i128::midpoint(before, after), other, uncertainty: (after - before + 1) / 2 })
     }
 
     /// One with the system's clock, in nanoseconds since 1970 in UTC.
@@ -254,7 +254,7 @@ mod tests {
         assert_eq!(steps.look(&pair(3 * SECOND, start + 3 * SECOND + 18 * MILLI)), None);
         let found = steps.look(&pair(4 * SECOND, start + 4 * SECOND + 8 * MILLI)).unwrap();
         assert!((found + 0.010).abs() < 1e-9, "{found}");
-        assert_eq!(steps.look(&pair(5 * SECOND, start + 3605 * SECOND)).map(|it| it.round()), Some(3600.0));
+        assert_eq!(steps.look(&pair(5 * SECOND, start + 3605 * SECOND)).map(f64::round), Some(3600.0));
         assert!(steps.look(&pair(6 * SECOND, start)).unwrap() < -3605.0);
     }
 

@@ -187,6 +187,8 @@ pub struct Keeper {
     last: u64,
     stepped: Option<Instant>,
     pub last_step: f64,
+    /// steps of the system's clock since the start
+    pub steps_seen: u64,
     pub known: Known,
     told: Option<(Option<bool>, String, Option<bool>)>,
 }
@@ -213,6 +215,7 @@ impl Keeper {
             last: 0,
             stepped: None,
             last_step: 0.0,
+            steps_seen: 0,
             known,
             told: None,
         }

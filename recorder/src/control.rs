@@ -204,7 +204,7 @@ fn connect<S: Connection>(stream: S, origin: Origin, asking: &Asking, open: &Arc
 
 /// Answers a client's lines until it goes.
 fn serve<S: Connection>(mut to: S, origin: Origin, asking: &Asking) -> io::Result<()> {
-    let slow = Some(Duration::from_secs(60));
+    let slow = Some(Duration::from_mins(1));
     to.limit(None, slow)?;
     let mut from = BufReader::new(to.copy()?);
     let mut line = Vec::new();

@@ -14,22 +14,12 @@ pub struct Offer {
     pub bytes: Vec<u8>,
 }
 
-fn digit(it: u8) -> Option<u8> {
-    char::from(it).to_digit(16).map(|it| it as u8)
-}
-
-pub fn from_hex(text: &str) -> Option<Vec<u8>> {
-    let text = text.as_bytes();
-    text.len().is_multiple_of(2).then(|| text.chunks(2).map(|it| Some(digit(it[0])? << 4 | digit(it[1])?)).collect())?
-}
-
+/// Bytes as pairs of hex digits, and `-` for none.
 pub fn to_hex(out: &mut String, bytes: &[u8]) {
     if bytes.is_empty() {
         out.push('-');
     }
-    for it in bytes {
-        out.extend([char::from_digit((it >> 4).into(), 16), char::from_digit((it & 15).into(), 16)].into_iter().flatten());
-    }
+    out.push_str(&hex::encode(bytes));
 }
 
 /// Reads a line. `kind_of` says of which kind a channel is; the channel is `only` where the line says none.

@@ -84,7 +84,7 @@ pub struct Seldom {
 
 impl Seldom {
     pub fn warn(&mut self, text: impl FnOnce() -> String) {
-        if self.last.is_some_and(|it| it.elapsed() < Duration::from_secs(60)) {
+        if self.last.is_some_and(|it| it.elapsed() < Duration::from_mins(1)) {
             self.unsaid += 1;
             return;
         }

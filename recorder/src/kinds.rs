@@ -8,7 +8,7 @@ use r10::{Content, Error, Message, Recorder};
 use serde::Deserialize;
 
 use crate::clock;
-use crate::entries::{from_hex, to_hex};
+use crate::entries::to_hex;
 
 /// A kind of channels.
 #[derive(Clone, Copy, Debug, PartialEq, Eq)]
@@ -158,7 +158,7 @@ impl Kind {
             return Err(format!("a message of kind {} has no key {key}", self.name()));
         }
         let hex = |text: &Option<String>| {
-            text.as_deref().map_or(Some(Vec::new()), from_hex).ok_or("bytes and words are pairs of hex digits")
+            text.as_deref().map_or(Ok(Vec::new()), hex::decode).map_err(|_| "bytes and words are pairs of hex digits")
         };
         let (sub, flag) = (keys.sub.unwrap_or(0), |it: Option<bool>| it.unwrap_or(false));
         Ok(match self {

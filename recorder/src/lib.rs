@@ -18,6 +18,7 @@ pub mod feed;
 pub mod figures;
 pub mod header;
 pub mod inputs;
+pub mod keeps;
 pub mod kinds;
 pub mod live;
 pub mod log;

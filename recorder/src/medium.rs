@@ -10,6 +10,7 @@ use std::time::{Duration, Instant};
 use nix::sys::stat::{major, minor};
 use r10::{Disk, Error, Recorder, Region};
 
+use crate::inputs::Seldom;
 use crate::settings::Settings;
 use crate::{info, warning, watchdog};
 
@@ -44,6 +45,11 @@ pub struct Medium {
     blocks: usize,
     directory: usize,
     script: String,
+    /// the file or device that was opened at the path
+    opened: Option<(u64, u64)>,
+    gone: Seldom,
+    /// up to this block it was read plainly
+    pub(crate) ahead: u64,
 }
 
 /// Why a medium cannot be used, and what to do.
@@ -72,6 +78,9 @@ impl Medium {
             blocks: settings.blocks,
             directory: settings.directory,
             script: settings.script.clone(),
+            opened: None,
+            gone: Seldom::default(),
+            ahead: 0,
         }
     }
 
@@ -130,6 +139,29 @@ impl Medium {
     /// Which file or device has the medium's path, if there is one.
     pub fn place(&self) -> Option<(u64, u64)> {
         fs::metadata(&self.path).ok().map(|it| (it.dev(), it.ino()))
+    }
+
+    /// What is at the path now was opened.
+    pub fn is_opened(&mut self) {
+        self.opened = self.place();
+    }
+
+    /// Whether what was opened has the path still.
+    pub fn is_at_its_path(&self) -> bool {
+        self.place() == self.opened
+    }
+
+    /// Warns where what is recorded on has lost its path: it goes with the service.
+    pub fn warn_if_gone(&mut self) {
+        if !self.is_at_its_path() {
+            let (path, own) = (self.path.display(), std::process::id());
+            self.gone.warn(|| {
+                format!(
+                    "the medium {path} was removed, or another file is there now: what is recorded goes when the service ends; \
+                     copy it before that, out of /proc/{own}/fd"
+                )
+            });
+        }
     }
 
     /// The file that is there while a recording is to go on: beside a medium that is a file.
@@ -379,7 +411,15 @@ mod tests {
 
     #[test]
     fn a_path_with_an_end_of_a_line_does_not_end_an_answer() {
-        let medium = Medium { path: "a\n*\nb".into(), blocks: 99, directory: 1, script: String::new() };
+        let medium = Medium {
+            path: "a\n*\nb".into(),
+            blocks: 99,
+            directory: 1,
+            script: String::new(),
+            opened: None,
+            gone: Seldom::default(),
+            ahead: 0,
+        };
         assert_eq!(medium.name(), "a?*?b");
     }
 

@@ -10,16 +10,17 @@ use std::time::{Duration, Instant};
 use r10::{Error, Recorder};
 
 use crate::acknowledge::Acknowledge;
-use crate::chapter6::{CRITICAL, Noted};
+use crate::chapter6::CRITICAL;
 use crate::clock::Counter;
 use crate::clock_state::Keeper;
 use crate::control::Command;
-use crate::feed::{Batch, Came, Item, Outlet};
-use crate::figures::Times;
+use crate::feed::{Came, Item, Outlet};
 use crate::inputs::Seldom;
+use crate::keeps::{Commits, Current, Failures, Intake, Wish};
 use crate::live::Live;
 use crate::medium::{Medium, Refusal};
 use crate::readers::Reader;
+use crate::recording::Ended;
 use crate::settings::{self, Begin, Settings};
 use crate::words::Point;
 use crate::{error, info, warning, watchdog};
@@ -103,58 +104,28 @@ pub struct Lane {
     pub(crate) seldom: Seldom,
 }
 
-/// What came in and was not offered yet.
-#[derive(Default)]
-pub(crate) struct Taken {
-    batch: Batch,
-    item: usize,
-    byte: usize,
-}
-
 pub struct Owner {
     pub settings: Settings,
     pub(crate) counter: Counter,
     pub medium: Medium,
-    /// the file or device that was opened at the medium's path
-    pub(crate) place: Option<(u64, u64)>,
-    pub(crate) gone: Seldom,
     pub recorder: Option<Recorder>,
     pub state: State,
     pub lanes: Vec<Lane>,
-    pub outlets: Vec<Outlet>,
-    pub(crate) taken: Taken,
+    pub(crate) intake: Intake,
     pub(crate) commands: Receiver<Command>,
     pub ending: Arc<AtomicBool>,
     pub point: Point,
     pub readers: Vec<Reader>,
     pub live: Live,
     pub(crate) acknowledge: Option<Acknowledge>,
-    /// number and name of the file that is or was recorded
-    pub file: Option<(usize, String)>,
-    /// events that were recorded in it by a command, or for a step of the clock
-    pub(crate) events: u64,
-    pub(crate) began: Instant,
-    pub(crate) committed: Instant,
+    pub file: Option<Current>,
     pub(crate) ticked: Instant,
-    /// those of the file that is or was recorded
-    pub(crate) noted: VecDeque<Noted>,
     /// by feature, which bits of its health are critical
     pub(crate) critical: Vec<u32>,
-    pub has_news: bool,
-    /// whether a recording goes on after a failure
-    pub(crate) wants: bool,
+    pub(crate) wish: Wish,
     pub clock: Keeper,
-    pub clock_steps: u64,
-    /// a recording begins by itself once the clock is in sync, at this moment at the latest
-    pub(crate) waits: Option<Instant>,
-    pub failures: u32,
-    /// failures since the last commit that went through
-    pub(crate) tries: u32,
-    pub why: String,
-    pub commits: u64,
-    pub times: Times,
-    /// up to this block the medium was read plainly
-    pub(crate) ahead: u64,
+    pub failures: Failures,
+    pub commits: Commits,
 }
 
 /// How long batches are taken in before something else has its turn.
@@ -164,7 +135,7 @@ const LAST_TURN: Duration = Duration::from_secs(if cfg!(test) { 60 } else { 1 })
 
 /// Whether a file is as old as it may become. One without a message may become a day old, as each takes a place in the directory.
 fn is_old(age: Duration, file_for: Duration, has_messages: bool) -> bool {
-    const DAY: Duration = Duration::from_secs(24 * 60 * 60);
+    const DAY: Duration = Duration::from_hours(24);
     age >= if has_messages { file_for } else { file_for.max(DAY) }
 }
 
@@ -193,7 +164,6 @@ impl Owner {
             last: None,
             seldom: Seldom::default(),
         });
-        let now = Instant::now();
         let critical = std::iter::once(CRITICAL).chain(settings.channels.iter().map(|_| 0)).collect();
         let clock = Keeper::new(&settings, counter);
         clock.start(&settings)?;
@@ -206,32 +176,18 @@ impl Owner {
             settings,
             counter,
             recorder: None,
-            place: None,
-            gone: Seldom::default(),
             state: State::Failed(None),
-            outlets: Vec::new(),
-            taken: Taken::default(),
+            intake: Intake::default(),
             commands,
             ending,
             point: Point::default(),
             readers: Vec::new(),
             file: None,
-            events: 0,
-            began: now,
-            committed: now,
-            ticked: now,
-            noted: VecDeque::new(),
+            ticked: Instant::now(),
             critical,
-            has_news: false,
-            wants: false,
-            clock_steps: 0,
-            waits: None,
-            failures: 0,
-            tries: 0,
-            why: String::new(),
-            commits: 0,
-            times: Times::default(),
-            ahead: 0,
+            wish: Wish::default(),
+            failures: Failures::default(),
+            commits: Commits::default(),
         })
     }
 
@@ -249,7 +205,7 @@ impl Owner {
             Ok(was_cut) => Ok(begins(was_cut, self.settings.begin)),
             Err(refusal @ Refusal::Taken(_)) => Err(refusal),
             Err(Refusal::Failed(why)) => {
-                self.wants = begins(false, self.settings.begin);
+                self.wish.wants = begins(false, self.settings.begin);
                 self.fail(&why);
                 Ok(false)
             }
@@ -262,7 +218,7 @@ impl Owner {
 
     /// Works until it is asked to end, and ends the file then. Whether all went well.
     pub fn run(&mut self, outlets: Vec<Outlet>, records: bool) -> bool {
-        self.outlets = outlets;
+        self.intake.outlets = outlets;
         self.begin_in_time(records);
         loop {
             let done = self.turn();
@@ -278,7 +234,7 @@ impl Owner {
         match done {
             Ok(()) => (),
             Err(Trouble::Full(_)) => {
-                if let Err(trouble) = self.next_file("is full") {
+                if let Err(trouble) = self.next_file(Ended::Full) {
                     self.fail(&trouble.to_string());
                 }
             }
@@ -306,12 +262,13 @@ impl Owner {
             self.tick()?;
         }
         if self.state == State::Recording {
-            if self.has_news && now >= self.committed + self.settings.commit {
+            if self.commits.due(self.settings.commit).is_some_and(|it| now >= it) {
                 self.commit()?;
             }
             let has_messages = self.lanes.iter().any(|it| it.durable_in_file > 0);
-            if is_old(now.saturating_duration_since(self.began), self.settings.file_for, has_messages) {
-                self.next_file("has been recorded for as long as the settings say")?;
+            let age = self.file.as_ref().map_or(Duration::ZERO, Current::age);
+            if is_old(age, self.settings.file_for, has_messages) {
+                self.next_file(Ended::Old)?;
             }
         }
         let is_reading = self.read_on()?;
@@ -328,8 +285,10 @@ impl Owner {
         if self.recorder.is_some() {
             until = until.min(self.ticked + Duration::from_secs(1));
         }
-        if self.state == State::Recording && self.has_news {
-            until = until.min(self.committed + self.settings.commit);
+        if self.state == State::Recording
+            && let Some(due) = self.commits.due(self.settings.commit)
+        {
+            until = until.min(due);
         }
         if let State::Failed(Some(at)) = self.state {
             until = until.min(at);
@@ -337,7 +296,7 @@ impl Owner {
         std::thread::park_timeout(until.saturating_duration_since(now));
         // messages that come one by one are taken in together: what the thread does at once is what a commit needs
         if self.state == State::Recording && self.settings.commit >= Duration::from_millis(5) {
-            let due = (self.committed + self.settings.commit).saturating_duration_since(Instant::now());
+            let due = (self.commits.last() + self.settings.commit).saturating_duration_since(Instant::now());
             std::thread::sleep(due.min(Duration::from_millis(2)));
         }
     }
@@ -363,7 +322,7 @@ impl Owner {
             match self.take_in() {
                 Ok(true) => (),
                 Ok(false) => break,
-                Err(Trouble::Full(_)) => self.next_file("is full")?,
+                Err(Trouble::Full(_)) => self.next_file(Ended::Full)?,
                 Err(trouble) => return Err(trouble),
             }
         }
@@ -378,7 +337,7 @@ impl Owner {
     /// Whether the file that is or was recorded has a message or an event. Where one has neither, and no room for one, the medium is
     /// full.
     pub(crate) fn has_taken(&self) -> bool {
-        self.events > 0 || self.lanes.iter().any(|it| it.durable_in_file > 0)
+        self.file.as_ref().is_some_and(Current::has_events) || self.lanes.iter().any(|it| it.durable_in_file > 0)
     }
 
     /// Takes in what the inputs handed over, for a turn at most. Whether there may be more.
@@ -391,9 +350,8 @@ impl Owner {
             }
             self.offer_taken()?;
             let mut is_empty = true;
-            for at in 0..self.outlets.len() {
-                if let Some(batch) = self.outlets[at].take() {
-                    self.taken = Taken { batch, item: 0, byte: 0 };
+            for at in 0..self.intake.outlets.len() {
+                if self.intake.take(at) {
                     is_empty = false;
                     self.offer_taken()?;
                 }
@@ -409,12 +367,11 @@ impl Owner {
 
     /// Offers what was taken. After trouble it goes on with the message that met it.
     fn offer_taken(&mut self) -> Result<(), Trouble> {
-        while let Some(item) = self.taken.batch.items.get(self.taken.item).copied() {
+        while let Some(item) = self.intake.item() {
             self.offer(item)?;
-            self.taken.item += 1;
-            self.taken.byte += item.length;
+            self.intake.next();
         }
-        for (place, lost) in std::mem::take(&mut self.taken).batch.lost {
+        for (place, lost) in self.intake.lost() {
             self.missed(place, lost);
         }
         Ok(())
@@ -426,14 +383,14 @@ impl Owner {
         // offered again
         if self.state == State::Recording && self.lanes[place].waiting >= self.lanes[place].channel.capacity {
             self.pump(place)?;
-            if self.committed.elapsed() >= self.settings.commit / 4 {
+            if self.commits.age() >= self.settings.commit / 4 {
                 self.commit()?;
             }
         }
         if item.lost > 0 {
             self.missed(place, item.lost);
         }
-        let bytes = &self.taken.batch.bytes[self.taken.byte..self.taken.byte + item.length];
+        let bytes = self.intake.bytes();
         let lane = &mut self.lanes[place];
         lane.last = Some((item.count, bytes.len(), bytes[..bytes.len().min(16)].to_vec()));
         match (self.state, &mut self.recorder) {
@@ -444,7 +401,7 @@ impl Owner {
                     Ok(()) => {
                         lane.waiting += 1;
                         lane.pending.push_back(Pending { count: item.count, lost: std::mem::take(&mut lane.told) });
-                        self.has_news = true;
+                        self.commits.has_more();
                     }
                     Err(error) => {
                         let id = lane.channel.id;
@@ -462,7 +419,7 @@ impl Owner {
     /// So many messages of a channel came, or would have come, and are in no file. Where none is recorded, and none is to be,
     /// they only pass.
     fn missed(&mut self, place: usize, count: u64) {
-        if matches!(self.state, State::Recording | State::Full) || self.wants {
+        if matches!(self.state, State::Recording | State::Full) || self.wish.wants {
             self.note_lost(place, count);
         } else {
             self.lanes[place].passed += count;
@@ -488,7 +445,7 @@ impl Owner {
             return true;
         }
         if self.recorder.is_none() {
-            warning!("the service ends; recording was down: {}", self.why);
+            warning!("the service ends; recording was down: {}", self.failures.why);
             return false;
         }
         let done = self.close();
@@ -511,7 +468,7 @@ impl Owner {
 
     fn close(&mut self) -> Result<(), Trouble> {
         if self.state == State::Recording {
-            self.end_recording("was stopped by the end of the service")?;
+            self.end_recording(Ended::WithService)?;
         }
         self.recorder()?.dismount()?;
         self.settle()
@@ -560,7 +517,7 @@ mod tests {
             let mut owner = Owner::new(settings, counter, vec![came.clone()], channel().1, Arc::default()).unwrap();
             assert!(!owner.begin().unwrap());
             let (feed, outlet) = feed(std::thread::current(), counter, 1 << 26, &[(0, came)]);
-            owner.outlets = vec![outlet];
+            owner.intake.outlets = vec![outlet];
             let mut it = Alone { owner, feed, folder };
             assert_eq!(it.ask(".RECORD"), "");
             it

@@ -1,6 +1,6 @@
 //! `r10ctl`: asks and controls a recorder that `r10d` runs. See docs/RECORDER.md.
 #![forbid(unsafe_code)]
-use std::fmt::Write as _;
+use std::fmt::{self, Write as _};
 use std::io::{self, BufRead, BufReader, IsTerminal, Read, Write};
 use std::net::{TcpStream, ToSocketAddrs};
 use std::os::unix::net::UnixStream;
@@ -70,6 +70,42 @@ fn connect_tcp(address: &str) -> io::Result<TcpStream> {
     Err(last)
 }
 
+/// Why a word got no answer.
+#[derive(Debug, PartialEq, Eq)]
+enum Why {
+    /// the recorder refuses it: its line
+    Refused(String),
+    /// no answer came for so long
+    Silent,
+    /// the recorder went away, or this program cannot go on
+    Ended(String),
+}
+
+impl Why {
+    /// The number of a refusal, as the standard has it.
+    fn number(&self) -> Option<u8> {
+        match self {
+            Why::Refused(line) => line.strip_prefix("E ")?.get(..2)?.parse().ok(),
+            _ => None,
+        }
+    }
+}
+
+impl From<String> for Why {
+    fn from(text: String) -> Why {
+        Why::Ended(text)
+    }
+}
+
+impl fmt::Display for Why {
+    fn fmt(&self, f: &mut fmt::Formatter) -> fmt::Result {
+        match self {
+            Why::Refused(text) | Why::Ended(text) => f.write_str(text),
+            Why::Silent => write!(f, "the recorder did not answer for {} s; see its log", PATIENCE.as_secs()),
+        }
+    }
+}
+
 struct Recorder {
     line: BufReader<Box<dyn Line>>,
     /// What came of a line whose end has not come yet.
@@ -78,25 +114,22 @@ struct Recorder {
 
 impl Recorder {
     fn connect(words: &Words) -> Result<Recorder, String> {
-        let line: Box<dyn Line> = match &words.tcp {
-            Some(address) => {
-                let it = connect_tcp(address).map_err(|it| {
-                    format!("no recorder at {address}: {it}; is control.tcp set to it, and this machine one of control.peers?")
-                })?;
-                it.set_read_timeout(Some(PATIENCE)).map_err(|it| it.to_string())?;
-                Box::new(it)
-            }
-            None => {
-                let path = &words.socket;
-                let it = UnixStream::connect(path).map_err(|it| match it.kind() {
-                    io::ErrorKind::PermissionDenied => {
-                        format!("no access to {}: be root, or of the group of the service", path.display())
-                    }
-                    _ => format!("no recorder at {}: {it}; start r10d, or give --socket", path.display()),
-                })?;
-                it.set_read_timeout(Some(PATIENCE)).map_err(|it| it.to_string())?;
-                Box::new(it)
-            }
+        let line: Box<dyn Line> = if let Some(address) = &words.tcp {
+            let it = connect_tcp(address).map_err(|it| {
+                format!("no recorder at {address}: {it}; is control.tcp set to it, and this machine one of control.peers?")
+            })?;
+            it.set_read_timeout(Some(PATIENCE)).map_err(|it| it.to_string())?;
+            Box::new(it)
+        } else {
+            let path = &words.socket;
+            let it = UnixStream::connect(path).map_err(|it| match it.kind() {
+                io::ErrorKind::PermissionDenied => {
+                    format!("no access to {}: be root, or of the group of the service", path.display())
+                }
+                _ => format!("no recorder at {}: {it}; start r10d, or give --socket", path.display()),
+            })?;
+            it.set_read_timeout(Some(PATIENCE)).map_err(|it| it.to_string())?;
+            Box::new(it)
         };
         Ok(Recorder { line: BufReader::new(line), begun: Vec::new() })
     }
@@ -110,32 +143,30 @@ impl Recorder {
     }
 
     /// The next line of an answer, or none at its end. After an answer that it did not come yet it can be asked for again.
-    fn next(&mut self) -> Result<Option<String>, String> {
+    fn next(&mut self) -> Result<Option<String>, Why> {
         match self.line.read_until(b'\n', &mut self.begun) {
-            Ok(_) if !self.begun.ends_with(b"\n") => Err("the recorder went away; see its log".to_string()),
+            Ok(_) if !self.begun.ends_with(b"\n") => Err(Why::Ended("the recorder went away; see its log".to_string())),
             Ok(_) => {
                 let text = String::from_utf8_lossy(&std::mem::take(&mut self.begun)).trim_end_matches('\n').to_string();
                 Ok(if text == "*" { None } else { Some(text) })
             }
-            Err(error) if error.kind() == io::ErrorKind::WouldBlock => {
-                Err(format!("the recorder did not answer for {} s; see its log", PATIENCE.as_secs()))
-            }
+            Err(error) if error.kind() == io::ErrorKind::WouldBlock => Err(Why::Silent),
             // (of a connection over TCP whose other side no longer answers the system)
             Err(error) if error.kind() == io::ErrorKind::TimedOut => {
-                Err("the recorder's machine no longer answers; has it power, and is its cable in?".to_string())
+                Err(Why::Ended("the recorder's machine no longer answers; has it power, and is its cable in?".to_string()))
             }
-            Err(error) => Err(format!("the recorder went away: {error}; see its log")),
+            Err(error) => Err(Why::Ended(format!("the recorder went away: {error}; see its log"))),
         }
     }
 
-    fn ask(&mut self, command: &str) -> Result<Vec<String>, String> {
+    fn ask(&mut self, command: &str) -> Result<Vec<String>, Why> {
         self.send(command)?;
         let mut lines = Vec::new();
         while let Some(line) = self.next()? {
             lines.push(line);
         }
         match lines.first() {
-            Some(line) if line.starts_with("E ") => Err(line.clone()),
+            Some(line) if line.starts_with("E ") => Err(Why::Refused(line.clone())),
             _ => Ok(lines),
         }
     }
@@ -146,8 +177,7 @@ fn main() -> ExitCode {
     match run(&words) {
         Ok(()) => ExitCode::SUCCESS,
         Err(why) => {
-            let number = why.strip_prefix("E ").and_then(|it| it.get(..2)?.parse::<u8>().ok());
-            let line = format!("{}\n", json!({ "error": why, "number": number }));
+            let line = format!("{}\n", json!({ "error": why.to_string(), "number": why.number() }));
             if !words.json || print(&line).is_err() {
                 // (where even this cannot be written the status says it)
                 let _ = writeln!(io::stderr(), "r10ctl: {why}");
@@ -157,10 +187,10 @@ fn main() -> ExitCode {
     }
 }
 
-fn run(words: &Words) -> Result<(), String> {
+fn run(words: &Words) -> Result<(), Why> {
     // a line is a command: so an end of a line in a word would be a second one
     if let Some(word) = words.words.iter().find(|it| it.contains(char::is_control)) {
-        return Err(format!("{word:?} is no word: it has a control character"));
+        return Err(Why::Ended(format!("{word:?} is no word: it has a control character")));
     }
     let mut recorder = Recorder::connect(words)?;
     let word = words.words[0].trim_start_matches('.').to_ascii_lowercase();
@@ -182,7 +212,7 @@ fn run(words: &Words) -> Result<(), String> {
     } else {
         lines.iter().for_each(|it| out += &format!("{it}\n"));
     }
-    print(&out)
+    Ok(print(&out)?)
 }
 
 /// Prints. Where nobody reads any more, that is the end.
@@ -277,25 +307,25 @@ fn of_entry(line: &str) -> Value {
     }
 }
 
-fn stream(recorder: &mut Recorder, command: &str, as_json: bool) -> Result<(), String> {
+fn stream(recorder: &mut Recorder, command: &str, as_json: bool) -> Result<(), Why> {
     recorder.send(command)?;
     loop {
         let line = match recorder.next() {
             Ok(Some(line)) => line,
             Ok(None) => return Ok(()),
             // a channel may be silent for long
-            Err(why) if why.contains("did not answer") && command.starts_with(".FOLLOW") => continue,
+            Err(Why::Silent) if command.starts_with(".FOLLOW") => continue,
             Err(why) => return Err(why),
         };
         if line.starts_with("E ") {
-            return Err(line);
+            return Err(Why::Refused(line));
         }
         print(&if as_json { format!("{}\n", of_entry(&line)) } else { format!("{line}\n") })?;
     }
 }
 
 /// Draws rates, losses, free room and last messages once a second.
-fn watch(recorder: &mut Recorder, as_json: bool) -> Result<(), String> {
+fn watch(recorder: &mut Recorder, as_json: bool) -> Result<(), Why> {
     let mut last: Option<(Instant, Value)> = None;
     loop {
         let lines = recorder.ask(".FIGURES")?;
@@ -420,12 +450,12 @@ mod tests {
         here.set_read_timeout(Some(Duration::from_millis(20))).unwrap();
         let mut recorder = Recorder { line: BufReader::new(Box::new(here)), begun: Vec::new() };
         there.write_all(b"entry 5").unwrap();
-        assert!(recorder.next().unwrap_err().contains("did not answer"));
+        assert_eq!(recorder.next(), Err(Why::Silent));
         there.write_all(b" 7\n*\nentr").unwrap();
         assert_eq!(recorder.next(), Ok(Some("entry 5 7".to_string())));
         assert_eq!(recorder.next(), Ok(None));
         drop(there);
-        assert!(recorder.next().unwrap_err().contains("went away"));
+        assert!(recorder.next().unwrap_err().to_string().contains("went away"));
     }
 
     #[test]

@@ -10,6 +10,7 @@ use r10::{Cursor, Error};
 use crate::clock::COUNTS;
 use crate::control::Reply;
 use crate::entries;
+use crate::keeps::Current;
 use crate::owner::{Owner, State, TURN, Trouble};
 use crate::words;
 
@@ -76,7 +77,7 @@ impl Owner {
     /// Something became durable: who follows gets it, and it goes out.
     pub fn show(&mut self) -> Result<(), Trouble> {
         if self.live.is_on()
-            && let (Some(recorder), Some((number, _))) = (&mut self.recorder, &self.file)
+            && let (Some(recorder), Some(Current { number, .. })) = (&mut self.recorder, &self.file)
         {
             if self.live.setup.is_empty() {
                 self.live.keep_setup(recorder.shown(self.settings.directory, *number, 0)?);
@@ -145,7 +146,7 @@ impl Owner {
     /// What became durable since the last time. False where the client is gone.
     fn follow_on(&mut self, it: &mut Reader) -> Result<bool, Trouble> {
         let now = self.count();
-        let Some(current) = self.file.as_ref().map(|it| it.0) else { return Ok(true) };
+        let Some(current) = self.file.as_ref().map(|it| it.number) else { return Ok(true) };
         let has_room = it.has_room();
         let What::Follow { file, cursor, from, skipped } = &mut it.what else { return Ok(true) };
         let recorder = self.recorder.as_mut().ok_or_else(|| Trouble::Failed("no medium is mounted".to_string()))?;
@@ -229,7 +230,7 @@ impl Owner {
     /// Whether a file may be read now: while one is recorded, another one that is long would hold up what comes.
     pub fn may_read(&mut self, file: usize) -> Result<bool, Error> {
         const LONG: u64 = 64 << 20;
-        if self.state != State::Recording || self.file.as_ref().is_some_and(|it| it.0 == file) {
+        if self.state != State::Recording || self.file.as_ref().is_some_and(|it| it.number == file) {
             return Ok(true);
         }
         let files = self.recorder.as_mut().map_or(Ok(Vec::new()), r10::Recorder::files)?;

@@ -1,4 +1,5 @@
 //! What is recorded: lanes go into the file, commits make it durable, files begin and end.
+use std::fmt;
 use std::ops::Range;
 use std::time::Instant;
 
@@ -6,6 +7,7 @@ use r10::{Error, Queue};
 use time::OffsetDateTime;
 
 use crate::clock;
+use crate::keeps::Current;
 use crate::owner::{Owner, State, Trouble};
 use crate::{error, info, warning};
 
@@ -15,6 +17,28 @@ const PUMPED: usize = 4 << 20;
 const OPERATIONS: usize = 8192;
 /// Blocks that are read plainly at a time before they are written: a mapped one that cannot be read would end the process.
 const AHEAD: u64 = 8 << 11;
+
+/// Why a file ends, or is to.
+#[derive(Clone, Copy, Debug, PartialEq, Eq)]
+pub enum Ended {
+    /// it has no room for what waits
+    Full,
+    /// it has been recorded for as long as the settings say
+    Old,
+    ByCommand,
+    WithService,
+}
+
+impl fmt::Display for Ended {
+    fn fmt(&self, f: &mut fmt::Formatter) -> fmt::Result {
+        f.write_str(match self {
+            Ended::Full => "is full",
+            Ended::Old => "has been recorded for as long as the settings say",
+            Ended::ByCommand => "was stopped by a command",
+            Ended::WithService => "was stopped by the end of the service",
+        })
+    }
+}
 
 /// Whether so many operations wait that the disk does them before more come. A queue counts those of the ring in hand, and how many
 /// rings stand after it: there is one only where the first is full.
@@ -51,10 +75,10 @@ impl Owner {
     fn read_ahead(&mut self) -> Result<(), Trouble> {
         let blocks = self.settings.blocks as u64;
         let end = blocks.saturating_sub(self.recorder()?.status()?.free / 512);
-        while self.ahead < blocks && end + AHEAD / 4 * 3 > self.ahead {
-            let to = self.ahead + AHEAD;
-            self.read_plainly(self.ahead..to)?;
-            self.ahead = to;
+        while self.medium.ahead < blocks && end + AHEAD / 4 * 3 > self.medium.ahead {
+            let to = self.medium.ahead + AHEAD;
+            self.read_plainly(self.medium.ahead..to)?;
+            self.medium.ahead = to;
         }
         Ok(())
     }
@@ -67,23 +91,21 @@ impl Owner {
         self.recorder()?.commit()?;
         self.settle()?;
         self.is_durable();
-        self.tries = 0;
-        self.has_news = false;
-        self.committed = Instant::now();
+        self.failures.over();
         self.show()
     }
 
     /// What was taken into the file is durable now.
     pub(crate) fn is_durable(&mut self) {
         let now = self.counter.count();
-        self.commits += 1;
+        self.commits.done();
         for lane in &mut self.lanes {
             let count = lane.pending.len() - lane.waiting.min(lane.pending.len());
-            lane.pending.drain(..count).for_each(|it| self.times.add(now.saturating_sub(it.count)));
+            lane.pending.drain(..count).for_each(|it| self.commits.times.add(now.saturating_sub(it.count)));
             lane.durable += count as u64;
             lane.durable_in_file += count as u64;
             if count > 0
-                && let (Some(to), Some((number, _))) = (&mut self.acknowledge, &self.file)
+                && let (Some(to), Some(Current { number, .. })) = (&mut self.acknowledge, &self.file)
             {
                 to.line(*number, lane.channel.id, lane.durable_in_file);
             }
@@ -101,7 +123,7 @@ impl Owner {
         let found = self.clock.judge(&look.pair);
         found.notes.iter().for_each(|(is_warning, text)| self.note(*is_warning, text));
         if found.step.is_some() {
-            self.clock_steps += 1;
+            self.clock.steps_seen += 1;
             if self.state == State::Recording {
                 match self.note_event(self.settings.clock_event) {
                     Err(Trouble::Full(_)) => (),
@@ -109,19 +131,12 @@ impl Owner {
                 }
             }
         }
-        self.has_news |= self.state == State::Recording;
-        if self.state != State::Recording {
+        if self.state == State::Recording {
+            self.commits.has_more();
+        } else {
             self.settle()?;
         }
-        if self.medium.place() != self.place {
-            let (path, own) = (self.medium.path().display(), std::process::id());
-            self.gone.warn(|| {
-                format!(
-                    "the medium {path} was removed, or another file is there now: what is recorded goes when the service ends; \
-                     copy it before that, out of /proc/{own}/fd"
-                )
-            });
-        }
+        self.medium.warn_if_gone();
         Ok(())
     }
 
@@ -129,9 +144,9 @@ impl Owner {
     /// for the disk waits for the clock too.
     pub(crate) fn begin_in_time(&mut self, records: bool) {
         match self.settings.wait_for_time {
-            Some(patience) if records || self.wants => {
-                self.wants = true;
-                self.waits = Some(Instant::now() + patience);
+            Some(patience) if records || self.wish.wants => {
+                self.wish.wants = true;
+                self.wish.waits = Some(Instant::now() + patience);
                 self.note(false, &format!("the recording waits until the clock is in sync, {} s at most", patience.as_secs()));
             }
             _ if records => self.resume(),
@@ -141,12 +156,12 @@ impl Owner {
 
     /// Whether the clock lets a recording begin, where one has to wait for it.
     pub(crate) fn wait_for_time(&mut self) {
-        let Some(until) = self.waits else { return };
+        let Some(until) = self.wish.waits else { return };
         let is_synchronised = self.clock.known.is_synchronised() == Some(true);
         if self.recorder.is_none() || !is_synchronised && Instant::now() < until {
             return;
         }
-        self.waits = None;
+        self.wish.waits = None;
         let what = if is_synchronised { "the clock is in sync" } else { "the clock is not in sync, and the wait for it is over" };
         self.note(!is_synchronised, &format!("{what}: the recording begins"));
         self.resume();
@@ -157,7 +172,7 @@ impl Owner {
         let mut count = self.count();
         let mut done = self.recorder()?.event(number, count);
         if done == Err(Error::MEDIUM_FULL) {
-            self.next_file("is full")?;
+            self.next_file(Ended::Full)?;
             if self.state == State::Recording {
                 count = self.count();
                 done = self.recorder()?.event(number, count);
@@ -168,8 +183,7 @@ impl Owner {
         }
         done?;
         self.list_event(number, count);
-        self.events += 1;
-        self.has_news = true;
+        self.commits.has_more();
         Ok(())
     }
 
@@ -177,8 +191,8 @@ impl Owner {
     pub fn start(&mut self, name: Option<&str>) -> Result<(), Trouble> {
         let done = self.start_by(name);
         // where the disk fails in it, it is begun again
-        self.wants = matches!(done, Ok(()) | Err(Trouble::Failed(_)));
-        if !self.wants {
+        self.wish.wants = matches!(done, Ok(()) | Err(Trouble::Failed(_)));
+        if !self.wish.wants {
             self.medium.keep(false);
         }
         done
@@ -189,7 +203,7 @@ impl Owner {
         let files = self.recorder()?.files()?;
         let first = self.medium.first_block(&files);
         self.read_plainly(first..first + AHEAD)?;
-        self.ahead = first + AHEAD;
+        self.medium.ahead = first + AHEAD;
         let name = name.map_or_else(|| fresh_name(&self.settings.prefix, &files), str::to_string);
         self.medium.keep(true);
         let setup = std::mem::take(&mut self.settings.setup);
@@ -200,22 +214,19 @@ impl Owner {
         let text = format!("file {} {name}: recording", files.len() + 1);
         info!("{text}");
         let _ = sd_notify::notify(false, &[sd_notify::NotifyState::Status(&text)]);
-        self.file = Some((files.len(), name));
+        self.file = Some(Current::new(files.len(), name));
         self.live.begin();
         if let Some(to) = &mut self.acknowledge {
             to.begin();
         }
         self.state = State::Recording;
-        self.began = Instant::now();
-        self.has_news = true;
+        self.commits.has_more();
         self.lanes.iter_mut().for_each(|it| it.durable_in_file = 0);
-        self.events = 0;
-        self.noted.clear();
         Ok(())
     }
 
     /// Ends the file, with all that waits, as far as there is room.
-    pub fn stop(&mut self, why: &str) -> Result<(), Trouble> {
+    pub fn stop(&mut self, why: Ended) -> Result<(), Trouble> {
         let mut is_full = false;
         for place in 0..self.lanes.len() {
             match self.pump(place) {
@@ -231,9 +242,8 @@ impl Owner {
         self.is_durable();
         self.show()?;
         self.state = State::Idle;
-        self.wants = false;
-        self.has_news = false;
-        let (number, name) = self.file.clone().unwrap_or_default();
+        self.wish.wants = false;
+        let (number, name) = self.file.as_ref().map(|it| (it.number, it.name.clone())).unwrap_or_default();
         info!("file {} {name}: ended, it {why}", number + 1);
         if stopped.left > 0 || is_full {
             warning!("file {} {name}: {} messages had no room in it, and come first in the next one", number + 1, stopped.left);
@@ -243,7 +253,7 @@ impl Owner {
 
     /// Ends the recording with all that came up to now. On a full medium, where none is recorded any more, what comes only passes
     /// from then on.
-    pub(crate) fn finish(&mut self, why: &str) -> Result<(), Trouble> {
+    pub(crate) fn finish(&mut self, why: Ended) -> Result<(), Trouble> {
         self.take_in_all()?;
         if self.state == State::Recording {
             self.end_recording(why)?;
@@ -254,7 +264,7 @@ impl Owner {
     }
 
     /// Ends the recording. What waits and has no room in the file comes into another one, if the medium has room for one.
-    pub(crate) fn end_recording(&mut self, why: &str) -> Result<(), Trouble> {
+    pub(crate) fn end_recording(&mut self, why: Ended) -> Result<(), Trouble> {
         loop {
             // one that is cut off before it is stopped goes on
             self.medium.keep(false);
@@ -273,11 +283,11 @@ impl Owner {
     }
 
     /// Ends the file and begins the next. Where there is no room for one, nothing is recorded until an erase.
-    pub(crate) fn next_file(&mut self, why: &str) -> Result<(), Trouble> {
+    pub(crate) fn next_file(&mut self, why: Ended) -> Result<(), Trouble> {
         if self.state == State::Recording {
             self.stop(why)?;
         }
-        let is_all = !self.has_taken() && self.file.is_some() && why == "is full";
+        let is_all = !self.has_taken() && self.file.is_some() && why == Ended::Full;
         let begun = if is_all { Err(Trouble::Full(Error::MEDIUM_FULL)) } else { self.start(None) };
         match begun {
             Err(Trouble::Full(error)) => {
@@ -298,7 +308,10 @@ fn fresh_name(prefix: &str, files: &[r10::File]) -> String {
     let it = clock::civil(OffsetDateTime::now_utc());
     let base = format!("{prefix}{:04}{:02}{:02}-{:02}{:02}{:02}", it.year, it.month, it.day, it.hour, it.minute, it.second);
     let is_taken = |name: &str| files.iter().any(|it| it.name == name);
-    (1..).map(|number| if number == 1 { base.clone() } else { format!("{base}_{number}") }).find(|it| !is_taken(it)).unwrap_or(base)
+    (1..=1 + files.len())
+        .map(|number| if number == 1 { base.clone() } else { format!("{base}_{number}") })
+        .find(|it| !is_taken(it))
+        .unwrap_or(base)
 }
 
 #[cfg(test)]

@@ -6,6 +6,7 @@ use r10::{Error, Recorder};
 
 use crate::medium::{Refusal, printed};
 use crate::owner::{Owner, State, Trouble};
+use crate::recording::Ended;
 use crate::settings::Begin;
 use crate::{error, info, warning};
 
@@ -14,7 +15,7 @@ impl Owner {
     pub(crate) fn open(&mut self) -> Result<bool, Refusal> {
         let failed = |it: Error| Refusal::Failed(it.to_string());
         let mut recorder = self.medium.mount()?;
-        self.place = self.medium.place();
+        self.medium.is_opened();
         let look = self.clock.look();
         recorder.tick(look.count, &look.civil).map_err(failed)?;
         let files = recorder.files().map_err(failed)?;
@@ -57,7 +58,8 @@ impl Owner {
     /// What of the messages that waited for a commit, when the recorder failed, is in its file after all: the rest is lost, and
     /// is said so.
     pub(crate) fn account(&mut self, recorder: &mut Recorder, files: &[r10::File]) -> Result<(), Error> {
-        let file = self.file.as_ref().filter(|it| files.get(it.0).is_some_and(|file| file.name == it.1)).map(|it| it.0);
+        let file =
+            self.file.as_ref().filter(|it| files.get(it.number).is_some_and(|file| file.name == it.name)).map(|it| it.number);
         for place in 0..self.lanes.len() {
             let lane = &self.lanes[place];
             let mut is_there = |count: u64| -> Result<bool, Error> {
@@ -70,7 +72,7 @@ impl Owner {
             // halves
             let (mut there, mut not) = (0, lane.pending.len());
             while there < not {
-                let middle = (there + not) / 2;
+                let middle = usize::midpoint(there, not);
                 if is_there(lane.pending[middle].count)? { there = middle + 1 } else { not = middle }
             }
             let lane = &mut self.lanes[place];
@@ -90,17 +92,13 @@ impl Owner {
     /// The disk failed: as after a loss of power. The recorder and the mapping go, with what the system kept, and all is opened
     /// again.
     pub(crate) fn fail(&mut self, why: &str) {
-        self.failures += 1;
-        self.tries += 1;
-        self.why = why.to_string();
-        error!(
-            "{why}; what was not committed may be lost; the medium is opened again (try {} of {})",
-            self.tries, self.settings.tries
-        );
+        self.failures.failed(why);
+        let tries = self.failures.tries();
+        error!("{why}; what was not committed may be lost; the medium is opened again (try {} of {})", tries, self.settings.tries);
         self.recorder = None;
         self.readers.clear();
-        self.state = State::Failed((self.tries <= self.settings.tries).then(Instant::now));
-        if self.tries > self.settings.tries {
+        self.state = State::Failed((tries <= self.settings.tries).then(Instant::now));
+        if tries > self.settings.tries {
             self.down(&Refusal::Failed(why.to_string()));
         }
     }
@@ -108,7 +106,7 @@ impl Owner {
     pub(crate) fn down(&mut self, refusal: &Refusal) {
         self.state = State::Failed(None);
         self.recorder = None;
-        self.why = refusal.text().to_string();
+        self.failures.why = refusal.text().to_string();
         error!("recording is down: {}; once that is mended, give .RECORD", refusal.text());
         let _ = sd_notify::notify(false, &[sd_notify::NotifyState::Status("FAIL: recording is down; see the log")]);
     }
@@ -120,13 +118,13 @@ impl Owner {
             return;
         }
         match self.open() {
-            Ok(was_cut) if self.wants || was_cut && self.settings.begin != Begin::Wait => self.resume(),
+            Ok(was_cut) if self.wish.wants || was_cut && self.settings.begin != Begin::Wait => self.resume(),
             Ok(_) => info!("the medium is mounted again"),
-            Err(Refusal::Failed(why)) if self.tries < self.settings.tries => {
-                self.tries += 1;
-                self.failures += 1;
-                warning!("{why}; it is tried again (try {} of {})", self.tries, self.settings.tries);
-                self.state = State::Failed(Some(Instant::now() + Duration::from_millis(100 << self.tries.min(6))));
+            Err(Refusal::Failed(why)) if self.failures.tries() < self.settings.tries => {
+                self.failures.failed(&why);
+                let tries = self.failures.tries();
+                warning!("{why}; it is tried again (try {tries} of {})", self.settings.tries);
+                self.state = State::Failed(Some(Instant::now() + Duration::from_millis(100 << tries.min(6))));
             }
             Err(refusal) => self.down(&refusal),
         }
@@ -134,19 +132,19 @@ impl Owner {
 
     /// Opens a medium that is down, by a command.
     pub fn open_again(&mut self) -> Result<(), Refusal> {
-        self.tries = 0;
+        self.failures.over();
         self.open().map(|_| ())
     }
 
     pub(crate) fn resume(&mut self) {
         // (it waits for the clock, and begins then)
-        if self.waits.is_some() {
+        if self.wish.waits.is_some() {
             return;
         }
         let begun = self.start(None);
         match begun {
             Err(Trouble::Full(_)) => {
-                let done = self.next_file("is full");
+                let done = self.next_file(Ended::Full);
                 self.mind(done);
             }
             other => self.mind(other),

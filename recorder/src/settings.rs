@@ -216,7 +216,8 @@ struct InputTable {
 const LONGEST_SOCKET: usize = 107;
 
 /// The rates that a serial line may have.
-pub const RATES: [u32; 13] = [1200, 2400, 4800, 9600, 19200, 38400, 57600, 115200, 230400, 460800, 500000, 921600, 1000000];
+pub const RATES: [u32; 13] =
+    [1200, 2400, 4800, 9600, 19_200, 38_400, 57_600, 115_200, 230_400, 460_800, 500_000, 921_600, 1_000_000];
 
 /// Reads the text of a settings file. Paths that are not absolute are taken from the folder of the file.
 pub fn read(text: &str, folder: &Path) -> Result<Settings, Vec<Fault>> {

@@ -25,7 +25,7 @@ const SLACK: i128 = 1_000_000;
 
 /// The clock that makes stamps.
 enum Clock {
-    /// CLOCK_REALTIME
+    /// `CLOCK_REALTIME`
     System,
     /// a card's, as /dev/ptp0
     Card(File),
@@ -60,7 +60,7 @@ pub struct Stamps {
 }
 
 impl Stamps {
-    /// Of the kernel's stamps, which are times of CLOCK_REALTIME.
+    /// Of the kernel's stamps, which are times of `CLOCK_REALTIME`.
     pub fn of_system(counter: Counter) -> Stamps {
         Stamps { counter, clock: Clock::System, pair: None, before: None, read: 0, drained: 0 }
     }

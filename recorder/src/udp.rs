@@ -47,7 +47,7 @@ pub fn until_there<T>(what: &str, mut open: impl FnMut() -> io::Result<T>) -> T 
     }
 }
 
-/// Opens the socket, with so many MiB for what the system holds. An unprivileged user gets as much as net.core.rmem_max says.
+/// Opens the socket, with so many MiB for what the system holds. An unprivileged user gets as much as `net.core.rmem_max` says.
 pub fn open(it: &Udp) -> io::Result<UdpSocket> {
     let (address, group) = (it.address, it.group);
     // a socket at one address of this machine gets nothing of a group: so the socket is the group's, and the address says on which
@@ -132,17 +132,16 @@ impl Reader {
             Reader::Chapter10(it) => it.datagram(feed, channels, from, count, bytes),
             Reader::Plain(bad) => {
                 let (channel, length) = (&channels[0], bytes.len());
-                match channel.kind.of_bytes(bytes, channel.sub) {
-                    Some((head, length)) => feed.message_at(0, lost, count, head, &bytes[..length]),
-                    None => {
-                        // something was sent that is in no file
-                        feed.bad(0);
-                        feed.lost(0, lost + 1);
-                        bad.warn(|| {
-                            let (id, name) = (channel.id, channel.kind.name());
-                            format!("channel {id}: a datagram of {length} bytes is no message of kind {name}")
-                        });
-                    }
+                if let Some((head, length)) = channel.kind.of_bytes(bytes, channel.sub) {
+                    feed.message_at(0, lost, count, head, &bytes[..length])
+                } else {
+                    // something was sent that is in no file
+                    feed.bad(0);
+                    feed.lost(0, lost + 1);
+                    bad.warn(|| {
+                        let (id, name) = (channel.id, channel.kind.name());
+                        format!("channel {id}: a datagram of {length} bytes is no message of kind {name}")
+                    });
                 }
             }
         }
