@@ -36,7 +36,7 @@ check "what only begins like a file's name" is "$(of '`recorder.committed` `FLIG
 check "names of the sources" is "$(of 'By `go`, clause `comes`: `Kind::Small`, `Run`, `R10`, `lower`, `r10_two`, and `r10_one`.')" 0
 check "a name of nothing" is "$(of '`Kind::Large` `Walk`')" 2
 check "a clause that the function has not" is "$(of '`go`, clause `Run`')" 1
-promised() { printf '%b' "$1" >"$room/docs/PROMISES.md"; "$room/scripts/lint/links.py" | grep -c '^docs/PROMISES.md:1: '; }
+promised() { printf '%b' "$1" >"$room/docs/PROMISES.md"; "$room/scripts/lint/links.py" | grep -c '^docs/PROMISES.md:'; }
 check "a name of nothing on the page of promises" is "$(promised '`Walk`\n\n## The contracts\n\n`Walk`\n')" 1
 check "and none in its contracts" is "$(promised '`Run`\n\n## The contracts\n\n`Walk`\n')" 0
 rm "$room/docs/PROMISES.md"
