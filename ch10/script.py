@@ -11,6 +11,7 @@ from .kinds import BY_NAME, KINDS, Kind
 from .standard import TIME, Data, Fault
 
 OF_SCRIPTS = {kind.name for kind in KINDS if kind.tmats and kind.type != TIME}
+MOST_CHANNELS, LOG_NAME = 64, 'RECORDER-LOG'
 LINE = re.compile(r'\s*(?:"(\w+)"|(\w+))\s*=\s*(?:"([^"]*)"|([0-9][0-9_]{0,30})|([^#]*?))\s*(?:#.*)?$')
 
 
@@ -64,6 +65,8 @@ def attributes_of(text: str) -> Iterator[Tuple[str, object]]:
     for channel in channels:
         if not isinstance(channel.get('kind'), str) or channel['kind'] not in OF_SCRIPTS or not is_whole(channel.get('id')):
             raise Fault('no script: a channel without an id, or of no kind that r10 has')
+    if is_service:
+        channels = channels + log_channels(top, channels)
     yield 'G\\PN', volume
     yield 'G\\106', 17
     yield 'G\\DSI\\N', 1
@@ -88,6 +91,15 @@ def attributes_of(text: str) -> Iterator[Tuple[str, object]]:
             groups[group] += 1
             links += list(link('%s-%d' % (group, groups[group]), name, channel['id'], kind, tables))
     yield from links
+
+
+def log_channels(top: Dict[str, object], channels: List[dict]) -> List[dict]:
+    """The log channel that r10d adds to those of its settings, if it does: under the key `log`, or the highest ID that nothing has."""
+    log, taken = top.get('log'), {channel['id'] for channel in channels} | {top.get('time'), top.get('event', 2)}
+    if log == 0 or len(channels) >= MOST_CHANNELS:
+        return []
+    number = log if is_whole(log) else next(number for number in range(0xFFFF, 0, -1) if number not in taken)
+    return [{'id': number, 'kind': 'message', 'name': LOG_NAME}]
 
 
 def is_control(mark: str) -> bool:

@@ -7,6 +7,7 @@ use crate::dates::Dates;
 use crate::info;
 use crate::keeps::Current;
 use crate::medium::printed;
+use crate::notes::Line;
 use crate::owner::{Owner, State, Trouble};
 use crate::words::{Answer, No};
 
@@ -14,7 +15,7 @@ use crate::words::{Answer, No};
 const RELEASE: u32 = 12;
 /// Bits of `.HEALTH` that are critical, where nobody said otherwise: a full medium and a disk that failed.
 pub const CRITICAL: u32 = 0xc000_0000;
-/// The longest text of an event.
+/// The longest text of an event, or of a note.
 const LONGEST: usize = 200;
 
 /// An event of the file that is recorded.
@@ -23,6 +24,11 @@ pub struct Noted {
     count: u64,
     civil: String,
     text: String,
+}
+
+/// Whether a text of the crew can be taken: it is short, and one line.
+fn is_text(text: &str) -> bool {
+    text.len() <= LONGEST && !text.contains(char::is_control)
 }
 
 impl Owner {
@@ -39,7 +45,7 @@ impl Owner {
             return Err(No::Parameter(format!("{number} is no event: give 0 to 4095, and a text if you like")).into());
         };
         let text = text.join(" ");
-        if text.len() > LONGEST || text.contains(char::is_control) {
+        if !is_text(&text) {
             return Err(
                 No::Parameter(format!("the text of an event has at most {LONGEST} bytes, and no control characters")).into()
             );
@@ -56,12 +62,25 @@ impl Owner {
             _ => return Err(No::Mode("no file is recorded; give .RECORD first".to_string()).into()),
         }
         if !text.is_empty() {
-            self.note(false, &format!("event {number}: {text}"));
+            info!("event {number}: {text}");
         }
         if let Some(it) = self.file.as_mut().and_then(Current::last_event) {
             it.text = text;
         }
         Ok(Reply::Text(String::new()))
+    }
+
+    /// `.NOTE`: a text of the crew for the log channel, and for the log.
+    pub(crate) fn note_of_crew(&mut self, text: &str, by: &str) -> Result<String, No> {
+        if text.is_empty() || !is_text(text) {
+            return Err(No::Parameter(format!("give a text of at most {LONGEST} bytes, without control characters")));
+        }
+        if self.notes.is_none() {
+            return Err(No::Mode("there is no log channel: the settings leave it out (log), or have 64 channels".to_string()));
+        }
+        info!("note: {text}");
+        self.log(Line::new("note").with("by", by).with("text", text));
+        Ok(String::new())
     }
 
     /// Keeps an event for the list.
@@ -151,7 +170,7 @@ impl Owner {
     /// `.CRITICAL`: which bits of `.HEALTH` are critical warnings, or sets that.
     pub(crate) fn critical(&mut self, words: &[&str]) -> Result<String, No> {
         let names: Vec<String> =
-            std::iter::once("RECORDER".to_string()).chain(self.lanes.iter().map(|it| it.channel.name.clone())).collect();
+            std::iter::once("RECORDER".to_string()).chain(self.listed().iter().map(|it| it.channel.name.clone())).collect();
         let feature = |word: &str| {
             let found = word.parse::<usize>().ok().filter(|it| *it < names.len());
             found.ok_or_else(|| No::Parameter(format!("there is no feature {word}; .HEALTH lists them")))
@@ -190,7 +209,7 @@ impl Owner {
         found.push((free > 0, format!("medium: {free} bytes are left for the next file, or in this one")));
         let is_right = self.clock.known.is_synchronised() == Some(true);
         found.push((is_right, format!("clock: {}", self.clock.known.line())));
-        for lane in &self.lanes {
+        for lane in self.listed() {
             let bits = self.silence(lane) | crate::words::health_of(lane);
             let id = lane.channel.id;
             found.push((bits == 0, format!("channel {id}: {}", crate::words::in_words(bits))));

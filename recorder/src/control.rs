@@ -11,7 +11,7 @@ use std::sync::mpsc::{Receiver, RecvTimeoutError, Sender, channel};
 use std::thread::{self, Thread};
 use std::time::Duration;
 
-use nix::sys::socket::{setsockopt, sockopt};
+use nix::sys::socket::{getsockopt, setsockopt, sockopt};
 use nix::sys::stat::{Mode, umask};
 
 use crate::inputs::{AGAIN, Seldom};
@@ -29,6 +29,8 @@ pub enum Origin {
 pub struct Command {
     pub line: String,
     pub origin: Origin,
+    /// who gave it
+    pub by: String,
     pub reply: Sender<Reply>,
 }
 
@@ -51,9 +53,9 @@ impl Asking {
         Asking { to, owner }
     }
 
-    pub fn ask(&self, line: &str, origin: Origin) -> Option<Reply> {
+    pub fn ask(&self, line: &str, origin: Origin, by: &str) -> Option<Reply> {
         let (reply, answer) = channel();
-        self.to.send(Command { line: line.to_string(), origin, reply }).ok()?;
+        self.to.send(Command { line: line.to_string(), origin, by: by.to_string(), reply }).ok()?;
         self.owner.unpark();
         answer.recv().ok()
     }
@@ -76,6 +78,8 @@ const LONGEST: u64 = 4096;
 trait Connection: Read + Write + Send + Sized + 'static {
     fn copy(&self) -> io::Result<Self>;
     fn limit(&self, read: Option<Duration>, write: Option<Duration>) -> io::Result<()>;
+    /// Who is at the other side: a process of this machine, or an address.
+    fn who(&self) -> String;
 }
 
 impl Connection for UnixStream {
@@ -86,6 +90,12 @@ impl Connection for UnixStream {
         self.set_read_timeout(read)?;
         self.set_write_timeout(write)
     }
+    fn who(&self) -> String {
+        match getsockopt(self.as_raw_fd(), sockopt::PeerCredentials) {
+            Ok(it) => format!("uid {} pid {}", it.uid(), it.pid()),
+            Err(error) => format!("nobody knows: {error}"),
+        }
+    }
 }
 
 impl Connection for TcpStream {
@@ -95,6 +105,9 @@ impl Connection for TcpStream {
     fn limit(&self, read: Option<Duration>, write: Option<Duration>) -> io::Result<()> {
         self.set_read_timeout(read)?;
         self.set_write_timeout(write)
+    }
+    fn who(&self) -> String {
+        self.peer_addr().map_or_else(|it| format!("nobody knows: {it}"), |it| it.to_string())
     }
 }
 
@@ -206,7 +219,7 @@ fn connect<S: Connection>(stream: S, origin: Origin, asking: &Asking, open: &Arc
 fn serve<S: Connection>(mut to: S, origin: Origin, asking: &Asking) -> io::Result<()> {
     let slow = Some(Duration::from_mins(1));
     to.limit(None, slow)?;
-    let mut from = BufReader::new(to.copy()?);
+    let (mut from, by) = (BufReader::new(to.copy()?), to.who());
     let mut line = Vec::new();
     loop {
         line.clear();
@@ -224,7 +237,7 @@ fn serve<S: Connection>(mut to: S, origin: Origin, asking: &Asking) -> io::Resul
             to.write_all(b"E 00 INVALID COMMAND: over TCP a command begins with a dot; the connection ends\n*\n")?;
             return Ok(());
         }
-        match asking.ask(text, origin) {
+        match asking.ask(text, origin, &by) {
             None => return Ok(()),
             Some(Reply::Text(text)) => to.write_all(format!("{text}*\n").as_bytes())?,
             Some(Reply::Stream(chunks, queued)) => {
@@ -277,7 +290,6 @@ fn stream<S: Connection>(
 #[cfg(test)]
 mod tests {
     use super::*;
-    use nix::sys::socket::getsockopt;
 
     #[test]
     fn a_silent_connection_is_asked() {

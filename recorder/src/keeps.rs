@@ -14,14 +14,16 @@ pub struct Current {
     /// its place in the directory, from 0
     pub number: usize,
     pub name: String,
+    /// the count of its first time
+    pub first: u64,
     began: Instant,
     events: u64,
     noted: VecDeque<Noted>,
 }
 
 impl Current {
-    pub fn new(number: usize, name: String) -> Current {
-        Current { number, name, began: Instant::now(), events: 0, noted: VecDeque::new() }
+    pub fn new(number: usize, name: String, first: u64) -> Current {
+        Current { number, name, first, began: Instant::now(), events: 0, noted: VecDeque::new() }
     }
 
     /// How long ago it was begun.

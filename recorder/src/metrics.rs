@@ -45,7 +45,7 @@ fn answer(mut stream: TcpStream, asking: &Asking) -> io::Result<()> {
     if stream.read(&mut [0; 4096])? == 0 {
         return Ok(());
     }
-    let text = match asking.ask(".FIGURES", Origin::Metrics) {
+    let text = match asking.ask(".FIGURES", Origin::Metrics, "metrics") {
         Some(Reply::Text(text)) => serde_json::from_str(&text).map(|it| of(&it)).unwrap_or_default(),
         _ => String::new(),
     };

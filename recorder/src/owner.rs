@@ -17,11 +17,13 @@ use crate::control::Command;
 use crate::feed::{Came, Item, Outlet};
 use crate::inputs::Seldom;
 use crate::keeps::{Commits, Current, Failures, Intake, Wish};
+use crate::kinds::Kind;
 use crate::live::Live;
 use crate::medium::{Medium, Refusal};
+use crate::notes::{self, Board, Line, Notes};
 use crate::readers::Reader;
 use crate::recording::Ended;
-use crate::settings::{self, Begin, Settings};
+use crate::settings::{self, Begin, Log, Settings};
 use crate::words::Point;
 use crate::{error, info, warning, watchdog};
 
@@ -104,13 +106,43 @@ pub struct Lane {
     pub(crate) seldom: Seldom,
 }
 
+impl Lane {
+    fn new(channel: settings::Channel, came: Arc<Came>) -> Lane {
+        Lane {
+            channel,
+            came,
+            waiting: 0,
+            pending: VecDeque::new(),
+            durable: 0,
+            durable_in_file: 0,
+            lost: 0,
+            untold: 0,
+            told: 0,
+            given: 0,
+            refused: 0,
+            passed: 0,
+            longest: 1,
+            last: None,
+            seldom: Seldom::default(),
+        }
+    }
+}
+
+/// The log channel, as one of the settings would be.
+fn log_channel(id: u16) -> settings::Channel {
+    let (kind, name) = (Kind::Message, notes::NAME.to_string());
+    settings::Channel { id, kind, name, capacity: settings::LOG_CAPACITY, input: None, queue: 0, sub: 0, source: id }
+}
+
 pub struct Owner {
     pub settings: Settings,
     pub(crate) counter: Counter,
     pub medium: Medium,
     pub recorder: Option<Recorder>,
     pub state: State,
+    /// those of the settings' channels, and then that of the log channel where there is one
     pub lanes: Vec<Lane>,
+    pub(crate) notes: Option<Notes>,
     pub(crate) intake: Intake,
     pub(crate) commands: Receiver<Command>,
     pub ending: Arc<AtomicBool>,
@@ -120,6 +152,8 @@ pub struct Owner {
     pub(crate) acknowledge: Option<Acknowledge>,
     pub file: Option<Current>,
     pub(crate) ticked: Instant,
+    /// the count of the last tick
+    pub(crate) ticked_count: u64,
     /// by feature, which bits of its health are critical
     pub(crate) critical: Vec<u32>,
     pub(crate) wish: Wish,
@@ -146,31 +180,24 @@ impl Owner {
         came: Vec<Arc<Came>>,
         commands: Receiver<Command>,
         ending: Arc<AtomicBool>,
+        board: Board,
     ) -> std::io::Result<Owner> {
-        let lanes = settings.channels.iter().zip(came).map(|(channel, came)| Lane {
-            channel: channel.clone(),
-            came,
-            waiting: 0,
-            pending: VecDeque::new(),
-            durable: 0,
-            durable_in_file: 0,
-            lost: 0,
-            untold: 0,
-            told: 0,
-            given: 0,
-            refused: 0,
-            passed: 0,
-            longest: 1,
-            last: None,
-            seldom: Seldom::default(),
+        let mut lanes: Vec<Lane> = settings.channels.iter().zip(came).map(|(it, came)| Lane::new(it.clone(), came)).collect();
+        let notes = settings.log.id().map(|id| {
+            lanes.push(Lane::new(log_channel(id), Arc::default()));
+            Notes::new(lanes.len() - 1, board)
         });
+        if settings.log == Log::NoRoom {
+            warning!("64 channels leave no room for the log channel: it is left out");
+        }
         let critical = std::iter::once(CRITICAL).chain(settings.channels.iter().map(|_| 0)).collect();
         let clock = Keeper::new(&settings, counter);
         clock.start(&settings)?;
         Ok(Owner {
             clock,
             medium: Medium::new(&settings),
-            lanes: lanes.collect(),
+            lanes,
+            notes,
             live: Live::new(settings.publish)?,
             acknowledge: settings.acknowledge.as_deref().map(Acknowledge::open).transpose()?,
             settings,
@@ -184,6 +211,7 @@ impl Owner {
             readers: Vec::new(),
             file: None,
             ticked: Instant::now(),
+            ticked_count: 0,
             critical,
             wish: Wish::default(),
             failures: Failures::default(),
@@ -198,7 +226,10 @@ impl Owner {
         self.medium.describe();
         let look = self.clock.look();
         let found = self.clock.judge(&look.pair);
-        found.notes.iter().for_each(|(is_warning, text)| self.note(*is_warning, text));
+        let (version, sum) = (env!("CARGO_PKG_VERSION"), self.settings.sum.clone());
+        let id = self.settings.log.id().unwrap_or(0);
+        self.log_for_sure(Line::new("start").with("version", version).with("settings", sum).with("log", id));
+        self.log_clock(&found);
         let goes_on = self.medium.goes_on();
         let begins = |was_cut: bool, begin: Begin| begin == Begin::Record || begin == Begin::Resume && (was_cut || goes_on);
         match self.open() {
@@ -257,6 +288,7 @@ impl Owner {
                 break;
             }
         }
+        self.write_lines()?;
         let now = Instant::now();
         if self.recorder.is_some() && now >= self.ticked + Duration::from_secs(1) {
             self.tick()?;
@@ -265,7 +297,7 @@ impl Owner {
             if self.commits.due(self.settings.commit).is_some_and(|it| now >= it) {
                 self.commit()?;
             }
-            let has_messages = self.lanes.iter().any(|it| it.durable_in_file > 0);
+            let has_messages = self.listed().iter().any(|it| it.durable_in_file > 0);
             let age = self.file.as_ref().map_or(Duration::ZERO, Current::age);
             if is_old(age, self.settings.file_for, has_messages) {
                 self.next_file(Ended::Old)?;
@@ -329,15 +361,20 @@ impl Owner {
         Ok(())
     }
 
-    /// Messages that were accepted, and wait for room in a file.
+    /// The channels of the settings, without the log channel.
+    pub(crate) fn listed(&self) -> &[Lane] {
+        &self.lanes[..self.settings.channels.len()]
+    }
+
+    /// Messages that were accepted, and wait for room in a file. (Lines of the log begin no file.)
     pub(crate) fn waiting(&self) -> usize {
-        self.lanes.iter().map(|it| it.waiting).sum()
+        self.listed().iter().map(|it| it.waiting).sum()
     }
 
     /// Whether the file that is or was recorded has a message or an event. Where one has neither, and no room for one, the medium is
     /// full.
     pub(crate) fn has_taken(&self) -> bool {
-        self.file.as_ref().is_some_and(Current::has_events) || self.lanes.iter().any(|it| it.durable_in_file > 0)
+        self.file.as_ref().is_some_and(Current::has_events) || self.listed().iter().any(|it| it.durable_in_file > 0)
     }
 
     /// Takes in what the inputs handed over, for a turn at most. Whether there may be more.
@@ -476,7 +513,7 @@ impl Owner {
 }
 
 /// Gives the recorder the number of messages that were lost before the channel's next one, so that its file has it.
-fn tell_lost(recorder: &mut Recorder, lane: &mut Lane) {
+pub(crate) fn tell_lost(recorder: &mut Recorder, lane: &mut Lane) {
     if lane.untold > 0 && recorder.lose(lane.channel.id, lane.untold).is_ok() {
         lane.told += lane.untold;
         lane.given += std::mem::take(&mut lane.untold);
@@ -514,7 +551,8 @@ mod tests {
             );
             let (counter, came) = (Counter::new(), Arc::new(Came::default()));
             let settings = settings::read(&text, &folder).unwrap();
-            let mut owner = Owner::new(settings, counter, vec![came.clone()], channel().1, Arc::default()).unwrap();
+            let mut owner =
+                Owner::new(settings, counter, vec![came.clone()], channel().1, Arc::default(), Board::new(counter)).unwrap();
             assert!(!owner.begin().unwrap());
             let (feed, outlet) = feed(std::thread::current(), counter, 1 << 26, &[(0, came)]);
             owner.intake.outlets = vec![outlet];
@@ -533,7 +571,7 @@ mod tests {
 
         fn ask(&mut self, line: &str) -> String {
             let (reply, answer) = channel();
-            self.owner.answer(Command { line: line.to_string(), origin: Origin::Socket, reply }).unwrap();
+            self.owner.answer(Command { line: line.to_string(), origin: Origin::Socket, by: "a test".to_string(), reply }).unwrap();
             match answer.recv() {
                 Ok(Reply::Text(text)) => text,
                 _ => panic!("{line} has no answer"),

@@ -13,6 +13,7 @@ use r10_recorder::clock::Counter;
 use r10_recorder::control::{self, Asking};
 use r10_recorder::feed::Came;
 use r10_recorder::medium::{Medium, Refusal};
+use r10_recorder::notes::Board;
 use r10_recorder::owner::Owner;
 use r10_recorder::settings::{self, Settings};
 use r10_recorder::{error, info, inputs, log, metrics, watchdog};
@@ -122,7 +123,9 @@ fn serve(settings: Settings) -> Result<bool, String> {
     let counter = Counter::new();
     let came: Vec<Arc<Came>> = settings.channels.iter().map(|_| Arc::default()).collect();
     let (to, commands) = channel();
-    let mut owner = Owner::new(settings.clone(), counter, came.clone(), commands, ending).map_err(|it| it.to_string())?;
+    let board = Board::new(counter);
+    let mut owner =
+        Owner::new(settings.clone(), counter, came.clone(), commands, ending, board.clone()).map_err(|it| it.to_string())?;
     let records = owner.begin().map_err(|it: Refusal| it.text().to_string())?;
     let thread = std::thread::current();
     let asking = Asking::new(to, thread.clone());

@@ -8,6 +8,7 @@ use time::OffsetDateTime;
 
 use crate::clock;
 use crate::keeps::Current;
+use crate::notes::Line;
 use crate::owner::{Owner, State, Trouble};
 use crate::{error, info, warning};
 
@@ -99,11 +100,15 @@ impl Owner {
     pub(crate) fn is_durable(&mut self) {
         let now = self.counter.count();
         self.commits.done();
-        for lane in &mut self.lanes {
+        for (place, lane) in self.lanes.iter_mut().enumerate() {
             let count = lane.pending.len() - lane.waiting.min(lane.pending.len());
             lane.pending.drain(..count).for_each(|it| self.commits.times.add(now.saturating_sub(it.count)));
             lane.durable += count as u64;
             lane.durable_in_file += count as u64;
+            if let Some(notes) = self.notes.as_mut().filter(|it| it.place == place) {
+                notes.are_durable(count);
+                continue;
+            }
             if count > 0
                 && let (Some(to), Some(Current { number, .. })) = (&mut self.acknowledge, &self.file)
             {
@@ -117,11 +122,12 @@ impl Owner {
 
     pub(crate) fn tick(&mut self) -> Result<(), Trouble> {
         let look = self.clock.look();
+        self.ticked_count = look.count;
         self.ticked = Instant::now();
         self.recorder()?.tick(look.count, &look.civil)?;
         // (a time that has no room in the file comes again at the begin of the next one: so it is looked at for a step after it)
         let found = self.clock.judge(&look.pair);
-        found.notes.iter().for_each(|(is_warning, text)| self.note(*is_warning, text));
+        self.log_clock(&found);
         if found.step.is_some() {
             self.clock.steps_seen += 1;
             if self.state == State::Recording {
@@ -213,8 +219,10 @@ impl Owner {
         self.settle()?;
         let text = format!("file {} {name}: recording", files.len() + 1);
         info!("{text}");
+        let (number, id) = (files.len() + 1, self.settings.log.id().unwrap_or(0));
+        self.log(Line::new("file").with("number", number).with("name", &name).with("log", id));
         let _ = sd_notify::notify(false, &[sd_notify::NotifyState::Status(&text)]);
-        self.file = Some(Current::new(files.len(), name));
+        self.file = Some(Current::new(files.len(), name, self.ticked_count));
         self.live.begin();
         if let Some(to) = &mut self.acknowledge {
             to.begin();

@@ -82,6 +82,12 @@ impl Owner {
             // what the recorder was given of losses is in no file either, where the message is not that was to carry it
             lane.untold += std::mem::take(&mut lane.told) + lane.pending.drain(..).skip(there).map(|it| it.lost).sum::<u64>();
             lane.waiting = 0;
+            if let Some(notes) = self.notes.as_mut().filter(|it| it.place == place) {
+                // lines are kept until they are durable
+                notes.are_durable(there);
+                notes.wait_again();
+                continue;
+            }
             if lost > 0 {
                 self.note_lost(place, lost as u64);
             }

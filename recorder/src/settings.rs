@@ -7,6 +7,7 @@ use std::path::{Path, PathBuf};
 use std::time::Duration;
 
 use serde::Deserialize;
+use sha2::{Digest, Sha256};
 use toml::Spanned;
 
 use crate::clock_programs::PROGRAMS;
@@ -127,7 +128,29 @@ pub struct Settings {
     pub publish: Option<SocketAddr>,
     pub acknowledge: Option<PathBuf>,
     pub channels: Vec<Channel>,
+    pub log: Log,
+    /// the SHA-256 sum of the text, in hex digits
+    pub sum: String,
 }
+
+/// The log channel, in which the service says what became of the recording.
+#[derive(Clone, Copy, Debug, PartialEq, Eq)]
+pub enum Log {
+    Channel(u16),
+    /// it is left out by `log = 0`
+    Off,
+    /// 64 channels are all that there may be
+    NoRoom,
+}
+
+impl Log {
+    pub fn id(self) -> Option<u16> {
+        if let Log::Channel(id) = self { Some(id) } else { None }
+    }
+}
+
+/// How many lines the log channel's lane has room for.
+pub const LOG_CAPACITY: usize = 1024;
 
 /// What is wrong, and on which line.
 #[derive(Clone, Debug, PartialEq, Eq)]
@@ -166,6 +189,7 @@ struct Document {
     control: ControlTable,
     metrics: Option<Spanned<String>>,
     publish: Option<Spanned<String>>,
+    log: Option<Spanned<u64>>,
     channel: Vec<ChannelTable>,
 }
 
@@ -211,6 +235,9 @@ struct InputTable {
     pause_ms: Option<Spanned<u64>>,
     lines: Option<Spanned<PathBuf>>,
 }
+
+/// A recorder has no more channels.
+const MOST_CHANNELS: usize = 64;
 
 /// The system takes no longer path of a socket.
 const LONGEST_SOCKET: usize = 107;
@@ -380,13 +407,14 @@ impl Reader<'_> {
                 _ => (),
             }
         }
-        if !(1..=64).contains(&it.channel.len()) {
+        if !(1..=MOST_CHANNELS).contains(&it.channel.len()) {
             self.faults.push(Fault { line: 1, text: format!("{} channels: give 1 to 64 tables [[channel]]", it.channel.len()) });
         }
         let mut inputs = BTreeMap::new();
         let channels: Vec<Channel> = it.channel.iter().map(|it| self.channel(it, &mut taken, &mut inputs, &mut script)).collect();
+        let log = self.log(&it, &taken, &mut script);
         self.paths(&it);
-        let setup = self.setup(&it);
+        let setup = self.setup(&it, log);
         let begin = it.start.as_ref().map_or(Begin::Resume, |at| match at.get_ref().as_str() {
             "record" => Begin::Record,
             "resume" => Begin::Resume,
@@ -444,7 +472,36 @@ impl Reader<'_> {
             publish,
             acknowledge: it.acknowledge.as_ref().map(|it| self.path(it.get_ref())),
             channels,
+            log,
+            sum: Sha256::digest(self.text).iter().fold(String::new(), |out, it| out + &format!("{it:02x}")),
         }
+    }
+
+    /// The log channel: the one that is given, or the highest ID that nothing has.
+    fn log(&mut self, it: &Document, taken: &BTreeSet<u64>, script: &mut String) -> Log {
+        let given = it.log.as_ref().map(|at| (at, self.number("log", at, 0..=65_535)));
+        let id = match given {
+            Some((_, 0)) => return Log::Off,
+            Some((at, id)) if taken.contains(&id) => {
+                self.fault(at, format!("log = {id}: another channel has this ID; give one of its own, or 0 for none"));
+                return Log::Off;
+            }
+            Some((at, id)) if it.channel.len() >= MOST_CHANNELS => {
+                self.fault(
+                    at,
+                    format!("log = {id}: with {MOST_CHANNELS} channels there is no room for it; give 0, or leave the key out"),
+                );
+                return Log::Off;
+            }
+            None if it.channel.len() >= MOST_CHANNELS => return Log::NoRoom,
+            Some((_, id)) => id,
+            // (of so many IDs some are free)
+            None => (1..=65_535).rev().find(|id| !taken.contains(id)).unwrap_or(65_535),
+        };
+        *script += &format!(
+            "[[channel]]\nid = {id}\nkind = \"message\"\ncapacity = {LOG_CAPACITY}\ncheck = 16\nbytes = 16384\nnumber = 1000\n"
+        );
+        Log::Channel(id as u16)
     }
 
     fn ask_for_time(&mut self, it: &Document) -> Vec<String> {
@@ -488,7 +545,7 @@ impl Reader<'_> {
         }
     }
 
-    fn setup(&mut self, it: &Document) -> Vec<u8> {
+    fn setup(&mut self, it: &Document, log: Log) -> Vec<u8> {
         let Some(at) = &it.setup else {
             // a file describes itself all the same
             let mut channels = Vec::new();
@@ -496,6 +553,7 @@ impl Reader<'_> {
                 let name = it.name.as_ref().map(|it| it.get_ref().as_str());
                 channels.extend(Kind::of(it.kind.get_ref()).map(|kind| (*it.id.get_ref(), kind, name)));
             }
+            channels.extend(log.id().map(|id| (u64::from(id), Kind::Message, Some(crate::notes::NAME))));
             let time = it.time.as_ref().map_or(1, |it| *it.get_ref());
             return setup_text::of(it.volume.get_ref(), time, &channels).into_bytes();
         };
@@ -759,6 +817,33 @@ input = { udp = \"127.0.0.1:20005\" }
         assert!(it.setup.starts_with(b"G\\PN:VOL;\r\n"));
     }
 
+    /// The log channel has the highest ID that is free, or the one that is given, or is left out; and where there are 64 channels it has
+    /// no room.
+    #[test]
+    fn the_log_channel() {
+        let log = |text: &str| read(text, Path::new("/f")).map(|it| (it.log, it.script.matches("[[channel]]").count()));
+        let with = |line: &str| log(&GOOD.replace("volume", &format!("{line}\nvolume")));
+        assert_eq!(log(GOOD), Ok((Log::Channel(65_535), 2)));
+        assert_eq!(with("time = 65535\nevent = 65534"), Ok((Log::Channel(65_533), 2)));
+        assert_eq!((with("log = 7"), with("log = 0")), (Ok((Log::Channel(7), 2)), Ok((Log::Off, 1))));
+        for (line, wanted) in [
+            ("log = 5", "line 3: log = 5: another channel has this ID; give one of its own, or 0 for none"),
+            ("log = 2", "line 3: log = 2: another channel has this ID; give one of its own, or 0 for none"),
+            ("log = 65536", "line 3: log = 65536: give a number from 0 to 65535"),
+        ] {
+            assert_eq!(with(line).unwrap_err()[0].to_string(), wanted);
+        }
+        let many = |count: u64| {
+            (6..5 + count).fold(GOOD.to_string(), |out, id| out + &format!("[[channel]]\nid = {id}\nkind = \"message\"\n"))
+        };
+        assert_eq!((log(&many(63)), log(&many(64))), (Ok((Log::Channel(65_535), 64)), Ok((Log::NoRoom, 64))));
+        let found = log(&many(64).replace("volume", "log = 9999\nvolume")).unwrap_err()[0].to_string();
+        assert_eq!(found, "line 3: log = 9999: with 64 channels there is no room for it; give 0, or leave the key out");
+        // the setup text has it too
+        let text = read(GOOD, Path::new("/f")).unwrap().setup;
+        assert!(String::from_utf8(text).unwrap().contains("R-1\\TK1-3:65535;\r\n"));
+    }
+
     /// Each level is read one call deeper, and the stack has an end.
     #[test]
     fn what_is_nested_deep_is_refused_before_it_is_read() {
@@ -949,7 +1034,7 @@ input = { udp = \"127.0.0.1:20005\" }
     /// The library takes what stands at the limits here, and refuses what is one beyond: the limits are its own.
     #[test]
     fn the_limits_are_those_of_the_library() {
-        let script = read(GOOD, Path::new("/f")).unwrap().script;
+        let script = read(&GOOD.replace("volume", "log = 0\nvolume"), Path::new("/f")).unwrap().script;
         assert!(is_taken(&script));
         for (line, least, most) in [
             ("blocks = 4096", 65, 16_777_216),

@@ -133,7 +133,7 @@ impl Reader {
             Reader::Plain(bad) => {
                 let (channel, length) = (&channels[0], bytes.len());
                 if let Some((head, length)) = channel.kind.of_bytes(bytes, channel.sub) {
-                    feed.message_at(0, lost, count, head, &bytes[..length])
+                    feed.message_at(0, lost, count, head, &bytes[..length]);
                 } else {
                     // something was sent that is in no file
                     feed.bad(0);

@@ -11,6 +11,7 @@ use crate::clock::{self, COUNTS};
 use crate::control::{Command, Origin, Reply};
 use crate::figures::Times;
 use crate::keeps::Current;
+use crate::notes::Line;
 use crate::owner::{Lane, Owner, State, Trouble};
 use crate::readers::{self, MOST};
 use crate::recording::Ended;
@@ -42,12 +43,13 @@ impl No {
 }
 
 /// The words, what follows them, and what they do: `.HELP` prints them.
-pub const WORDS: [(&str, &str, &str); 25] = [
+pub const WORDS: [(&str, &str, &str); 26] = [
     (".STATUS", "", "state, warnings, and how much of the medium is used"),
     (".RECORD", "[NAME]", "begins a file"),
     (".STOP", "", "ends the recording"),
     (".ERASE", "", "takes all files from the medium; over the UNIX socket alone"),
     (".EVENT", "[NUMBER [TEXT]]", "records an event, 0 to 4095, or lists those of the file"),
+    (".NOTE", "TEXT", "puts a text into the log channel"),
     (".FILES", "", "number, name, first block, bytes, closed or open, date, begin and end of each file"),
     (".HEALTH", "[FEATURE]", "the recorder and each channel, with bits for what is wrong"),
     (".FIND", "[FILE [COUNT|TIME]]", "where it records and where a replay begins, or sets that"),
@@ -138,17 +140,41 @@ impl From<Error> for Undone {
 impl Owner {
     /// Answers a command.
     pub fn answer(&mut self, command: Command) -> Result<(), Trouble> {
-        let (reply, done) = match self.command(&command.line, command.origin) {
+        let is_order = self.log_command(&command);
+        let (reply, done) = match self.command(&command) {
             Ok(reply) => (reply, Ok(())),
             Err(Undone::No(no)) => (Reply::Text(no.line()), Ok(())),
             Err(Undone::Failed(trouble)) => (Reply::Text(No::Failed(format!("{trouble}; see the log")).line()), Err(trouble)),
         };
+        if let Reply::Text(text) = &reply
+            && is_order
+            && text.starts_with("E ")
+        {
+            self.log(Line::new("refused").with("line", &command.line).with("answer", text.trim_end()));
+        }
         // who is gone wants no answer
         let _ = command.reply.send(reply);
         done
     }
 
-    fn command(&mut self, line: &str, origin: Origin) -> Answer {
+    /// Puts a command into the log channel, if it changes something. Whether it does.
+    fn log_command(&mut self, command: &Command) -> bool {
+        let words: Vec<String> = command.line.split_whitespace().map(str::to_ascii_uppercase).collect();
+        let is_order = match words.first().map_or("", String::as_str) {
+            ".RECORD" | ".STOP" | ".ERASE" | ".MOUNT" | ".DISMOUNT" | ".SHUTDOWN" => true,
+            ".EVENT" | ".FIND" => words.len() > 1,
+            ".PUBLISH" => words.get(1).is_some_and(|it| it != "LIST"),
+            ".CRITICAL" => words.len() > 2,
+            _ => false,
+        };
+        if is_order {
+            self.log(Line::new("command").with("by", &command.by).with("line", command.line.trim()));
+        }
+        is_order
+    }
+
+    fn command(&mut self, command: &Command) -> Answer {
+        let (line, origin) = (command.line.as_str(), command.origin);
         let mut words = line.split_whitespace();
         let word = words.next().unwrap_or("").to_ascii_uppercase();
         let words: Vec<&str> = words.collect();
@@ -188,6 +214,7 @@ impl Owner {
                 String::new()
             }
             ".PUBLISH" => self.publish(&words)?,
+            ".NOTE" => self.note_of_crew(&words.join(" "), &command.by)?,
             _ if self.state == State::Dismounted => return Err(No::NoMedia(self.failures.why.clone()).into()),
             _ if self.recorder.is_none() && word != ".RECORD" => {
                 return Err(
@@ -288,7 +315,7 @@ impl Owner {
         whole |= if self.state == State::Full { 0x4000_0000 } else { 0 };
         whole |= if self.failures.count() > 0 || matches!(self.state, State::Failed(_)) { 0x8000_0000 } else { 0 };
         let of = |it: &Lane| (self.silence(it) | health_of(it), it.channel.name.clone());
-        std::iter::once((whole, "RECORDER".to_string())).chain(self.lanes.iter().map(of)).collect()
+        std::iter::once((whole, "RECORDER".to_string())).chain(self.listed().iter().map(of)).collect()
     }
 
     fn health(&mut self, words: &[&str]) -> Result<String, No> {
@@ -455,7 +482,7 @@ impl Owner {
         };
         self.drop_gone();
         let mut channels = Vec::new();
-        for (place, lane) in self.lanes.iter().enumerate() {
+        for (place, lane) in self.lanes.iter().enumerate().take(self.settings.channels.len()) {
             let overflow = match &mut self.recorder {
                 Some(recorder) => recorder.channel_at(place)?.lost.saturating_sub(lane.given),
                 None => 0,
@@ -482,6 +509,10 @@ impl Owner {
                 "last_count": count, "last_length": length, "last_bytes": hex,
             }));
         }
+        let log = self.notes.as_ref().map(|it| {
+            let lane = &self.lanes[it.place];
+            json!({ "id": lane.channel.id, "durable": lane.durable, "waiting": it.waiting(), "left_out": lane.lost })
+        });
         // times are those since the last question; the metrics have none, and leave them to who has
         let times = if origin == Origin::Metrics { Times::default() } else { std::mem::take(&mut self.commits.times) };
         let file = self
@@ -498,7 +529,7 @@ impl Owner {
             "memory_kib": figures::own_memory(), "commit_us": self.settings.commit.as_micros() as u64,
             "durable_after_us": { "half": times.below(500), "of_100_99": times.below(990), "most": times.most(),
             "messages": times.count() },
-            "channels": channels,
+            "channels": channels, "log": log,
         });
         Ok(format!("{all}\n"))
     }
