@@ -326,7 +326,7 @@ def as_frames(asked: Namespace, data: Data, out: Output) -> None:
                 continue
             at = numpy.arange(4, len(part.body), step)
             counts = batch.stamps(at, numpy.zeros(len(at), int)).tolist()
-            locks = (batch.numbers(at + 8 + size - 2, 2) >> 12).tolist()
+            locks = (batch.numbers(at + 8, 2) >> 12).tolist()
             write_frames(source, out, part, 'packed', size, [
                 (part.base + count, '%x' % lock, part.body[place + 8 + size:place + step])
                 for place, count, lock in zip(at.tolist(), counts, locks)], bits)

@@ -11,7 +11,10 @@ import wave
 import zlib
 from typing import Callable, List, Sequence, Tuple
 
-from ch10_types import Found, opened, packet, run, second_header, word
+from ch10_types import Found, run
+import chapter11 as made
+from chapter11 import (analog_samples, analog_word, counted, ethernet_frame, opened, packet, pcm_frame, pcm_word, secondary_header,
+                       word)
 
 TRIED: Found = (True, True)
 
@@ -49,14 +52,6 @@ def udp_frame(source: int, text: bytes, check: bool = True) -> bytes:
     return frame + (zlib.crc32(frame) ^ (0 if check else 1)).to_bytes(4, 'little')
 
 
-def ethernet_frame(stamp: int, frame: bytes, content: int = 0, errors: int = 0) -> bytes:
-    """A frame in a packet: its stamp, then 14 bits of length, errors of length and of data, network, speed, content, errors of the
-    frame and of its check sequence."""
-    low = errors & 3
-    mark = len(frame) | low << 14 | 7 << 16 | 2 << 24 | content << 28 | (errors >> 2) << 30
-    return word(stamp, 8) + word(mark, 4) + frame + bytes(len(frame) & 1)
-
-
 FIELDS = ('frame.time_epoch', 'frame.interface_name', 'ip.src', 'udp.dstport', 'data.data', 'eth.fcs.status',
           'frame.packet_flags_crc_error')
 
@@ -66,20 +61,20 @@ def ethernet() -> Found:
     bytes, and finds the check sequences right, but of the one that is wrong, which the recorder noted too."""
     if not has('tshark'):
         return TRIED
-    second = second_header(bytes(8))
+    second = secondary_header(bytes(8))
     setup = b'R-1\\TK1-1:22;R-1\\DSI-1:NOSE LAN;R-1\\CDT-1:ETHIN;'
     data = b''.join(opened(setup) + [
-        packet(22, 0x68, 2000, word(2, 4) + ethernet_frame(2000, udp_frame(1, b'abc' * 9)) + ethernet_frame(
-            2500, udp_frame(2, b'abcd' * 9 + b'!'))),
+        packet(22, 0x68, 2000, counted([ethernet_frame(2000, udp_frame(1, b'abc' * 9)),
+                                         ethernet_frame(2500, udp_frame(2, b'abcd' * 9 + b'!'))])),
         packet(23, 0x68, 10000, word(1, 4) + ethernet_frame(10001000, udp_frame(3, b'xy' * 20, False), 0, 8 | 1), 0, 2, second),
         packet(22, 0x68, 20001000, word(1, 4) + ethernet_frame(20001000, udp_frame(4, b'z' * 30)), 1, 0x13)])
-    status, made, line = run(['export', '--as', 'pcapng'], data)
+    status, written, line = run(['export', '--as', 'pcapng'], data)
     said = by_program(['tshark', '-r', 'FILE', '-o', 'eth.check_fcs:TRUE', '-T', 'fields', '-E', 'separator=,'] + [
-        it for name in FIELDS for it in ('-e', name)], made, 'flight.pcapng').splitlines()
+        it for name in FIELDS for it in ('-e', name)], written, 'flight.pcapng').splitlines()
     epoch = 1709210096  # 2024-02-29 12:34:56 UTC, at the count 1000
     one = run(['export', '--as', 'pcapng', '--channel', '23'], data)[1]
     rows = [row.replace('True', '1').split(',') for row in said]
-    return (status, line, rows, one.count(b'channel 23'), one.count(b'NOSE'), made.count(b'\x0d\0\1\0\4')), (0, '', [
+    return (status, line, rows, one.count(b'channel 23'), one.count(b'NOSE'), written.count(b'\x0d\0\1\0\4')), (0, '', [
         ['%d.%09d' % (epoch, 100000), 'NOSE LAN', '10.0.0.1', '1235', (b'abc' * 9).hex(), '1', ''],
         ['%d.%09d' % (epoch, 150000), 'NOSE LAN', '10.0.0.2', '1235', (b'abcd' * 9 + b'!').hex(), '1', ''],
         ['%d.%09d' % (epoch + 1, 0), 'channel 23', '10.0.0.3', '1235', (b'xy' * 20).hex(), '0', '1'],
@@ -112,21 +107,14 @@ def stream() -> bytes:
     return b''.join(b'\x47' + draw.randbytes(187) for _ in range(200))
 
 
-def turned(data: bytes) -> bytes:
-    """Each two bytes in the other order, as words of 16 bits with the low byte first have them."""
-    return b''.join(data[at + 1:at + 2] + data[at:at + 1] for at in range(0, len(data), 2))
-
-
 def video_packets(whole: bytes, kind: int, is_turned: bool, stamps: bool, channel: int = 21) -> List[bytes]:
-    made = []
+    """A stream in packets of eleven of its own."""
+    parts = []
     for place in range(0, len(whole), 188 * 11):
-        some = whole[place:place + 188 * 11]
-        body = word(stamps << 30, 4)
-        for at in range(0, len(some), 188):
-            one = some[at:at + 188]
-            body += (word(2000 + place, 8) if stamps else b'') + (turned(one) if is_turned else one)
-        made.append(packet(channel, kind, 2000 + place, body, place // 2068 & 0xFF, 3))
-    return made
+        some = [whole[at:at + 188] for at in range(place, min(place + 188 * 11, len(whole)), 188)]
+        body = made.video(some, 2000 + place if stamps else None, is_turned)
+        parts.append(packet(channel, kind, 2000 + place, body, place // 2068 & 0xFF, 3))
+    return parts
 
 
 def video() -> Found:
@@ -139,7 +127,7 @@ def video() -> Found:
     if has('ffprobe') and has('ffmpeg'):
         asked = ['ffprobe', '-v', 'error', '-select_streams', 'v', '-show_entries', 'stream=codec_name,width,height']
         said = by_program(asked + ['-of', 'csv=p=0', 'FILE'], found[1][1], 'flight.ts').split()[0].strip(',')
-    return ([(status, made == whole, line) for status, made, line in found], said), ([(0, True, '')] * 4, 'mpeg2video,128,96')
+    return ([(status, written == whole, line) for status, written, line in found], said), ([(0, True, '')] * 4, 'mpeg2video,128,96')
 
 
 def video_left() -> Found:
@@ -157,21 +145,6 @@ def video_left() -> Found:
 
 # ---- analog (11.2.6)
 
-def analog_word(mode: int, bits: int, sub: int, total: int, factor: int = 0, same: int = 0) -> bytes:
-    return word(mode | (bits & 63) << 2 | sub << 8 | (total & 0xFF) << 16 | factor << 24 | same << 28, 4)
-
-
-def packed(values: Sequence[int], bits: int, mode: int) -> bytes:
-    """Samples as words of 16 bits: bit by bit (mode 0), at the high end of words of their own (1) or at their low end (3)."""
-    if mode == 0:
-        row = ''.join('{:0{}b}'.format(value, bits) for value in values)
-    else:
-        wide = -(-bits // 16) * 16
-        row = ''.join('{:0{}b}'.format(value, bits if mode == 1 else wide).ljust(wide, '0') for value in values)
-    row = row.ljust(-(-len(row) // 16) * 16, '0')
-    return b''.join(word(int(row[at:at + 16], 2), 2) for at in range(0, len(row), 16))
-
-
 def samples_in(words: List[str], data: bytes) -> List[Tuple[int, ...]]:
     lines = run(['export', '--as', 'samples'] + words, data)[1].decode().splitlines()[1:]
     return [tuple(int(cell) for at, cell in enumerate(line.split(',')) if at in (1, 4, 5, 6)) for line in lines]
@@ -184,10 +157,10 @@ def analog() -> Found:
     for mode in (0, 1, 3):
         for bits in (8, 12, 16, 20, 3):
             values = [draw.getrandbits(bits) for _ in range(16 * 6)]  # a whole number of words, whatever the bits
-            body = analog_word(mode, bits, 0, 2, same=1) + packed(values, bits, mode)
+            body = analog_word(mode, bits, 0, 2, same=1) + analog_samples(values, bits, mode)
             found.append(samples_in([], b''.join(opened() + [packet(23, 0x21, 2000, body)])))
             wanted.append([(2000, place, place % 2, value) for place, value in enumerate(values)])
-    body = analog_word(0, 16, 5, 2) + analog_word(0, 16, 6, 2, factor=1) + packed(range(6), 16, 0)
+    body = analog_word(0, 16, 5, 2) + analog_word(0, 16, 6, 2, factor=1) + analog_samples(range(6), 16, 0)
     found.append(samples_in([], b''.join(opened() + [packet(23, 0x21, 3000, body)])))
     wanted.append([(3000, place, sub, place) for place, sub in enumerate((5, 6, 5, 5, 6, 5))])
     return found, wanted
@@ -196,17 +169,17 @@ def analog() -> Found:
 def analog_wav() -> Found:
     """12 bits of two subchannels, 1,000 steps a second, as WAV: Python's reader has the rate, the channels and the samples."""
     values = [[(place * 37 + sub * 100) & 0xFFF for sub in range(2)] for place in range(40)]
-    parts = [packet(23, 0x21, 10000 + 10000 * at, analog_word(3, 12, 0, 2, same=1) + packed(
+    parts = [packet(23, 0x21, 10000 + 10000 * at, analog_word(3, 12, 0, 2, same=1) + analog_samples(
         [one for pair in values[at:at + 10] for one in pair], 12, 3), at // 10) for at in range(0, 40, 10)]
     found = []
     for more in ([], ['--signed']):
-        status, made, line = run(['export', '--as', 'wav'] + more, b''.join(opened() + parts))
-        with wave.open(io.BytesIO(made)) as held:
+        status, written, line = run(['export', '--as', 'wav'] + more, b''.join(opened() + parts))
+        with wave.open(io.BytesIO(written)) as held:
             frames = held.readframes(held.getnframes())
             found.append((status, line, held.getnchannels(), held.getframerate(), held.getsampwidth(), [
                 int.from_bytes(frames[at:at + 2], 'little', signed=True) for at in range(0, len(frames), 2)]))
     flat = [one << 4 for pair in values for one in pair]
-    rare = analog_word(0, 16, 0, 2) + analog_word(0, 16, 1, 2, factor=1) + packed(range(6), 16, 0)
+    rare = analog_word(0, 16, 0, 2) + analog_word(0, 16, 1, 2, factor=1) + analog_samples(range(6), 16, 0)
     return (found, run(['export', '--as', 'wav'], b''.join(opened() + [packet(23, 0x21, 3000, rare)]))), (
         [(0, '', 2, 1000, 2, [one - 0x8000 for one in flat]),
          (0, '', 2, 1000, 2, [one - 0x10000 * (one > 0x7FFF) for one in flat])],
@@ -214,18 +187,6 @@ def analog_wav() -> Found:
 
 
 # ---- PCM (11.2.2)
-
-def pcm_word(throughput: int = 0, packed_: int = 0, unpacked: int = 0, wide: int = 0, header: int = 1) -> bytes:
-    return word(unpacked << 18 | packed_ << 19 | throughput << 20 | wide << 21 | header << 30, 4)
-
-
-def pcm_frame(stamp: int, bits: str, lock: int, wide: bool) -> bytes:
-    """A minor frame: stamp, header, and its bits through words of 16 or of 32 bits, the first bit the highest."""
-    size = 4 if wide else 2
-    row = bits.ljust(-(-len(bits) // (8 * size)) * 8 * size, '0')
-    return word(stamp, 8) + word(lock << 12, 2 if not wide else 2).rjust(size, b'\0') + b''.join(
-        word(int(row[at:at + 8 * size], 2), size) for at in range(0, len(row), 8 * size))
-
 
 PCM_SETUP = b'R-1\\TK1-1:20;R-1\\CDT-1:PCMIN;R-1\\CDLN-1:TLM;P-2\\DLN:OTHER;P-2\\MF2:99;P-1\\DLN:TLM;P-1\\MF2:%d;'
 
@@ -236,17 +197,17 @@ def pcm() -> Found:
     for wide in (False, True):
         for bits in (64, 72, 100):
             rows = [''.join(draw.choice('01') for _ in range(bits)) for _ in range(3)]
-            body = pcm_word(packed_=1, wide=wide) + b''.join(
+            body = pcm_word(packed=1, wide=wide) + b''.join(
                 pcm_frame(2000 + place, row, 12 + place, wide) for place, row in enumerate(rows))
             data = [packet(20, 0x09, 2000, body, 0, 2)]
             asked = b''.join(opened(PCM_SETUP % bits) + data), b''.join(opened() + data)
             digits = [int(row.ljust(-(-bits // 8) * 8, '0'), 2).to_bytes(-(-bits // 8), 'big').hex() for row in rows]
             said = [run(['export', '--as', 'frames'] + more, one) for more, one in zip(([], ['--bits', str(bits)]), asked)]
             found.append([(status, line, [tuple(row.split(',')[at] for at in (1, 4, 5, 6))
-                                          for row in made.decode().splitlines()[1:]]) for status, made, line in said])
+                                          for row in written.decode().splitlines()[1:]]) for status, written, line in said])
             wanted.append([(0, '', [(str(2000 + place), 'packed', '%x' % (12 + place), row)
                                     for place, row in enumerate(digits)])] * 2)
-    body = pcm_word(throughput=1, header=0) + b'\x34\x12\x78\x56'
+    body = made.pcm_throughput(b'\x34\x12\x78\x56')
     found.append(run(['export', '--as', 'frames'], b''.join(opened() + [packet(20, 0x09, 2000, body)])))
     wanted.append((0, b'channel,count,time,lost,mode,lock,value\n'
                       b'20,2000,2024-02-29 12:34:56.0001000,0,throughput,,12345678\n', ''))
@@ -255,7 +216,7 @@ def pcm() -> Found:
 
 def pcm_left() -> Found:
     """Without the number of bits, with another one, and unpacked: left out, and said."""
-    body = pcm_word(packed_=1) + pcm_frame(2000, '1' * 64, 12, False)
+    body = pcm_word(packed=1) + pcm_frame(2000, '1' * 64, 12, False)
     found = [run(['export', '--as', 'frames'] + more, b''.join(opened() + [packet(20, 0x09, 2000, one)]))[::2]
              for more, one in (([], body), (['--bits', '80'], body), (['--bits', '64'], pcm_word(unpacked=1) + body[4:]))]
     return found, [(1, 'channel 20: 1 packet not read: %s' % why) for why in (

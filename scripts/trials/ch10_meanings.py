@@ -14,6 +14,7 @@ import xml.etree.ElementTree as tree
 from typing import Callable, Iterator, List, Tuple
 
 import ch10_types
+import chapter11
 import plain_reader
 from ch10 import columns, command, entry_rows, lines, script, vector, walk
 from ch10.kinds import KINDS as KINDS_READ
@@ -382,31 +383,32 @@ def table_rows(data: bytes) -> dict:
 
 def ch10_types_parts() -> List[bytes]:
     """Forms that this recorder does not write, with and without stamps, behind secondary headers, and at the top of their bits."""
-    draw, parts = random.Random('types'), ch10_types.opened(SETUP_TEXT)
+    draw, parts = random.Random('types'), chapter11.opened(SETUP_TEXT)
     for place in range(300):
         count = 2000 + 50 * place
-        second = ch10_types.second_header(draw.randbytes(8)) if draw.random() < 0.4 else b''
+        second = chapter11.secondary_header(draw.randbytes(8)) if draw.random() < 0.4 else b''
         which = draw.randrange(6)
         if which == 0:
             stamps = draw.random() < 0.5
             body = number(stamps << 31, 4) + b''.join(
-                ch10_types.uart_entry(draw.choice((b'a,b', b'"', bytes(3), b'x' * draw.randrange(700))), draw.randrange(2),
+                chapter11.uart_entry(draw.choice((b'a,b', b'"', bytes(3), b'x' * draw.randrange(700))), draw.randrange(2),
                                       draw.randrange(9), count + at if stamps else None) for at in range(draw.randrange(5)))
-            parts.append(ch10_types.packet(5, 0x50, count, body, place & 0xFF, draw.randrange(4), second))
+            parts.append(chapter11.packet(5, 0x50, count, body, place & 0xFF, draw.randrange(4), second))
         elif which == 1:
-            body = ch10_types.discretes(draw.randrange(32), draw.randrange(2),
-                                        [(count + at, draw.getrandbits(32)) for at in range(draw.randrange(4))])
-            parts.append(ch10_types.packet(9, 0x29, count, body, place & 0xFF, draw.randrange(4), second))
+            length, from_top = draw.randrange(32), draw.randrange(2)
+            body = chapter11.discretes([(count + at, draw.getrandbits(32)) for at in range(draw.randrange(4))], length,
+                                       from_top=from_top)
+            parts.append(chapter11.packet(9, 0x29, count, body, place & 0xFF, draw.randrange(4), second))
         elif which == 2:  # events with a data header of 8 bytes
             body = number(1 << 31 | 2, 4) + b''.join(
                 number(count + at, 8) + draw.randbytes(8) + number(draw.getrandbits(28), 4) for at in range(2))
-            parts.append(ch10_types.packet(2, 0x02, count, body, place & 0xFF, draw.randrange(4), second))
+            parts.append(chapter11.packet(2, 0x02, count, body, place & 0xFF, draw.randrange(4), second))
         elif which == 3:  # words of ARINC 429 of which the first has a time after the packet's counter too
             body = number(3, 4) + b''.join(number(draw.getrandbits(32), 4) + number(draw.getrandbits(32), 4) for at in range(3))
-            parts.append(ch10_types.packet(8, 0x38, count, body, place & 0xFF, draw.randrange(4), second))
+            parts.append(chapter11.packet(8, 0x38, count, body, place & 0xFF, draw.randrange(4), second))
         else:
             channel, kind, body = draw.choice(ch10_types.STAMPED)
-            parts.append(ch10_types.packet(channel, kind, count, body, place & 0xFF, draw.randrange(4), second))
+            parts.append(chapter11.packet(channel, kind, count, body, place & 0xFF, draw.randrange(4), second))
     return parts
 
 

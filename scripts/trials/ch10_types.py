@@ -1,8 +1,5 @@
-"""Packets of each data type of IRIG 106-17, chapter 11, made from the standard's text, and what the filters have to say of them.
-
-The makers take nothing from the filters: numbers are put together bit by bit here. `scripts/trials/ch10_trials.py check` runs
-the trials. Each function of TRIALS gives what was found and what is wanted.
-"""
+"""Packets of each data type that are written from chapter 11 (`chapter11`), and what the filters have to say of them.
+`scripts/trials/ch10_trials.py check` runs the trials: each function of TRIALS gives what was found and what is wanted."""
 import csv
 import io
 import json
@@ -10,8 +7,10 @@ import pathlib
 import re
 import sqlite3
 import tempfile
-from typing import Callable, Dict, Iterable, List, Optional, Sequence, Tuple
+from typing import Callable, Dict, List, Sequence, Tuple
 
+import chapter11 as made
+from chapter11 import can_frame, discretes, opened, packet, secondary_header, time_of, uart_entry, word
 from ch10 import command
 
 Found = Tuple[object, object]
@@ -35,51 +34,13 @@ def summary_rows(data: bytes) -> Dict[Tuple[int, str], dict]:
     return {(row['channel'], row['type']): row for row in rows if 'packets' in row}
 
 
-# ---- packets (11.2.1)
-
-def word(value: int, size: int) -> bytes:
-    return bytes(value >> 8 * place & 0xFF for place in range(size))
-
-
-def sum_of(data: bytes, size: int) -> bytes:
-    """A sum of words of so many bytes."""
-    return word(sum(int.from_bytes(data[at:at + size], 'little') for at in range(0, len(data), size)), size)
-
-
-def second_header(time: bytes) -> bytes:
-    """A secondary header (11.2.1.2): a time of eight bytes, two reserved ones, and the sum of these five words."""
-    front = time + bytes(2)
-    return front + sum_of(front, 2)
-
-
-def packet(channel: int, kind: int, counter: int, body: bytes, sequence: int = 0, flags: int = 0, second: bytes = b'') -> bytes:
-    """A packet of version 8 with the least filler, and the data checksum that bits 1 and 0 of its flags say."""
-    width = (0, 1, 2, 4)[flags & 3]
-    filled = body + bytes(-(len(body) + width) % 4)
-    front = b'\x25\xeb' + word(channel, 2) + word(24 + len(second) + len(filled) + width, 4) + word(len(body), 4)
-    front += bytes((8, sequence, flags | (0x80 if second else 0), kind)) + word(counter, 6)
-    return front + sum_of(front, 2) + second + filled + (sum_of(filled, width) if width else b'')
-
-
-def opened(setup: bytes = b'G\\106:17;') -> List[bytes]:
-    """The setup (11.2.7.2) and the time (11.2.3, format 1, 2024-02-29 12:34:56.00 at the count 1000) of a recording."""
-    return [packet(0, 0x01, 1000, word(0x0C, 4) + setup),
-            packet(1, 0x11, 1000, word(0x201, 4) + word(0x5600, 2) + word(0x1234, 2) + word(0x0229, 2) + word(0x2024, 2))]
-
-
-# ---- UART (11.2.15)
-
-def uart_entry(text: bytes, parity: int = 0, sub: int = 0, stamp: Optional[int] = None) -> bytes:
-    """An entry: its stamp, where it has one, then length, subchannel and parity error, the bytes, and one to make them even."""
-    front = b'' if stamp is None else word(stamp, 8)
-    return front + word(len(text), 2) + word(parity << 15 | sub, 2) + text + bytes(len(text) & 1)
-
+# ---- UART (11.2.12)
 
 def uart_without_stamps() -> Found:
     """Each entry of a packet whose bit 31 is clear is at the packet's counter, with its parity error, subchannel and bytes."""
     data = b''.join(opened() + [
         packet(5, 0x50, 2000, word(0, 4) + uart_entry(b'ABC', 0, 7) + uart_entry(b'', 1, 9) + uart_entry(b'"x"', 0, 0x3FFF)),
-        packet(5, 0x50, 3000, word(1 << 31, 4) + uart_entry(b'D', 0, 1, stamp=3005), 1),
+        packet(5, 0x50, 3000, word(1 << 31, 4) + uart_entry(b'D', 0, 1, count=3005), 1),
         packet(5, 0x50, 4000, word(0, 4) + uart_entry(bytes(600), 1, 2), 2, flags=2)])
     row = summary_rows(data)[5, 'uart']
     columns = 'count', 'time', 'value', 'text', 'sub', 'errors'
@@ -119,7 +80,7 @@ def uart_without_stamps_cut() -> Found:
 # ---- secondary headers (11.2.1.2)
 
 STAMPED = (
-    (5, 0x50, word(1 << 31, 4) + uart_entry(b'ABC', 0, 7, stamp=2003)),
+    (5, 0x50, word(1 << 31, 4) + uart_entry(b'ABC', 0, 7, count=2003)),
     (6, 0x30, word(1, 4) + word(2004, 8) + word(2, 2) + word(1, 2) + b'xy'),
     (7, 0x19, word(1, 4) + word(2005, 8) + word(0, 2) + word(80, 2) + word(6, 2) + word(0x2862, 2) + word(0x1111, 2)
      + word(0x2222, 2)),
@@ -131,7 +92,7 @@ STAMPED = (
 
 def with_second(check: int, change: Callable[[bytes], bytes] = bytes) -> bytes:
     """A packet of each kind that is read, each behind a secondary header, which may be changed."""
-    second = change(second_header(bytes(range(1, 9))))
+    second = change(secondary_header(bytes(range(1, 9))))
     return b''.join(opened() + [packet(channel, kind, 2000, body, 0, check, second) for channel, kind, body in STAMPED])
 
 
@@ -151,7 +112,7 @@ def second_headers() -> Found:
 
 def second_headers_damaged() -> Found:
     """A wrong checksum of a secondary header is a fault, and so is a wrong data checksum behind one."""
-    second = second_header(bytes(range(1, 9)))
+    second = secondary_header(bytes(range(1, 9)))
     body = STAMPED[0][2]
     good = packet(5, 0x50, 2000, body, 1, 2, second)
     found = []
@@ -165,26 +126,17 @@ def second_headers_damaged() -> Found:
 
 # ---- stamps in the format of the secondary header (11.2.1.1, flag bits 6, 3 and 2)
 
-def time_of(form: int, ticks: int) -> bytes:
-    """A time of so many units of 100 ns in a format of the secondary header: chapter 4, IEEE 1588, the extended counter."""
-    if form == 0:
-        return bytes(2) + word(ticks % 100000 // 10, 2) + word(ticks // 100000, 4)
-    if form == 1:
-        return word(ticks % 10 ** 7 * 100, 4) + word(ticks // 10 ** 7, 4)
-    return word(ticks * 100, 8)
-
-
 def stamps_of_second_headers() -> Found:
     """Stamps in each format are counted from the packet's counter on, by their time after that of the secondary header: UART,
     messages, 1553, discretes and events, also where a packet with plain stamps stands beside it."""
     found, wanted = [], []
     for form in range(3):
         start = (77 * 65536 * 100000 - 30, 1700000000 * 10 ** 7 - 40, 987654321)[form]  # whose words are full soon
-        flags, second = 0x40 | form << 2, second_header(time_of(form, start))
+        flags, second = 0x40 | form << 2, secondary_header(time_of(form, start))
         at = [time_of(form, start + past) for past in (0, 50, 10 ** 7 + 120)]
         parts = [
             packet(5, 0x50, 20000, word(1 << 31, 4) + b''.join(one + uart_entry(b'A') for one in at), 0, flags, second),
-            packet(5, 0x50, 40000, word(1 << 31, 4) + uart_entry(b'B', stamp=40007), 1),
+            packet(5, 0x50, 40000, word(1 << 31, 4) + uart_entry(b'B', count=40007), 1),
             packet(6, 0x30, 20000, word(1, 4) + at[1] + word(1, 2) + word(0, 2) + b'x\0', 0, flags, second),
             packet(7, 0x19, 20000, word(1, 4) + at[1] + word(0, 2) + word(80, 2) + word(2, 2) + word(0x3811, 2), 0, flags,
                    second),
@@ -199,29 +151,24 @@ def stamps_of_second_headers() -> Found:
 
 def stamps_of_no_header() -> Found:
     """Without a secondary header, or in its reserved format, such stamps are not read, and the packet is counted as opaque."""
-    body = word(1 << 31, 4) + uart_entry(b'A', stamp=5)
+    body = word(1 << 31, 4) + uart_entry(b'A', count=5)
     found = []
-    for flags, second in ((0x40, b''), (0x4C, second_header(bytes(8))), (0x44, second_header(bytes(8)))):
+    for flags, second in ((0x40, b''), (0x4C, secondary_header(bytes(8))), (0x44, secondary_header(bytes(8)))):
         row = summary_rows(b''.join(opened() + [packet(5, 0x50, 2000, body, 0, flags, second)]))[5, 'uart']
         found.append((row['packets'], row['entries'], row['opaque']))
     return found, [(1, 0, 1), (1, 0, 1), (1, 1, 0)]
 
 
-# ---- discretes (11.2.8)
-
-def discretes(length: int, msb: int, entries: Iterable[Tuple[int, int]]) -> bytes:
-    """The word has the alignment in bit 1 and the number in bits 7 to 3; an entry is a stamp and 32 bits."""
-    return word((length & 31) << 3 | msb << 1, 4) + b''.join(word(stamp, 8) + word(states, 4) for stamp, states in entries)
-
+# ---- discretes (11.2.6)
 
 def discretes_at_the_top() -> Found:
     """With MSB alignment so many discretes stand at the top of the 32 bits: 31 has the highest of them."""
     data = b''.join(opened() + [
-        packet(9, 0x29, 2000, discretes(8, 1, [(2000, 0x80000000), (2001, 0x01000000)])),
-        packet(9, 0x29, 2010, discretes(8, 1, [(2010, 0x03000000), (2011, 0x03FFFFFF)]), 1),
-        packet(9, 0x29, 2020, discretes(8, 0, [(2020, 0x02)]), 2),
-        packet(10, 0x29, 2030, discretes(0, 1, [(2030, 0x80000001)])),
-        packet(11, 0x29, 2040, discretes(1, 1, [(2040, 0x7FFFFFFF), (2041, 0x80000000)]))])
+        packet(9, 0x29, 2000, discretes([(2000, 0x80000000), (2001, 0x01000000)], 8, from_top=1)),
+        packet(9, 0x29, 2010, discretes([(2010, 0x03000000), (2011, 0x03FFFFFF)], 8, from_top=1), 1),
+        packet(9, 0x29, 2020, discretes([(2020, 0x02)], 8), 2),
+        packet(10, 0x29, 2030, discretes([(2030, 0x80000001)], 0, from_top=1)),
+        packet(11, 0x29, 2040, discretes([(2040, 0x7FFFFFFF), (2041, 0x80000000)], 1, from_top=1))])
     return cells(['--kind', 'discrete'], data, 'value', 'bits', 'changed'), [
         ('80000000', '10000000', ''), ('01000000', '00000001', '+0 -7'), ('03000000', '00000011', '+1'),
         ('03ffffff', '00000011', ''), ('00000002', '00000010', '-0'), ('80000001', '1' + 30 * '0' + '1', ''),
@@ -231,7 +178,8 @@ def discretes_at_the_top() -> Found:
 def discretes_at_the_top_in_a_database() -> Found:
     """A database has the same columns of them, and in a part that begins at a later packet too."""
     rows = [(2000 + place, (place * 37 & 0xFF) << 24) for place in range(40)]
-    parts = [packet(9, 0x29, at, discretes(8, 1, [(at, states)]), place & 0xFF, 1) for place, (at, states) in enumerate(rows)]
+    parts = [packet(9, 0x29, at, discretes([(at, states)], 8, from_top=1), place & 0xFF, 1)
+             for place, (at, states) in enumerate(rows)]
     data = b''.join(opened() + parts)
     with tempfile.TemporaryDirectory() as folder:
         path = str(pathlib.Path(folder, 'f.db'))
@@ -250,14 +198,7 @@ def discretes_at_the_top_in_a_database() -> Found:
     return stored, wanted
 
 
-# ---- controller area network (11.2.18)
-
-def can_frame(stamp: int, data: bytes, identifier: int, is_long: int = 0, is_asking: int = 0, sub: int = 0,
-              errors: int = 0) -> bytes:
-    """A frame: its stamp, its header with the length of what follows, the word with the identifier, and its bytes."""
-    mark = is_long << 31 | is_asking << 30 | identifier
-    return word(stamp, 8) + word(4 + len(data), 2) + word(errors << 14 | sub, 2) + word(mark, 4) + data + bytes(len(data) & 1)
-
+# ---- controller area network (11.2.17)
 
 def can_frames() -> Found:
     """Identifiers of both lengths, frames that ask, errors and subchannels, in csv, json and a database."""
@@ -311,10 +252,10 @@ def heat_map_of_1553() -> Found:
     """The map of a 1553 channel has a cell for each terminal, direction and subaddress, with how many messages there are and how
     many of them are wrong; it is red where some are, and darker where there are more."""
     some = [(5, 0, 3, 7, 0), (5, 1, 3, 2, 0), (6, 0, 4, 40, 10), (31, 1, 30, 1, 1)]  # RT, T/R, SA, messages, wrong ones
-    made = [word(2000, 8) + word(0x1000 if place < wrong else 0, 2) + word(80, 2) + word(2, 2)
-            + word(rt << 11 | sends << 10 | sa << 5 | 1, 2) for rt, sends, sa, number, wrong in some for place in range(number)]
-    parts = opened() + [packet(7, 0x19, 2000, word(len(made), 4) + b''.join(made)),
-                        packet(4, 0x19, 2001, word(1, 4) + word(2001, 8) + word(0, 2) + word(80, 2) + word(0, 2))]
+    sent = [made.message_1553(2000, [rt << 11 | sends << 10 | sa << 5 | 1], 0x1000 if place < wrong else 0, 80)
+            for rt, sends, sa, number, wrong in some for place in range(number)]
+    parts = opened() + [packet(7, 0x19, 2000, made.bus_1553(sent)),
+                        packet(4, 0x19, 2001, made.bus_1553([made.message_1553(2001, [], 0, 80)]))]
     with tempfile.TemporaryDirectory() as folder:
         path = pathlib.Path(folder, 'bus.ch10')
         path.write_bytes(b''.join(parts))

@@ -9,7 +9,8 @@ import tempfile
 import xml.etree.ElementTree as tree
 from typing import Callable, List, Sequence, Tuple
 
-from ch10_types import Found, can_frame, discretes, opened, packet, run, second_header, word
+from ch10_types import Found, run
+from chapter11 import bus_1553, can_frame, discretes, message_1553, opened, packet, secondary_header, word
 
 DOCUMENT = """name,kind,channel,rt,tr,sa,label,sdi,id,word,bits,signed,scale,offset,unit
 # lines that begin so are none
@@ -31,22 +32,19 @@ def asked(words: Sequence[str], data: bytes, document: str = DOCUMENT, name: str
         return run([*words, '--icd', str(path)], data)
 
 
-def bus(stamp: int, words: Sequence[int], status: int = 0) -> bytes:
-    return word(stamp, 8) + word(status, 2) + word(80, 2) + word(2 * len(words), 2) + b''.join(word(one, 2) for one in words)
-
-
 def flight(second: bytes = b'') -> bytes:
     """A recording with each measurement of the document, and with messages beside them that are like them but for one field."""
     send, receive = 5 << 11 | 1 << 10 | 3 << 5 | 3, 5 << 11 | 4 << 5 | 1
     between = [1 << 11 | 2 << 5 | 2, 9 << 11 | 1 << 10 | 4 << 5 | 2, 9 << 11, 0xFEDC, 0xBA98, 1 << 11]  # of which RT 1 receives
-    messages = bus(2000, [send, 5 << 11, 7, 0x8000, 9]) + bus(2001, [receive, (0x5A << 5) | 0x1F, 5 << 11])
-    messages += bus(2002, [send ^ 1 << 10, 1, 2, 3, 5 << 11]) + bus(2003, between, 0x800) + bus(2004, [send, 5 << 11, 7])
+    some = [[send, 5 << 11, 7, 0x8000, 9], [receive, (0x5A << 5) | 0x1F, 5 << 11], [send ^ 1 << 10, 1, 2, 3, 5 << 11], between,
+            [send, 5 << 11, 7]]
+    messages = [message_1553(2000 + place, words, 0x800 * (words is between)) for place, words in enumerate(some)]
     parts = [
-        packet(7, 0x19, 2000, word(5, 4) + messages, 0, 0, second),
+        packet(7, 0x19, 2000, bus_1553(messages), 0, 0, second),
         packet(8, 0x38, 2100, word(3, 4) + b''.join(word(head, 4) + word(one, 4) for head, one in (
             (1 << 24, 3 << 29 | 0x7FFFF << 10 | 1 << 8 | 0o203), (1 << 24 | 1, 3 << 29 | 0x7FFFF << 10 | 2 << 8 | 0o203),
             (1 << 24 | 1, 0x1234 << 13 | 0o206)))),
-        packet(9, 0x29, 2200, discretes(8, 1, [(2200, 0b00010111 << 24)])),
+        packet(9, 0x29, 2200, discretes([(2200, 0b00010111 << 24)], 8, from_top=1)),
         packet(12, 0x78, 2300, word(3, 4) + can_frame(2300, bytes((0xFF, 0x10, 0xFF, 0x77)), 0x123) + can_frame(
             2301, bytes((1, 2, 3)), 0x124) + can_frame(2302, bytes((1, 2)), 0x123))]
     return b''.join(opened() + parts)
@@ -64,7 +62,7 @@ def by_document() -> Found:
         cells = row.split(',')
         rows += [(int(cells[0]), int(cells[1]), name, float(cell)) for name, cell in zip(names, cells[3:]) if cell]
     title = asked(['values'], flight())[1].decode().splitlines()[0]
-    lines = [json.loads(line) for line in asked(['values', '--json'], flight(second_header(bytes(8))))[1].splitlines()]
+    lines = [json.loads(line) for line in asked(['values', '--json'], flight(secondary_header(bytes(8))))[1].splitlines()]
     said = [(line['channel'], line['count'], name, line[name]) for line in lines for name in list(line)[3:]]
     with tempfile.TemporaryDirectory() as folder:
         path = os.path.join(folder, 'values.db')

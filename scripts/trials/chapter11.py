@@ -14,12 +14,18 @@ byte first. Counts are those of the relative time counter, of 48 bits at 10 MHz:
 import struct
 from typing import Dict, Iterable, List, Optional, Sequence, Tuple
 
+Bytes = Sequence[bytes]
 SECOND = 10 ** 7  # counts
 VERSION = 0x0C  # of a header and of a setup: 106-17
 
 # Bits of the packet flags (11.2.1.1, packet flags).
 SECONDARY, STAMPS_AS_SECONDARY, COUNTER_ERROR, OVERFLOW = 0x80, 0x40, 0x20, 0x10
 CHAPTER_4, IEEE_1588, EXTENDED_COUNTER = 0, 1, 2  # formats of the time in a secondary header, bits 3 and 2 of the flags
+
+
+def word(value: int, size: int) -> bytes:
+    """11.2, all numbers: so many bytes, the low one first."""
+    return bytes(value >> 8 * place & 0xFF for place in range(size))
 
 
 def sum_of(data: bytes, width: int) -> int:
@@ -35,23 +41,28 @@ def secondary_header(time: bytes) -> bytes:
     return front + struct.pack('<H', sum_of(front, 2))
 
 
-def packet(channel: int, data_type: int, counter: int, body: bytes, sequence: int = 0, checksum: int = 0, flags: int = 0,
-           secondary: Optional[bytes] = None, filler: int = 0, version: int = VERSION) -> bytes:
+def packet(channel: int, data_type: int, counter: int, body: bytes, sequence: int = 0, flags: int = 0, secondary: bytes = b'',
+           checksum: int = 0, filler: int = 0, version: int = VERSION) -> bytes:
     """11.2.1, a packet: header, secondary header where there is one, body, filler up to four bytes, and the data checksum.
 
-    checksum   of the data: 0 none, 1 of 8 bits, 2 of 16, 3 of 32 (flags, bits 1 and 0)
-    flags      bits 7 to 2 of the flags; that there is a secondary header is added to them
-    secondary  the time in the secondary header, 8 bytes
+    flags      all but bit 7, that there is a secondary header, which is set by itself
+    secondary  the time in the secondary header, 8 bytes, or this header itself, 12 bytes
+    checksum   of the data: 0 none, 1 of 8 bits, 2 of 16, 3 of 32; the same may be given as bits 1 and 0 of the flags
     filler     bytes of filler beside those that the length asks for, a multiple of four
     """
-    width = (0, 1, 2, 4)[checksum]
-    second = b'' if secondary is None else secondary_header(secondary)
-    data = body + bytes(-(len(body) + width) % 4 + filler)
+    second = secondary_header(secondary) if len(secondary) == 8 else secondary
     flags = flags | checksum | (SECONDARY if second else 0)
+    width = (0, 1, 2, 4)[flags & 3]
+    data = body + bytes(-(len(body) + width) % 4 + filler)
     front = struct.pack('<HHIIBBBBIH', 0xEB25, channel, 24 + len(second) + len(data) + width, len(body), version, sequence, flags,
                         data_type, counter & 0xFFFFFFFF, counter >> 32)
-    trailer = sum_of(data, width).to_bytes(width, 'little') if width else b''
-    return front + struct.pack('<H', sum_of(front, 2)) + second + data + trailer
+    trailer = word(sum_of(data, width), width) if width else b''
+    return front + word(sum_of(front, 2), 2) + second + data + trailer
+
+
+def opened(text: bytes = b'G\\106:17;') -> List[bytes]:
+    """11.2.7 and 11.2.3, how a recording begins: the setup, and the time 2024-02-29 12:34:56.00 at the count 1000."""
+    return [packet(0, 0x01, 1000, setup(text)), packet(1, 0x11, 1000, time_f1('2024-02-29 12:34:56.00'))]
 
 
 class Recording:
@@ -80,10 +91,10 @@ class Recording:
 # ---- times
 
 def binary_time(seconds_of_year: int, microseconds: int) -> bytes:
-    """11.2.1.2, the time of chapter 4 in a secondary header: a word that is not used, the high and the low word of hundredths of a
-    second since the year's begin, and the microseconds in such a hundredth."""
+    """11.2.1.2, the time of chapter 4 in a secondary header: a word that is not used, the microseconds in a hundredth of a second,
+    and the low and the high word of such hundredths since the year's begin."""
     hundredths = 100 * seconds_of_year + microseconds // 10000
-    return struct.pack('<HHHH', 0, hundredths >> 16, hundredths & 0xFFFF, microseconds % 10000)
+    return struct.pack('<HHHH', 0, microseconds % 10000, hundredths & 0xFFFF, hundredths >> 16)
 
 
 def ieee_1588(seconds: int, nanoseconds: int) -> bytes:
@@ -94,6 +105,15 @@ def ieee_1588(seconds: int, nanoseconds: int) -> bytes:
 def extended_counter(count: int) -> bytes:
     """11.2.1.2, the extended relative time counter of 64 bits in a secondary header."""
     return struct.pack('<Q', count)
+
+
+def time_of(form: int, ticks: int) -> bytes:
+    """11.2.1.2, a time of so many units of 100 ns in one of these formats, by its number."""
+    if form == CHAPTER_4:
+        return binary_time(ticks // SECOND, ticks % SECOND // 10)
+    if form == IEEE_1588:
+        return ieee_1588(ticks // SECOND, ticks % SECOND * 100)
+    return extended_counter(ticks * 100)
 
 
 def stamp(count: int) -> bytes:
@@ -165,69 +185,152 @@ def arinc(words: Sequence[Tuple[int, int, int]], flags: int = 0) -> bytes:
         struct.pack('<II', gap | flags << 21 | bus << 24, word) for gap, bus, word in words)
 
 
-def text_entry(data: bytes, head: int, count: Optional[int]) -> bytes:
-    """A stamp where there is one, a header with the length in its low half, the bytes, and one more where their number is odd."""
-    return (b'' if count is None else stamp(count)) + struct.pack('<I', head | len(data)) + data + bytes(len(data) & 1)
+def uart_entry(text: bytes, parity_error: int = 0, sub: int = 0, count: Optional[int] = None) -> bytes:
+    """11.2.12, an entry of UART: a stamp where there is one, length, subchannel with the parity error at its top, the bytes, and
+    one more where their number is odd."""
+    front = b'' if count is None else stamp(count)
+    return front + word(len(text), 2) + word(parity_error << 15 | sub, 2) + text + bytes(len(text) & 1)
 
 
-def uart(some: Sequence[Tuple[Optional[int], bytes]], sub: int = 0, parity_error: bool = False) -> bytes:
+def uart(some: Sequence[Tuple[Optional[int], bytes]], sub: int = 0, parity_error: int = 0) -> bytes:
     """11.2.12, UART, format 0: entries with stamps (bit 31 of the word), or all without, where each count is None."""
     stamped = all(count is not None for count, _ in some)
-    return struct.pack('<I', int(stamped) << 31) + b''.join(
-        text_entry(data, sub << 16 | int(parity_error) << 31, count) for count, data in some)
+    return word(int(stamped) << 31, 4) + b''.join(uart_entry(data, parity_error, sub, count) for count, data in some)
 
 
-def messages(some: Sequence[Tuple[int, bytes]], sub: int = 0, part: int = 0) -> bytes:
-    """11.2.9, messages, format 0: part is 0 of whole messages, 1 of a first segment, 2 of one between, 3 of a last one."""
-    return struct.pack('<I', len(some) | part << 16) + b''.join(text_entry(data, sub << 16, count) for count, data in some)
+WHOLE, BEGINNING, MIDDLE, LAST = 0, 1, 2, 3  # what a packet of messages has: whole ones, or a segment of a long one
 
 
-def discretes(states: Sequence[Tuple[int, int]], length: int = 8, by_time: bool = False, from_top: bool = False) -> bytes:
+def message_entry(count: int, data: bytes, sub: int = 0, errors: int = 0) -> bytes:
+    """11.2.9, a message: a stamp, length, subchannel, errors (bit 31 of data, bit 30 of the format), and its bytes, even."""
+    return stamp(count) + word(len(data), 2) + word(errors << 14 | sub, 2) + data + bytes(len(data) & 1)
+
+
+def messages(some: Sequence[Tuple[int, bytes]], sub: int = 0, part: int = WHOLE, errors: int = 0) -> bytes:
+    """11.2.9, messages, format 0: how many there are, and in bits 17 and 16 of the word what they are a part of."""
+    return word(len(some) | part << 16, 4) + b''.join(message_entry(count, data, sub, errors) for count, data in some)
+
+
+def discretes(states: Iterable[Tuple[int, int]], length: int = 8, by_time: int = 0, from_top: int = 0) -> bytes:
     """11.2.6, discretes, format 1: stamps, each with 32 bits of states. The word has whether they were recorded by time in place of
     on change (bit 0), whether the states stand at the top (bit 1), and how many there are (bits 7 to 3; 0 is 32)."""
-    return struct.pack('<I', int(by_time) | int(from_top) << 1 | (length & 31) << 3) + b''.join(
-        stamp(count) + struct.pack('<I', bits) for count, bits in states)
+    return word(by_time | from_top << 1 | (length & 31) << 3, 4) + b''.join(
+        stamp(count) + word(bits, 4) for count, bits in states)
+
+
+def bits_of(row: str, size: int) -> bytes:
+    """11.2.2 and 11.2.5, binary digits, the first one first on the wire, through words of so many bytes; each has its first digit
+    as its highest bit, and stands with its low byte first."""
+    row = row.ljust(-(-len(row) // (8 * size)) * 8 * size, '0')
+    return b''.join(word(int(row[at:at + 8 * size], 2), size) for at in range(0, len(row), 8 * size))
+
+
+def pcm_word(throughput: int = 0, packed: int = 0, unpacked: int = 0, wide: int = 0, header: int = 1) -> bytes:
+    """11.2.2, the word of PCM: the mode in bits 20 to 18, words of 32 bits (bit 21), and headers within the packet (bit 30)."""
+    return word(unpacked << 18 | packed << 19 | throughput << 20 | wide << 21 | header << 30, 4)
+
+
+def pcm_header(count: int, lock: int = 0xF, wide: int = 0) -> bytes:
+    """11.2.2, what stands before a minor frame: a stamp, and a word of 16 or 32 bits with the lock status in bits 15 to 12."""
+    return stamp(count) + word(lock << 12, 4 if wide else 2)
+
+
+def pcm_frame(count: int, row: str, lock: int = 0xF, wide: int = 0) -> bytes:
+    """11.2.2, a packed minor frame: its bits one after the other through words of 16 or of 32 bits."""
+    return pcm_header(count, lock, wide) + bits_of(row, 4 if wide else 2)
+
+
+def pcm_unpacked(count: int, values: Sequence[Tuple[int, int]], lock: int = 0xF, wide: int = 0) -> bytes:
+    """11.2.2, an unpacked minor frame: each value, so many bits, in a word of its own, with the bits that fill it up before it. A
+    sync pattern that is longer than a word is divided: see `halves`."""
+    size = 4 if wide else 2
+    return pcm_header(count, lock, wide) + b''.join(word(value & (1 << bits) - 1, size) for value, bits in values)
+
+
+def halves(sync: int, bits: int) -> List[Tuple[int, int]]:
+    """11.2.2, a sync pattern that is longer than a word of 16 bits: its first half, and the second one, which has the bit more
+    where their number is odd."""
+    rest = bits - bits // 2
+    return [(sync >> rest, bits // 2), (sync & (1 << rest) - 1, rest)]
 
 
 def pcm_throughput(data: bytes) -> bytes:
     """11.2.2, PCM, format 1: bits as they came, in words of 16 bits."""
-    return struct.pack('<I', 1 << 20) + data
+    return pcm_word(throughput=1, header=0) + data
 
 
-def pcm_packed(frames: Sequence[Tuple[int, bytes]], lock: int = 0xF) -> bytes:
-    """11.2.2, PCM, format 1: packed minor frames in words of 16 bits, each after a header with a stamp and the lock bits (15 to 12
-    of a word). The bits of the word say packed, minor frames, and that there are such headers."""
-    return struct.pack('<I', 1 << 19 | 1 << 28 | 1 << 30) + b''.join(
-        stamp(count) + struct.pack('<H', lock << 12) + data for count, data in frames)
+def analog_word(mode: int = 0, bits: int = 16, sub: int = 0, total: int = 1, factor: int = 0, same: int = 0) -> bytes:
+    """11.2.5, a word of analog samples: packed (mode 0), or each in words of its own at their high (1) or low end (3); bits of a
+    sample, the subchannel and how many there are, the power of two by which it is sampled less often, and whether this word holds
+    for all of them."""
+    return word(mode | (bits & 63) << 2 | sub << 8 | (total & 0xFF) << 16 | factor << 24 | same << 28, 4)
 
 
-def analog(samples: bytes, bits: int = 16, sub: int = 1, channels: int = 1, factor: int = 0) -> bytes:
-    """11.2.5, analog, format 1: one word for all subchannels: packed samples of so many bits, all at one rate (bit 28 says that the
-    word is the same for all), each 2 to the power of the factor apart."""
-    return struct.pack('<I', (bits & 63) << 2 | sub << 8 | (channels & 255) << 16 | factor << 24 | 1 << 28) + samples
+def analog_samples(values: Sequence[int], bits: int, mode: int) -> bytes:
+    """11.2.5, samples bit by bit (mode 0), at the high end of words of their own (1) or at their low end (3)."""
+    if mode == 0:
+        return bits_of(''.join('{:0{}b}'.format(value, bits) for value in values), 2)
+    wide = -(-bits // 16) * 16
+    return bits_of(''.join('{:0{}b}'.format(value, bits if mode == 1 else wide).ljust(wide, '0') for value in values), 2)
 
 
-def can(some: Sequence[Tuple[int, int, bytes]], sub: int = 0, extended: bool = False) -> bytes:
-    """11.2.17, controller area network bus: of each message a stamp, a header with its length, the identifier's word and its
-    bytes, filled up to an even number. The length takes in the identifier's four bytes."""
-    made = struct.pack('<I', len(some))
-    for count, identifier, data in some:
-        made += stamp(count) + struct.pack('<II', 4 + len(data) | sub << 16, identifier | int(extended) << 31)
-        made += data + bytes(len(data) & 1)
-    return made
+def can_frame(count: int, data: bytes, identifier: int, is_long: int = 0, is_asking: int = 0, sub: int = 0,
+              errors: int = 0) -> bytes:
+    """11.2.17, a frame of a controller area network: its stamp, its header with the length of what follows, the word with the
+    identifier, and its bytes, even."""
+    mark = is_long << 31 | is_asking << 30 | identifier
+    return stamp(count) + word(4 + len(data), 2) + word(errors << 14 | sub, 2) + word(mark, 4) + data + bytes(len(data) & 1)
 
 
-def ethernet(frames: Sequence[Tuple[int, bytes]], network: int = 0) -> bytes:
-    """11.2.15, Ethernet, format 0: of each frame a stamp, a header with its length (bits 13 to 0) and the network's number (bits 23
-    to 16), and its bytes, filled up to an even number."""
-    return struct.pack('<I', len(frames)) + b''.join(
-        stamp(count) + struct.pack('<I', len(data) | network << 16) + data + bytes(len(data) & 1) for count, data in frames)
+def counted(entries: Bytes, more: int = 0) -> bytes:
+    """11.2, a body whose word has how many entries there are in its low bits."""
+    return word(len(entries) | more, 4) + b''.join(entries)
 
 
-def video(packets: Sequence[bytes]) -> bytes:
-    """11.2.10, video, format 0: packets of a transport stream of 188 bytes, in words of 16 bits with their low byte first, without
-    headers before them. The bytes of each word are swapped, as the standard has them in memory."""
-    made = struct.pack('<I', 0)
-    for data in packets:
-        made += b''.join(data[at:at + 2][::-1] for at in range(0, len(data), 2))
-    return made
+def ethernet_frame(count: int, frame: bytes, content: int = 0, errors: int = 0) -> bytes:
+    """11.2.15, a frame of Ethernet, format 0: its stamp, then 14 bits of length, errors of length and of data, network, speed,
+    content, errors of the frame and of its check sequence; and its bytes, even."""
+    mark = len(frame) | (errors & 3) << 14 | 7 << 16 | 2 << 24 | content << 28 | (errors >> 2) << 30
+    return stamp(count) + word(mark, 4) + frame + bytes(len(frame) & 1)
+
+
+def turned(data: bytes) -> bytes:
+    """11.2.10, each two bytes in the other order, as words of 16 bits with the low byte first have them."""
+    return b''.join(data[at + 1:at + 2] + data[at:at + 1] for at in range(0, len(data), 2))
+
+
+def video(packets: Bytes, count: Optional[int] = None, is_turned: bool = True) -> bytes:
+    """11.2.10, video: packets of a transport stream of 188 bytes, each with a stamp before it (bit 30 of the word) or without, in
+    words of 16 bits or byte by byte."""
+    return word(int(count is not None) << 30, 4) + b''.join(
+        (b'' if count is None else stamp(count)) + (turned(one) if is_turned else one) for one in packets)
+
+
+# ---- buses of other kinds
+
+def message_16pp194(count: int, words: Sequence[int], status: int = 0) -> bytes:
+    """11.2.4, 16PP194 bus, format 2: a stamp, the length in bytes, the status (bit 15 transaction error, 14 reset, 13 message
+    timeout, 6 status error, 3 echo error), and words of 32 bits."""
+    return stamp(count) + struct.pack('<HH', 4 * len(words), status) + b''.join(word(one, 4) for one in words)
+
+
+def firewire(kind: int, some: Bytes, sync: int = 0) -> bytes:
+    """11.2.13, IEEE 1394, format 0: the word has the kind of body in bits 31 to 29 (0 an event of the bus, 1 a data stream, 2 what
+    there is in general), the synchronization code in bits 28 to 25, and how many transactions there are."""
+    return word(kind << 29 | sync << 25 | (len(some) if kind == 2 else kind), 4) + b''.join(some)
+
+
+def transaction(count: int, data: bytes) -> bytes:
+    """11.2.13, a transaction of IEEE 1394 in general: a stamp, a word with its length in bits 15 to 0, and its bytes, even."""
+    return stamp(count) + word(len(data), 4) + data + bytes(len(data) & 1)
+
+
+def physical(count: int, data: bytes, status: int = 0, speed: int = 0, overflow: int = 0) -> bytes:
+    """11.2.13, IEEE 1394, format 1, of the physical layer: a stamp, a word with the status (bits 31 to 24), the speed (23 to 20),
+    overflows of the transfer (19 and 18) and of the buffer (17), and the length; and its bytes, even."""
+    return stamp(count) + word(len(data) | overflow << 17 | speed << 20 | status << 24, 4) + data + bytes(len(data) & 1)
+
+
+def streaming(text: bytes, xml: bool = False, changed: bool = False) -> bytes:
+    """11.2.7, computer-generated data, format 4: the configuration of a stream, whose word is as that of the setup record."""
+    return setup(text, xml, changed)
