@@ -12,6 +12,7 @@
     buses        what the words of buses mean
     arrays       numpy, read where it is first asked for
     packets      the packets of a recording: headers, checksums, bodies as bytes
+    segments     messages that stand in several packets
     columns, kind_..    the one form in which entries are read, columns of those of many packets; and, a module a kind, where its
                        entries stand, what they mean, and their rows
     bodies       what stands in packets' bodies: their entries
@@ -23,6 +24,7 @@
     inputs       what a call reads and writes
     parallel, vector    lines by several processes, and lines of columns; walk finds how many entries each packet has
     traffic      what the buses carried
+    pcm          minor frames of PCM, and how the setup text says that they are made
     units        where measurements stand in messages, and how they are scaled
     table, lines, picture, cuts, database, script, exports, values    the commands
     command      the words of a call

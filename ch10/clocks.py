@@ -12,7 +12,7 @@ from bisect import bisect_right
 from collections import namedtuple
 from typing import Any, Dict, Iterable, Iterator, List, Mapping, NamedTuple, Optional, Sequence, Tuple
 
-from .standard import COUNT_BITS, INDEX, LOSS, SETUP, Fault
+from .standard import COUNT_BITS, INDEX, LOSS, SETUP, STREAMING, Fault
 from .times import ASSUMED, DAY, FREE, LOCKED, SECOND, Time, civil
 
 LEAST = 200000  # a jump is more than 20 ms, as times are in hundredths of a second,
@@ -24,7 +24,7 @@ LEAST_BACK = 2 * SECOND  # a channel's packets come in order: a step back by mor
 MOST_OVER = 600 * SECOND  # between the last count before 2^48 and the first one after it
 LAST_DAY = datetime.date.max.toordinal()
 MOST_SESSIONS = 1 << 12  # more are none: the counter of such a recording tells nothing
-COUNTLESS = (LOSS, SETUP, INDEX, 0x04)  # types of what a computer makes, whose counters need not go on
+COUNTLESS = (LOSS, SETUP, INDEX, STREAMING)  # types of what a computer makes, whose counters need not go on
 
 Jump = namedtuple('Jump', 'offset instant before after by')
 Jump.__doc__ = """A jump of a clock: where the time packet stands, its instant, the time that was to come by the counter since the \

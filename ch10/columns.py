@@ -197,6 +197,18 @@ def of_own_size(batch: Batch, head: Union[int, Array], of_size: Union[int, Array
     return places, number, bad
 
 
+def with_singles(batch: Batch, is_single: Array, is_wrong: Array, found: Places) -> Places:
+    """Places that were found, and those of packets whose body is one entry from its begin on; of these that are wrong none. Of such
+    packets none may have been found."""
+    places, number, bad = found
+    bad = bad | is_single & is_wrong
+    number = numpy.where(is_single, numpy.where(bad, 0, 1), number)
+    of = numpy.repeat(numpy.arange(len(number)), number)
+    made = batch.starts[of]
+    made[~is_single[of]] = places
+    return made, number, bad
+
+
 def one_by_one(octets: Array, at: int, end: int, number: Optional[int], head: int, of_size: int, is_even: bool,
                mask: int) -> Tuple[List[int], bool]:
     """The places of the entries of one packet, and whether they do not fit."""

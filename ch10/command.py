@@ -180,6 +180,7 @@ def parser_of() -> 'Parser':
             with_forms(made)
     made = going_on(command('setup', run_of('cuts', 'setup'),
                             'Writes the setup text, byte for byte; several packets one after the other.'))
+    made.add_argument('--streaming', action='store_true', help='the configuration of a stream (computer-generated data, format 4)')
     made.add_argument('--tree', action='store_true', help='the attributes of chapter 9 as a tree, '
                       'and which channels of the recording they do not name or name otherwise')
     made = command('tmats', run_of('script', 'as_tmats'),
@@ -278,7 +279,7 @@ EXPORT_MORE = """FORM is one of these; the packets stay in their order in the re
   ts       the transport stream of a video channel (formats 0 to 2)
   wav      the samples of an analog channel (format 1), 16 bits each
   samples  the same as CSV, a line for each sample
-  frames   PCM (format 1) as CSV: packed minor frames, and throughput
+  frames   PCM (format 1) as CSV: minor frames, packed or unpacked, and throughput
 """
 
 

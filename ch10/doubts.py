@@ -119,9 +119,15 @@ def has_no_setup(survey: Any) -> bool:
 NO_SETUP = 'the first packet is no setup'
 
 
-def quality_of(survey: Any, instant: int, is_out: bool) -> str:
+# Which bit of a message of MIL-STD-1553 its stamp is of, by bits 31 and 30 of the packet's word; the last one of its last word has
+# no name, as that is the usual one.
+TAGS = '', 'stamp of the first bit', 'stamp of the first word', 'stamp of a reserved place'
+
+
+def quality_of(survey: Any, instant: int, is_out: bool, tag: int = 0) -> str:
     """How good the time of an entry is: locked or free, and what else is to be known of it, with + between them; invalid where it
     has none and time packets say that they are invalid, and nothing where there are none. `is_out` is of an entry whose packet says
-    that its counter is out of step."""
+    that its counter is out of step, `tag` where in a message the bit is that its stamp is of."""
     said = survey.clock.quality(instant) if survey.clock else 'invalid' if any(line.invalid for line in survey.times) else ''
-    return said + '+counter error' if said and is_out and not said.endswith('counter error') else said
+    said = said + '+counter error' if said and is_out and not said.endswith('counter error') else said
+    return '+'.join(filter(None, (said, TAGS[tag])))

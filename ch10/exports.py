@@ -12,6 +12,7 @@ from .columns import Batch, of_own_size, second_of
 from .doubts import judge
 from .inputs import Output, one_part
 from .packets import UNTOLD, Packet, loss_of, lost_before, lost_text, packets
+from .pcm import PACKED, THROUGHPUT, UNPACKED, WIDE, Layout, counts_of_frames, frames_of, layout_of
 from .standard import COUNT_BITS, Data, Fault, Wrong, digits
 from .survey import Survey
 
@@ -90,7 +91,7 @@ def batch_of(part: Part) -> Batch:
     return Batch(octets, [4], [len(part.body)], [word], [part.packet.counter], [second_of(part.packet.flags, part.packet.second)])
 
 
-# ---- Ethernet (11.2.14, format 0) as pcapng
+# ---- Ethernet (11.2.15, format 0) as pcapng
 
 FULL, PAYLOAD = 1, 147  # link types of pcapng: Ethernet, and one of the user's own
 FRAME_CHECK = 4  # bytes of the check sequence at a frame's end
@@ -144,7 +145,7 @@ def as_pcapng(asked: Namespace, data: Data, out: Output) -> None:
     source.judge(out)
 
 
-# ---- video (11.2.11, formats 0 to 2) as a transport stream
+# ---- video (11.2.10, formats 0 to 2) as a transport stream
 
 TS = 188  # bytes of a packet of a transport stream
 SYNC = 0x47  # which it begins with
@@ -176,7 +177,7 @@ def as_ts(asked: Namespace, data: Data, out: Output) -> None:
     source.judge(out)
 
 
-# ---- analog samples (11.2.6, format 1)
+# ---- analog samples (11.2.5, format 1)
 
 class Analog(NamedTuple):
     """The words of an analog packet: subchannels with their bits, the mode, and the factor by which each is sampled less often."""
@@ -287,58 +288,52 @@ def as_wav(asked: Namespace, data: Data, out: Output) -> None:
 
 # ---- PCM minor frames (11.2.2, format 1)
 
-def frame_bits(source: Source, channel: int, asked: Namespace) -> Optional[int]:
-    """How many bits a minor frame has: as the call says, or the setup text (P-d\\MF2 of the channel's data link)."""
-    if asked.bits:
-        return asked.bits
-    found = source.survey.names.attributes
-    link = source.survey.names.channels.get(channel, ('', '', ''))[2]
-    for name, value in found.items():
-        if name.startswith('P-') and name.endswith('\\DLN') and value == link and link:
-            said = found.get(name[:-3] + 'MF2', '')
-            return int(said) if said.isascii() and said.isdigit() and 0 < int(said) < 1 << 20 else None
-    return None
+def frame_of(source: Source, channel: int, asked: Namespace) -> Optional[Layout]:
+    """How a minor frame is made: as the call says, how many bits it has, or the setup text."""
+    found = layout_of(source.survey.names.attributes, source.survey.names.channels.get(channel, ('', '', ''))[2])
+    if asked.bits and (found is None or found.bits != asked.bits):
+        return Layout(asked.bits, 0, ())
+    return found
 
 
 def as_frames(asked: Namespace, data: Data, out: Output) -> None:
-    """A line for each minor frame of packed packets: count, time, the lock status of its header, and its bits as hex digits, the
-    first bit the highest. Of a throughput packet the bits are one line, for it has no frames."""
+    """A line for each minor frame: count, time, the lock status of its header, and its bits as hex digits, the first bit the
+    highest, without those that fill up the words of unpacked ones. Of a throughput packet the bits are one line, for it has no
+    frames."""
     source = Source(asked, data, (PCM,))
     out.line('channel,count,time,lost,mode,lock,value')
     for part in source.parts():
         word, channel = int.from_bytes(part.body[:4], 'little'), part.packet.channel
-        size = 4 if word >> 21 & 1 else 2  # bytes of a word of the alignment
-        if word >> 20 & 1:
-            line = part.base + part.packet.counter, '', part.body[4:len(part.body) // size * size]
-            write_frames(source, out, part, 'throughput', size, [line])
+        size = 4 if word & WIDE else 2  # bytes of a word of the alignment
+        if word & THROUGHPUT:
+            some = numpy.frombuffer(part.body, '<u%d' % size, (len(part.body) - 4) // size, 4).byteswap().tobytes()
+            write_frames(source, out, part, 'throughput', [(part.base + part.packet.counter, '', some)])
             continue
-        bits = frame_bits(source, channel, asked)
-        if not word >> 19 & 1 or not word >> 30 & 1:
-            source.leave(channel, 'unpacked, or without headers')
-        elif bits is None:
+        layout = frame_of(source, channel, asked)
+        if not word & (PACKED | UNPACKED):
+            source.leave(channel, 'neither throughput nor packed nor unpacked')
+        elif layout is None:
             source.leave(channel, 'the setup text does not say how many bits a minor frame has: --bits')
+        elif not word & PACKED and not layout.words:
+            source.leave(channel, 'unpacked, and the setup text does not say the words of a minor frame')
+        elif not word & PACKED and layout.is_long(size):
+            source.leave(channel, 'unpacked, with words that are longer than those of the packet')
         else:
-            wide = -(-bits // (8 * size)) * size
-            step = 8 + size + wide
             batch = batch_of(part)
-            if (len(part.body) - 4) % step:
-                source.leave(channel, 'no whole number of minor frames of %d bits' % bits)
+            found = frames_of(batch, layout)
+            if found is None:
+                source.leave(channel, 'no whole number of minor frames of %d bits' % layout.bits)
                 continue
-            at = numpy.arange(4, len(part.body), step)
-            counts = batch.stamps(at, numpy.zeros(len(at), int)).tolist()
-            locks = (batch.numbers(at + 8, 2) >> 12).tolist()
-            write_frames(source, out, part, 'packed', size, [
-                (part.base + count, '%x' % lock, part.body[place + 8 + size:place + step])
-                for place, count, lock in zip(at.tolist(), counts, locks)], bits)
+            instants = [part.base + count for count in counts_of_frames(batch, found)]
+            locks = [''] * len(instants) if found.locks is None else ['%x' % lock for lock in found.locks.tolist()]
+            values = [row.tobytes() for row in numpy.packbits(found.rows, axis=1)]
+            write_frames(source, out, part, 'packed' if word & PACKED else 'unpacked', list(zip(instants, locks, values)))
     source.judge(out)
 
 
-def write_frames(source: Source, out: Output, part: Part, mode: str, size: int, lines: List[Tuple[int, str, bytes]],
-                 bits: Optional[int] = None) -> None:
+def write_frames(source: Source, out: Output, part: Part, mode: str, lines: List[Tuple[int, str, bytes]]) -> None:
     lost = lost_text(part.lost)
-    for instant, lock, some in lines:
-        value = numpy.frombuffer(some, '<u%d' % size).byteswap().tobytes()
-        value = value if bits is None else value[:-(-bits // 8)]
+    for instant, lock, value in lines:
         cells = part.packet.channel, instant & COUNT_BITS, source.time(instant) or '', lost, mode, lock, digits(value)
         out.line(','.join(map(str, cells)))
         lost = '0'

@@ -1,4 +1,4 @@
-"""ARINC 429 (IRIG 106-17, 11.2.10, data type 0x38, format 0): words of 32 bits, each after a header with the time since the one
+"""ARINC 429 (IRIG 106-17, 11.2.8, data type 0x38, format 0): words of 32 bits, each after a header with the time since the one
 before."""
 from __future__ import annotations
 

@@ -1,4 +1,4 @@
-"""Frames of a controller area network (IRIG 106-17, 11.2.18, data type 0x78, format 0): after a stamp a header as that of messages,
+"""Frames of a controller area network (IRIG 106-17, 11.2.17, data type 0x78, format 0): after a stamp a header as that of messages,
 then a word with the identifier, then the frame's bytes, 8 at most.
 
 Bits 15 to 0 of the packet's word say how many frames there are. Of a header bit 31 is a data error, bit 30 a format error; bits 29

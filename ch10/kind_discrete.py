@@ -1,4 +1,4 @@
-"""Discretes (IRIG 106-17, 11.2.8, data type 0x29, format 1): a stamp and 32 bits of states. What changed is told by the states
+"""Discretes (IRIG 106-17, 11.2.6, data type 0x29, format 1): a stamp and 32 bits of states. What changed is told by the states
 before, which stand in the channel's packet before where they are a packet's first.
 
 Bits 7 to 3 of the word say how many discretes there are, 0 for 32. Where bit 1 is set they stand at the top of the 32 bits, and

@@ -1,23 +1,35 @@
 """Messages (IRIG 106-17, 11.2.9, data type 0x30, format 0): as entries of UART, but for their header, and that the word has their
-number."""
+number. One that stands in segments is the one entry of its first packet, whose body is joined (`ch10.segments`)."""
 from __future__ import annotations
 
 from typing import Any, Dict, List
 
-from .arrays import Array
-from .columns import Batch, Block, Coded, Group, Number, Places, Printed, blobs_of, octets_of, of_own_size
+from .arrays import Array, numpy
+from .columns import Batch, Block, Coded, Group, Number, Places, Printed, blobs_of, octets_of, of_own_size, with_singles
 
 LESS = 'less than its entries in a body'
 NUMBER = 0xFFFF
 ERRORS = ('', 'format error', 'data error', 'data error+format error')  # by bits 31 and 30 of a header
 
 
+SEGMENTS = 0x30000
+
+
 def is_other_form(word: int, size: int) -> bool:
-    return word & 0x30000 != 0  # segments of messages
+    """Whether a packet has a segment of a message, which by itself is not read."""
+    return word & SEGMENTS != 0
 
 
 def find(batch: Batch) -> Places:
-    return of_own_size(batch, 12, 8, True, batch.words & NUMBER)
+    """The messages, one of a packet whose body is joined."""
+    is_joined = batch.words & SEGMENTS != 0
+    found = of_own_size(batch, 12, 8, True, numpy.where(is_joined, 0, batch.words & NUMBER))
+    return with_singles(batch, is_joined, batch.ends - batch.starts < 12, found) if is_joined.any() else found
+
+
+def size_of(block: Block) -> Array:
+    """How many bytes each message has."""
+    return numpy.where(block.words & SEGMENTS != 0, (block.batch.ends - block.batch.starts)[block.of] - 12, block.numbers(8, 2))
 
 
 def count(batch: Batch, at: Array, of: Array) -> Array:
@@ -31,15 +43,15 @@ def number_in(data: Any, at: int, size: int, word: int) -> int:
 def raw(block: Block) -> Dict[str, Group]:
     head = block.numbers(8, 4)
     return {'data_error': Number(head >> 31), 'format': Number(head >> 30 & 1), 'sub': Number(head >> 16 & 0x3FFF),
-            'bytes': octets_of(block, 12, head & 0xFFFF)}
+            'bytes': octets_of(block, 12, size_of(block))}
 
 
 def meant(block: Block, reader: Any) -> List[Group]:
-    head = block.numbers(8, 4)
-    return [octets_of(block, 12, head & 0xFFFF), Printed(block, 12, head & 0xFFFF),
+    head, size = block.numbers(8, 4), size_of(block)
+    return [octets_of(block, 12, size), Printed(block, 12, size),
             Coded(head >> 16, lambda high: (high & 0x3FFF, ERRORS[high >> 14]), 2)]
 
 
 def own(block: Block) -> List[Group]:
     head = block.numbers(8, 4)
-    return [Number(head >> 16 & 0x3FFF), Coded(head >> 30, lambda bits: ERRORS[bits] or None), blobs_of(block, 12, head & 0xFFFF)]
+    return [Number(head >> 16 & 0x3FFF), Coded(head >> 30, lambda bits: ERRORS[bits] or None), blobs_of(block, 12, size_of(block))]

@@ -1,4 +1,4 @@
-"""UART (IRIG 106-17, 11.2.15, data type 0x50, format 0): bytes after a stamp and a header, and one more where their number is odd.
+"""UART (IRIG 106-17, 11.2.12, data type 0x50, format 0): bytes after a stamp and a header, and one more where their number is odd.
 
 Bit 31 of the word says whether entries have stamps. Without one an entry begins with the four bytes of its header. It is counted at
 the packet's counter, which is all that is known of its time.

@@ -26,6 +26,7 @@ from typing import Any, Dict, Optional, Sequence
 from .standard import EVENT, TIME
 
 BUS, DISCRETE, MESSAGE, ARINC, UART, CAN = 0x19, 0x29, 0x30, 0x38, 0x50, 0x78
+WEAPONS, FIREWIRE, FIREWIRE_PHY = 0x1A, 0x58, 0x59
 WHOLE, REAL, TRUTH, TEXT, VALUE = 'INTEGER', 'REAL', 'BOOLEAN', 'TEXT', 'value'  # VALUE: a text, what the message itself is
 Columns = Dict[str, str]  # of each its form by its name
 
@@ -106,6 +107,21 @@ KINDS = (
          own={'sub': 'SMALLINT', 'id': 'INTEGER', 'extended': 'BOOLEAN', 'remote': 'BOOLEAN', 'errors': '{text}',
               'value': '{bytes}'},
          together=(1, 1), step=5, is_later=True),
+    Kind(WEAPONS, '16pp194', 'kind_16pp194',
+         keys={'status': TEXT, 'words': VALUE},
+         columns={'value': TEXT, 'errors': TEXT, 'status': TEXT},
+         own={'status': 'INTEGER', 'errors': '{text}', 'words': '{bytes}'},
+         together=(1, 1), step=6, is_later=True),
+    Kind(FIREWIRE, '1394', 'kind_1394',
+         keys={'form': WHOLE, 'sync': WHOLE, 'bytes': VALUE},
+         columns={'value': TEXT, 'event': TEXT, 'body': WHOLE, 'sync': WHOLE},
+         own={'body': 'SMALLINT', 'sync': 'SMALLINT', 'event': '{text}', 'value': '{bytes}'},
+         together=(1, 1), step=7, is_later=True),
+    Kind(FIREWIRE_PHY, '1394phy', 'kind_1394phy',
+         keys={'status': TEXT, 'speed': WHOLE, 'bytes': VALUE},
+         columns={'value': TEXT, 'errors': TEXT, 'status': TEXT, 'speed': WHOLE},
+         own={'status': 'SMALLINT', 'speed': 'SMALLINT', 'errors': '{text}', 'value': '{bytes}'},
+         together=(1, 1), step=8, is_later=True),
 )
 BY_NAME = {kind.name: kind for kind in KINDS}
 

@@ -15,6 +15,7 @@ from .facts import sum_of
 from .inputs import Output, unread_text
 from .kinds import by_type
 from .packets import loss_of, packets
+from .segments import Segments
 from .standard import SETUP, Fault
 from .store import Store, StoreError, open_store, partition_of
 from .survey import name_of, said_in
@@ -72,7 +73,7 @@ class Layout:
     def __init__(self, data: Any, begin: int, end: int, passed: Dict[int, int], asked: Asked = NOTHING) -> None:
         self.cuts: List[Tuple[int, Optional[Tuple[int, int]], Dict[int, int]]] = []
         self.bases: List[Tuple[int, int]] = [(0, 0)]  # from which place on which instant is that of count 0
-        timing, setup = Timing(), b''
+        timing, setup, self.segments = Timing(), b'', Segments(data, begin)
         states: Dict[int, int] = {}
         report, last = None, -PART
         for packet in packets(data, begin, end, False, passed):
@@ -87,6 +88,7 @@ class Layout:
                 last = packet.offset
                 self.cuts.append((last, report, dict(states)))
             report = loss_of(packet)
+            self.segments.note(packet)
             told = said_in(packet)
             if told is not None:
                 timing.add(packet.channel, packet.counter + base, told, packet.offset, packet.flags)
@@ -123,7 +125,7 @@ class Held:
         self.layout = Layout(self.data, begin, end, passed, asked)
 
     def packets(self) -> Iterator[Any]:
-        return packets(self.data, self.begin, self.end, False, self.passed)
+        return self.layout.segments.among(packets(self.data, self.begin, self.end, False, self.passed))
 
     def part(self, cut: int) -> Iterator[Any]:
         """The packets of a part; their offsets count from the recording's first byte."""
@@ -132,7 +134,7 @@ class Held:
         end = cuts[cut + 1][0] if cut + 1 < len(cuts) else self.layout.end
         inside = {offset - start: length for offset, length in self.passed.items() if start <= offset < end}
         for packet in packets(self.data, self.begin + start, self.begin + end, False, inside):
-            yield packet._replace(offset=packet.offset + start)
+            yield self.layout.segments.joined(packet._replace(offset=packet.offset + start))
 
     def packed(self, number: int, wanted: Set[Tuple[int, int]], cut: int) -> Dict[int, Tuple[int, bytes]]:
         """The wanted entries of a part, as COPY takes them."""

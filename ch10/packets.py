@@ -6,7 +6,8 @@ from collections import namedtuple
 from typing import Dict, Iterator, List, NamedTuple, Optional, Set, Tuple
 
 from .kinds import KINDS, by_type
-from .standard import INDEX, LOSS, PATTERN, REPORT, SETUP, SPAN, SUMS, SYNC, WIDTHS, Data, Fault, Key, Whose, find, let_go, little
+from .standard import (INDEX, LOSS, PATTERN, REPORT, SETUP, SPAN, STREAMING, SUMS, SYNC, WIDTHS, Data, Fault, Key, Whose, find,
+                       let_go, little)
 
 HEADER = struct.Struct('<HHIIBBBBIHH')
 HEADER_WORDS = struct.Struct('<11H')
@@ -121,7 +122,7 @@ def need_sum(data: Data, at: int, length: int, size: int, flags: int, here: int,
 
 
 # The types that are read, and of some of them whether a body's word selects a form that is not.
-KNOWN = frozenset([SETUP, INDEX] + [kind.type for kind in KINDS])
+KNOWN = frozenset([SETUP, INDEX, STREAMING] + [kind.type for kind in KINDS])
 FORMS = {INDEX: lambda word, size: word & 0x60000000, **by_type('is_other_form')}
 
 

@@ -258,7 +258,8 @@ def marks(data: Data, begin: int, survey: Survey, sources: Dict[Key, Row], by_pa
     """Of each packet that is drawn its channel and type, its instants, the instant of a loss and how many messages were lost, or
     None twice."""
     report, behind = None, 0
-    for number, (packet, found) in enumerate(counted(packets(data, begin, begin + survey.size, False, survey.passed))):
+    for number, (packet, found) in enumerate(counted(
+            survey.segments.among(packets(data, begin, begin + survey.size, False, survey.passed)))):
         key = packet.channel, packet.kind
         if packet.offset != behind:
             report = None

@@ -49,8 +49,9 @@ class Recording:
         return self.kept
 
     def packets(self) -> Iterator[Packet]:
+        """The packets; the first one of a message in segments has all of it as its body."""
         survey = self.survey()
-        return packets(self.data, self.begin, self.begin + survey.size, False, survey.passed)
+        return survey.segments.among(packets(self.data, self.begin, self.begin + survey.size, False, survey.passed))
 
     def bytes_of(self, packet: Packet) -> bytes:
         at = self.begin + packet.offset

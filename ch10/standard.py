@@ -89,7 +89,7 @@ def digits(data: bytes) -> str:
 
 SYNC = 0xEB25
 PATTERN = b'\x25\xeb'  # its bytes
-LOSS, SETUP, EVENT, INDEX, TIME, NETWORK_TIME = 0x00, 0x01, 0x02, 0x03, 0x11, 0x12
+LOSS, SETUP, EVENT, INDEX, STREAMING, TIME, NETWORK_TIME = 0x00, 0x01, 0x02, 0x03, 0x04, 0x11, 0x12
 REPORT = bytes(4) + b'LOSS'  # what the body of a loss report begins with
 WIDTHS = (0, 1, 2, 4)
 SUMS = (None, 'B', 'H', 'I')

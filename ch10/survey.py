@@ -2,16 +2,17 @@
 from __future__ import annotations
 
 from array import array
-from bisect import bisect_right
+from bisect import bisect_left, bisect_right
 from typing import Dict, Iterable, List, Optional, Sequence, Tuple
 
 from . import walk
-from .bodies import BODIES
+from .bodies import BODIES, counts
 from .clocks import BITS, COUNTLESS, NOTHING, Asked, Sessions, TimeLine, Timing
 from .data_types import family_of
 from .kinds import by_type
 from .packets import KNOWN, UNTOLD, Packet, Resync, Stretch, loss_of, lost_before, packet_at
-from .standard import COUNT_BITS, INDEX, NETWORK_TIME, NONE_LATER, SETUP, SPAN, TIME, Damaged, Data, Fault, let_go
+from .segments import WHY, Segments, is_segment
+from .standard import COUNT_BITS, INDEX, NETWORK_TIME, NONE_LATER, SETUP, SPAN, STREAMING, TIME, Damaged, Data, Fault, let_go
 from .times import Time, network_time, time
 from .tmats import Names
 
@@ -59,6 +60,14 @@ class Row:
             self.opaque += 1
             why = why_unread(packet)
             self.unread[why] = self.unread.get(why, 0) + 1
+
+    def join(self, number: int, instant: int) -> None:
+        """Takes note that so many packets, which were not read, are the segments of a message at an instant."""
+        self.opaque -= number
+        self.unread[WHY] -= number
+        if not self.unread[WHY]:
+            del self.unread[WHY]
+        self.add_entries(1, instant, instant)
 
     def at(self, instant: int) -> None:
         """Takes note of when a packet is."""
@@ -121,6 +130,8 @@ def why_unread(packet: Packet) -> str:
     """Why a packet is opaque."""
     if packet.flags & 0x40:
         return 'stamps of another clock'
+    if is_segment(packet):
+        return WHY
     return 'another form of its type' if packet.kind in KNOWN else 'a type that is not read here'
 
 
@@ -135,8 +146,10 @@ class Survey:
     .size      how many bytes were gone over: all, or those before the fault that ended it
     .clock     the `Clock` of its times, or None; .times, a `TimeLine` of each channel with times; .sessions, its `Sessions`
     .out_of_step    how many packets say that their counter is out of step (packet flags, bit 5)
+    .segments  the `Segments` of messages that stand in several packets
     .begins_with_setup    whether the first packet is a setup, as it has to be
-    .setup     the first setup text as bytes, or None; .names, what it says of channels: `ch10.tmats.Names`
+    .setup     the first setup text as bytes, or None; .streaming, the first configuration of a stream, or None
+    .names     what the one says of channels, or, where there is none, the other: `ch10.tmats.Names`
     .lows      of each packet that was read the lowest instant of its entries; .highs the highest; .places where it begins, after
                the recording's first byte; .of, the number of its session
     """
@@ -149,10 +162,12 @@ class Survey:
         self.fault: Optional[Fault] = None
         self.out_of_step, self.begins_with_setup = 0, False
         self.setup: Optional[bytes] = None
+        self.streaming: Optional[bytes] = None
         self.lows, self.highs, self.places, self.of = array('Q'), array('Q'), array('Q'), array('I')
         self.timing = Timing()
         self.sessions = self.timing.sessions
         self.latest: Dict[int, int] = {}  # of each channel where its last packet stands
+        self.segments = Segments(data, begin)
         self.held: List[Tuple[Row, int, int, bool]] = []  # of packets that are of the session of what comes next
         self.states: List[Tuple[int, int, int]] = []  # of each packet that has one its number, its channel and its last state
         self.by_key: Dict[Tuple[int, int], Row] = {}
@@ -160,7 +175,7 @@ class Survey:
         if end == begin:
             self.fault = Fault('no packet')
         self.rows = [self.by_key[key] for key in sorted(self.by_key)]
-        self.names = Names(self.setup)
+        self.names = Names(self.streaming if self.setup is None else self.setup)
         self.times: List[TimeLine] = list(self.timing.lines.values())
         self.clock = self.timing.clock(asked, self.names.attributes)
 
@@ -212,6 +227,9 @@ class Survey:
             else:
                 row.at(last)
             self.note(packet, found, said, row, base)
+            whole = self.segments.note(packet)
+            if whole:
+                self.join(packet_at(data, begin + whole[0], begin, end, False), len(whole), row)
             resync.note(channel, kind, sequence)
             at += packet.length
             if at - gone >= SPAN:
@@ -275,10 +293,19 @@ class Survey:
             self.states.append((len(self.lows), packet.channel, STATES[kind](packet.body)))
         elif kind == SETUP and packet.word is not None and self.setup is None:
             self.setup = bytes(packet.body[4:])
+        elif kind == STREAMING and packet.word is not None and self.streaming is None:
+            self.streaming = bytes(packet.body[4:])
         self.lows.append(low)
         self.highs.append(high)
         self.places.append(packet.offset)
         self.of.append(base >> BITS)
+
+    def join(self, first: Packet, number: int, row: Row) -> None:
+        """Takes note of a message in so many packets, which is an entry of the first one."""
+        place = bisect_left(self.places, first.offset)
+        instant = counts(self.segments.joined(first))[0] + (self.of[place] << BITS)
+        self.lows[place] = self.highs[place] = instant
+        row.join(number, instant)
 
     def base_at(self, offset: int) -> int:
         """The instant of count 0 of the session of a packet that begins there."""

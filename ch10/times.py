@@ -202,6 +202,10 @@ class Range:
         place = bisect_right(self.starts, instant) - 1
         return place >= 0 and instant <= self.spans[place][1]
 
+    def stretch(self, instant: int) -> int:
+        """In which stretch of instants one lies that is in it: there are several where a clock was set back."""
+        return 0 if self.spans is None else bisect_right(self.starts, instant)
+
     def touches(self, low: int, high: int) -> bool:
         """Whether some of the instants from one to another may be in it."""
         if self.is_by_count and low >> 48 == high >> 48 and (high & COUNT_BITS < self.low or low & COUNT_BITS > self.high):

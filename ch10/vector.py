@@ -15,6 +15,7 @@ from .columns import (LONGEST, NONE, ROOM, Bits, Block, Changed, Coded, Each, He
 from .buses import changed_bits
 from .doubts import quality_of
 from .inputs import HELD
+from .kinds import BUS
 from .replay import Ordered, Part
 from .standard import COUNT_BITS
 from .times import DAY, Range, civil
@@ -460,11 +461,13 @@ class Vector:
 
     def quality(self, block: Block, end: bytes) -> Piece:
         """The end of each line, with how good its time is."""
-        keys = numpy.maximum(numpy.searchsorted(self.starts, block.count, 'right') - 1, 0) << 1 | block.columns['flags'] >> 5 & 1
+        keys = numpy.maximum(numpy.searchsorted(self.starts, block.count, 'right') - 1, 0) << 3 | block.columns['flags'] >> 5 & 1
+        if block.kind == BUS:
+            keys |= (block.words >> 30) << 1
         some, numbers = numpy.unique(keys, return_inverse=True)
         survey = self.ordered.survey
         for place, key in enumerate(some.tolist()):
-            said = quality_of(survey, int(self.starts[key >> 1]) if len(self.starts) else 0, key & 1 == 1)
+            said = quality_of(survey, int(self.starts[key >> 3]) if len(self.starts) else 0, key & 1 == 1, key >> 1 & 3)
             if said not in self.qualities:
                 self.qualities.append(said)
             some[place] = self.qualities.index(said)

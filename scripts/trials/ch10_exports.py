@@ -38,7 +38,7 @@ def by_program(call: Sequence[str], data: bytes, name: str) -> str:
     return done.stdout + (done.stderr if done.returncode else '')
 
 
-# ---- Ethernet (11.2.14.1)
+# ---- Ethernet (11.2.15)
 
 def udp_frame(source: int, text: bytes, check: bool = True) -> bytes:
     """An Ethernet frame with a UDP datagram, and its check sequence."""
@@ -94,7 +94,7 @@ def ethernet_left() -> Found:
                            (1, b'', 'no packet of the recording has such data'))
 
 
-# ---- video (11.2.11)
+# ---- video (11.2.10)
 
 def stream() -> bytes:
     """A short transport stream, made by ffmpeg; where there is none, packets with the sync byte and random bytes."""
@@ -143,7 +143,7 @@ def video_left() -> Found:
         '--channel says which of 21, 25', (0, whole))
 
 
-# ---- analog (11.2.6)
+# ---- analog (11.2.5)
 
 def samples_in(words: List[str], data: bytes) -> List[Tuple[int, ...]]:
     lines = run(['export', '--as', 'samples'] + words, data)[1].decode().splitlines()[1:]
@@ -214,14 +214,49 @@ def pcm() -> Found:
     return found, wanted
 
 
+WORDS = b'P-1\\MF1:%d;P-1\\MF4:%d;P-1\\F1:%d;'  # words of a minor frame with its sync pattern, the bits of that, and of a word
+
+
+def pcm_unpacked() -> Found:
+    """Unpacked minor frames, of both alignments, with sync patterns of even and odd numbers of bits and words of several sizes: the
+    frame's bits, as if they were packed; without headers too, at the packet's counter."""
+    draw, found, wanted = random.Random('unpacked'), [], []
+    for wide, sync, common, sizes in ((0, 24, 12, {}), (0, 25, 10, {2: 16}), (1, 24, 12, {}), (1, 32, 20, {1: 1, 3: 32}),
+                                      (0, 13, 8, {}), (0, 16, 12, {2: 16})):
+        bits = [sizes.get(place, common) for place in range(1, 6)]
+        setup = PCM_SETUP % (sync + sum(bits)) + WORDS % (6, sync, common) + b''.join(
+            b'P-1\\MFW1-%d:%d;P-1\\MFW2-%d:%d;' % (at, place, at, size) for at, (place, size) in enumerate(sizes.items(), 1))
+        for header in (1, 0):
+            frames = [(draw.getrandbits(sync), [draw.getrandbits(size) for size in bits]) for _ in range(3)]
+            body = pcm_word(unpacked=1, wide=wide, header=header)
+            for place, (pattern, values) in enumerate(frames):
+                front = made.halves(pattern, sync) if sync > (32 if wide else 16) else [(pattern, sync)]
+                one = made.pcm_unpacked(2000 + place, front + list(zip(values, bits)), 12 + place, wide)
+                body += one if header else one[12 if wide else 10:]
+            rows = ['{:0{}b}'.format(pattern, sync) + ''.join('{:0{}b}'.format(*pair) for pair in zip(values, bits))
+                    for pattern, values in frames]
+            status, written, line = run(['export', '--as', 'frames'], b''.join(opened(setup) + [packet(20, 0x09, 1999, body)]))
+            found.append((status, line, [tuple(row.split(',')[at] for at in (1, 4, 5, 6))
+                                         for row in written.decode().splitlines()[1:]]))
+            wanted.append((0, '', [(str(2000 + place if header else 1999), 'unpacked', '%x' % (12 + place) if header else '',
+                                    made.bits_of(row, 1).hex()) for place, row in enumerate(rows)]))
+    return found, wanted
+
+
 def pcm_left() -> Found:
-    """Without the number of bits, with another one, and unpacked: left out, and said."""
+    """Without the number of bits, with another one, unpacked without the words, in a reserved mode, by attributes that do not
+    agree, or unpacked with words that are longer than those of the packet: left out, and said."""
     body = pcm_word(packed=1) + pcm_frame(2000, '1' * 64, 12, False)
-    found = [run(['export', '--as', 'frames'] + more, b''.join(opened() + [packet(20, 0x09, 2000, one)]))[::2]
-             for more, one in (([], body), (['--bits', '80'], body), (['--bits', '64'], pcm_word(unpacked=1) + body[4:]))]
+    words, long = PCM_SETUP % 99 + WORDS % (4, 16, 16), PCM_SETUP % 88 + WORDS % (4, 16, 24)
+    found = [run(['export', '--as', 'frames'] + more, b''.join(opened(*setup) + [packet(20, 0x09, 2000, one)]))[::2]
+             for more, one, setup in (
+                 ([], body, ()), (['--bits', '80'], body, ()), (['--bits', '64'], pcm_word(unpacked=1) + body[4:], ()),
+                 ([], pcm_word() + body[4:], ()), ([], body, (words,)), ([], pcm_word(unpacked=1) + body[4:], (long,)))]
     return found, [(1, 'channel 20: 1 packet not read: %s' % why) for why in (
         'the setup text does not say how many bits a minor frame has: --bits', 'no whole number of minor frames of 80 bits',
-        'unpacked, or without headers')]
+        'unpacked, and the setup text does not say the words of a minor frame', 'neither throughput nor packed nor unpacked',
+        'the setup text does not say how many bits a minor frame has: --bits',
+        'unpacked, with words that are longer than those of the packet')]
 
 
-TRIALS: List[Callable[[], Found]] = [ethernet, ethernet_left, video, video_left, analog, analog_wav, pcm, pcm_left]
+TRIALS: List[Callable[[], Found]] = [ethernet, ethernet_left, video, video_left, analog, analog_wav, pcm, pcm_unpacked, pcm_left]

@@ -142,6 +142,38 @@ def range_holds_its_time() -> Found:
     return found, [['2024-05-17 09:00:01.0000000'], ['2024-05-17 09:00:04.0000000']]
 
 
+def clock_back() -> bytes:
+    """Ten seconds, then the clock is set back by seven, and goes on for ten more; the counter goes on."""
+    one = opened()
+    for second in range(20):
+        one.add(1, 0x11, second * SECOND, made.time_f1('2024-05-17 09:00:%02d.00' % (second if second < 10 else second - 7)))
+        entry(one, second * SECOND + SECOND // 2, str(second))
+    return one.data()
+
+
+def clock_back_range() -> Found:
+    """A range of a recording whose clock was set back takes what has such a time before that and after it, with the time that holds
+    where each of the two begins: its entries have the same times then, by csv and by the summary."""
+    data, found, wanted = clock_back(), [], []
+    for first, last, places in (('04.2', '04.8', (4, 11)), ('04', '06', (4, 5, 11, 12)), ('00', '03.2', (0, 1, 2)),
+                                ('08.5', '12', (8, 9, 15, 16, 17, 18)), ('03.5', '03.5', (3, 10))):
+        words = ['--from', '2024-05-17 09:00:' + first, '--to', '2024-05-17 09:00:' + last]
+        status, part, _ = run(['range', *words], data)
+        said = rows(['--channel', '5'], part, 'time', 'text')
+        found.append((status, rows(['--channel', '5', *words], data, 'time', 'text'), said, times(words, part)))
+        some = [('2024-05-17 09:00:%02d.5000000' % (place if place < 10 else place - 7), str(place)) for place in places]
+        wanted.append((0, some, some, [time for time, _ in some]))
+    return found, wanted
+
+
+def clock_back_range_size() -> Found:
+    """Such a range has the setup, the time before each of its two stretches, and the entries: no packet more."""
+    words = ['--from', '2024-05-17 09:00:04.2', '--to', '2024-05-17 09:00:04.8']
+    part = run(['range', *words], clock_back())[1]
+    return [(row['type'], row['packets']) for row in map(json.loads, run(['summary', '--json'], part)[1].splitlines())
+            if 'packets' in row], [('setup', 1), ('time', 2), ('uart', 2)]
+
+
 def counter_back_states() -> Found:
     """What changed in discretes is told by the states before of the same session."""
     with tempfile.TemporaryDirectory() as folder:
@@ -480,7 +512,7 @@ def left_out() -> Found:
         one.add(20, 0xF3, place, bytes(8))
     entry(one, 5, 'a')
     data = one.data()
-    lines = ['channel 6, message: 3 packets not read: another form of its type',
+    lines = ['channel 6, message: 3 packets not read: a segment of a message that is not whole',
              'channel 20, type-f3: 3 packets not read: a type that is not read here']
     with tempfile.TemporaryDirectory() as folder:
         path = pathlib.Path(folder, 'flight.ch10')
@@ -500,8 +532,8 @@ def left_out() -> Found:
             [line.split(': ', 1)[1] for line in loaded[1][:2]], [line for line in shown if line in lines],
             [line for line in summed if line in lines], [line in page for line in lines], notes(['summary'], data)[0]), (
                 1, sorted(lines), (0, lines[1:]), (0, []), 1, sorted(lines),
-                [(6, 'message', 3, 'another form of its type'), (20, 'type-f3', 3, 'a type that is not read here')], 1, lines,
-                lines, lines, [True, True], 0)
+                [(6, 'message', 3, 'a segment of a message that is not whole'),
+                 (20, 'type-f3', 3, 'a type that is not read here')], 1, lines, lines, lines, [True, True], 0)
 
 
 def no_setup() -> Found:
@@ -563,7 +595,8 @@ def long_front() -> Found:
 
 
 TRIALS: List[Callable[[], Found]] = [
-    counter_back, counter_back_ends, counter_back_range, range_holds_its_time, counter_back_states, counter_to_and_fro,
+    counter_back, counter_back_ends, counter_back_range, clock_back_range, clock_back_range_size, range_holds_its_time,
+    counter_back_states, counter_to_and_fro,
     counter_full,
     order_of_writing, session_without_times, leap_second, leap_second_ranges, leap_second_of_a_day, new_year, invalid_format,
     no_source, qualities, qualities_of_many, best_channel, unlocked_start, network_times, network_leap_second, year_given,

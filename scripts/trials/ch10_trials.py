@@ -40,6 +40,7 @@ import ch10_damage  # noqa: E402
 import ch10_exports  # noqa: E402
 import ch10_hostile  # noqa: E402
 import ch10_meanings  # noqa: E402
+import ch10_others  # noqa: E402
 import ch10_times  # noqa: E402
 import ch10_types  # noqa: E402
 import ch10_units  # noqa: E402
@@ -580,7 +581,7 @@ def check():
     trials += [lambda it=it: compare_others(*it) for it in others_recordings()]
     trials += [lambda it=it: compare_verdict(*it) for it in check_cases.verdicts()]
     trials += [lambda it=it: agree(run(it[0], it[1])[::2], it[2:], str(it[0])) for it in calls()] + [compare_shell]
-    modules = ch10_meanings, ch10_hostile, ch10_times, ch10_types, ch10_exports, ch10_units
+    modules = ch10_meanings, ch10_hostile, ch10_times, ch10_types, ch10_others, ch10_exports, ch10_units
     trials += [lambda it=it: agree(*it(), it.__name__) for module in modules for it in module.TRIALS]
     trials += [lambda seed=seed: agree(ch10_damage.each_twentieth(seed), [], 'a bit in each twentieth packet') for seed in range(3)]
     trials += [lambda which=which: agree(ch10_damage.one_damaged(1, which)[1], [], 'damage') for which in range(20)]

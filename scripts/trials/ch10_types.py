@@ -14,6 +14,7 @@ from chapter11 import can_frame, discretes, opened, packet, secondary_header, ti
 from ch10 import command
 
 Found = Tuple[object, object]
+csv.field_size_limit(1 << 24)
 
 
 def run(words: Sequence[str], data: bytes) -> Tuple[int, bytes, str]:
