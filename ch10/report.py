@@ -44,6 +44,7 @@ svg { max-width: 100%; height: auto; } figure { margin: 0.6rem 0; }
 .verdict { font-weight: 700; padding: 0.05rem 0.45rem; border: 2px solid; border-radius: 0.3rem; white-space: nowrap; }
 .strict { color: #14532d; } .lenient { color: #1e40af; } .faulty { color: #9b1c1c; border-style: double; border-width: 4px; } \
 .unjudged { color: #4a5159; border-style: dashed; }
+@media screen { .paper { display: none; } }
 @media print {
   body { max-width: none; padding: 0; font-size: 10.5pt; } nav, .skip { display: none; } a { color: inherit; text-decoration: \
 none; }
@@ -51,12 +52,17 @@ none; }
   .scroll { overflow: visible; } table { font-size: 5.5pt; line-height: 1; } th, td { padding: 0 0.3rem; } tr, figure \
 { break-inside: avoid; } h2, h3, caption { break-after: avoid; } h2 { margin: 0.5rem 0 0.1rem; font-size: 11pt; }
   h3 { margin: 0.2rem 0 0; font-size: 8pt; } p, li { font-size: 7pt; margin: 0.05rem 0; max-width: none; } ul { margin: 0; }
+  li { display: inline; } li + li::before { content: '; '; } ul { padding: 0; }
   thead { display: table-header-group; } .wrap { min-width: 8rem; } details, figcaption, .screen { display: none; }
-  figure { display: inline-block; width: 32.5%; margin: 0; vertical-align: top; } figure.map { width: 24.5%; }
+  .two { columns: 2; column-gap: 3mm; } .two table { font-size: 4.8pt; width: 100%; border-collapse: separate; border-spacing: 0; }
+  .two th, .two td { padding: 0 0.08rem; } .two caption { display: none; }
+  figure { display: inline-block; width: 32.5%; margin: 0; vertical-align: top; } figure.map { width: 16%; }
+  h3.run, h3.run + p, h3.run + ul { display: inline; }
+  .paper { display: block; font-size: 5.5pt; white-space: nowrap; overflow: hidden; }
 }
 """
 MOST_STRETCHES = 500
-MOST_STRIPS = 12  # of a picture
+MOST_STRIPS = 18  # of a picture; on paper three stand side by side
 MEANS = {'strict': 'This recorder may have written it: it keeps each of its rules.',
          'lenient': 'Any recorder may have written it: each packet is framed and counted as the standard says, and what is read is '
                     'checked.',
@@ -74,15 +80,17 @@ class Part(NamedTuple):
 
 # ---- pieces of a page
 
-def table(caption: str, heads: Sequence[str], rows: Iterable[Sequence[Any]], left: Sequence[str] = ()) -> List[str]:
-    """A table whose first column names its rows; a cell that is a pair is a class and HTML as it stands."""
+def table(caption: str, heads: Sequence[str], rows: Iterable[Sequence[Any]], left: Sequence[str] = (),
+          more: str = '') -> List[str]:
+    """A table whose first column names its rows; a cell that is a pair is a class and HTML as it stands. `more` is a class of its
+    own, or none."""
     def cell(place: int, value: Any) -> str:
         plain = ('left time' if heads[place] == 'name' else 'left') if heads[place] in left else ''
         name, text = value if isinstance(value, tuple) else (plain, escape('-' if value is None else str(value)))
         kind = ' class="%s"' % name if name else ''
         return '<th scope="row"%s>%s</th>' % (kind, text) if place == 0 else '<td%s>%s</td>' % (kind, text)
-    made = ['<div class="scroll" tabindex="0" role="region" aria-label="%s"><table><caption>%s</caption><thead><tr>'
-            % (escape(caption, True), escape(caption))]
+    made = ['<div class="scroll%s" tabindex="0" role="region" aria-label="%s"><table><caption>%s</caption><thead><tr>'
+            % (more and ' ' + more, escape(caption, True), escape(caption))]
     made.append(''.join('<th scope="col"%s>%s</th>' % (' class="left"' if head in left else '', escape(head)) for head in heads)
                 + '</tr></thead><tbody>')
     made += ['<tr>%s</tr>' % ''.join(cell(place, value) for place, value in enumerate(row)) for row in rows]
@@ -115,8 +123,9 @@ def bus_parts(data: Any, begin: int, end: int, survey: Survey) -> List[str]:
     if messages:
         channels = sorted({key[0] for key in messages})
         below = '<figcaption>The darker, the more messages; red where some are wrong.</figcaption>'
-        figures = ['<figure class="map">%s%s</figure>' % (heat_map(traffic, channel, survey.names.channel(channel)), below)
-                   for channel in channels]
+        figures = ['<figure class="map"><div class="paper">%d %s: received, sent</div>%s%s</figure>' % (
+            channel, escape(survey.names.channel(channel)), heat_map(traffic, channel, survey.names.channel(channel)), below)
+            for channel in channels]
         rows = [(channel, survey.names.channel(channel) or '-', 'none' if rt < 0 else rt,
                  {'T': 'transmits', 'R': 'receives', None: '-'}[direction],
                  size_text(sum(counted.values())), counted_text(errors.get((channel, rt, direction), Counter()), str) or '-',
@@ -132,7 +141,7 @@ def bus_parts(data: Any, begin: int, end: int, survey: Survey) -> List[str]:
                  ('wrap', escape(counted_text(counted, label_of))))
                 for (channel, bus), counted in sorted(labels.items())]
         brief = [row[:4] + (len(labels[row[0], row[2]]),) for row in rows]
-        made += ['<h3>ARINC 429 by label</h3>', '<p>%s words on %d buses.</p>' % (
+        made += ['<h3 class="run">ARINC 429 by label</h3>', '<p>%s words on %d buses.</p>' % (
             size_text(sum(sum(counted.values()) for counted in labels.values())), len(labels))]
         made += ['<div class="screen">'] + table('Words of each bus', ('channel', 'name', 'bus', 'words', 'labels'), brief,
                                                  ('name',)) + ['</div>']
@@ -156,8 +165,9 @@ def pictures_of(data: Any, begin: int, end: int, survey: Survey, name: str) -> L
     sources = {(row.channel, row.kind): row for row in some}
     by_packets = {key for key, row in sources.items() if not row.entries}
     keys, drawn = sorted(sources), []
-    for at in range(0, len(keys), MOST_STRIPS):
-        drawn.append(Picture(name, {key: sources[key] for key in keys[at:at + MOST_STRIPS]}, by_packets, *ends_of(some), survey))
+    strips = -(-len(keys) // -(-len(keys) // MOST_STRIPS))  # the pictures are of one height
+    for at in range(0, len(keys), strips):
+        drawn.append(Picture(name, {key: sources[key] for key in keys[at:at + strips]}, by_packets, *ends_of(some), survey))
     by_key = {key: one for one in drawn for key in one.sources}
     for mark in marks(data, begin, survey, sources, by_packets):
         by_key[mark[0]].fill((mark,), None)
@@ -182,8 +192,8 @@ def channel_part(survey: Survey) -> List[str]:
     unread = ['<li>%s</li>' % escape(one.text()) for one in unread_in(survey)]
     unread = ['<h4>Not read</h4><ul>'] + unread + ['</ul>'] if unread else []
     return ['<h3>Channels</h3>'] + table('What each channel and data type has', (
-        'channel', 'type', 'name', 'packets', 'entries', 'bytes', 'entries/s', 'losses', 'messages lost', 'jumps', 'opaque',
-        'damaged packets'), rows, ('type', 'name')) + unread
+        'channel', 'type', 'name', 'packets', 'entries', 'bytes', 'entries/s', 'losses', 'lost', 'jumps', 'opaque', 'damaged'),
+                                               rows, ('type', 'name'), 'two') + unread
 
 
 def damage_part(survey: Survey) -> List[str]:
@@ -201,7 +211,7 @@ def damage_part(survey: Survey) -> List[str]:
 def clock_part(survey: Survey) -> List[str]:
     if not survey.times or not survey.span():
         return []
-    return ['<h3>Clocks</h3><ul>'] + ['<li>%s</li>' % escape(line.strip()) for times in survey.times
+    return ['<h3 class="run">Clocks</h3><ul>'] + ['<li>%s</li>' % escape(line.strip()) for times in survey.times
                                       for line in clock_lines(times, survey)] + ['</ul>']
 
 
@@ -215,7 +225,7 @@ def setup_part(survey: Survey) -> List[str]:
         if row.channel:
             kinds.setdefault(row.channel, set()).add(row.kind)
     others = survey.names.disagreements(kinds)
-    made = ['<h3>Setup</h3>']
+    made = ['<h3 class="run">Setup</h3>']
     if others:
         made.append('<ul>%s</ul>' % ''.join('<li>%s</li>' % escape(line) for line in others))
     return made + folded('%d attributes of chapter 9' % len(survey.names.attributes), [

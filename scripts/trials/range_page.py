@@ -86,13 +86,25 @@ def browser() -> str:
     raise NotThere('no browser here (Debian: chromium)')
 
 
+MOST_SHEETS = 10  # of a report on eight recordings of some 50 channels
+
+
+def sheets_of(page: str, to: str) -> int:
+    """How many sheets a page prints on, by the document that a browser makes of it."""
+    by_browser(page, to, ['--no-pdf-header-footer', '--print-to-pdf=' + to])
+    return len(re.findall(rb'/Type\s*/Page\b', pathlib.Path(to).read_bytes()))
+
+
 def picture_of(page: str, to: str, height: int = 1600) -> None:
     """The picture that a browser makes of a page."""
+    by_browser(page, to, ['--hide-scrollbars', '--screenshot=' + to, '--window-size=1200,%d' % height])
+
+
+def by_browser(page: str, to: str, asked: Sequence[str]) -> None:
+    """Has a browser make a file of a page."""
     room = tempfile.mkdtemp(prefix='ch10-browser-')
     try:
-        words = [browser(), '--headless', '--no-sandbox', '--disable-gpu', '--hide-scrollbars', '--user-data-dir=' + room,
-                 '--screenshot=' + to,
-                 '--window-size=1200,%d' % height, 'file://' + page]
+        words = [browser(), '--headless', '--no-sandbox', '--disable-gpu', '--user-data-dir=' + room, *asked, 'file://' + page]
         try:
             done = subprocess.run(words, stdout=subprocess.DEVNULL, stderr=subprocess.PIPE, timeout=120)
         except subprocess.TimeoutExpired:
@@ -124,7 +136,7 @@ def check_report(folder: str, room: str, made: str) -> None:
     pathlib.Path(wide).write_bytes(recording(1, 1, 5000))
     strips = [len(re.findall(r'>channel \d+<', figure))
               for figure in ch10(['report', '--program', made, wide]).split('<figure>')[2:]]
-    agree((max(strips), sum(strips)), (12, 50), 'channels of a picture that fits on a sheet of paper')
+    agree((max(strips), sum(strips)), (17, 50), 'channels of a picture that fits on a sheet of paper')
     page = os.path.join(room, 'report.html')
     pathlib.Path(page).write_text(text)
     try:
@@ -132,5 +144,11 @@ def check_report(folder: str, room: str, made: str) -> None:
         picture_of(page, picture)
         if ink_of(pathlib.Path(picture).read_bytes()) < 20000:
             raise Bad('the page looks empty')
+        flights = [os.path.join(room, 'flight%d.ch10' % number) for number in range(8)]
+        for number, flight in enumerate(flights):
+            pathlib.Path(flight).write_bytes(recording(1, number, 800000))
+        pathlib.Path(page).write_text(ch10(['report', '--program', made] + flights, 1))
+        sheets = sheets_of(page, os.path.join(room, 'report.pdf'))
+        agree(1 < sheets <= MOST_SHEETS, True, '%d sheets of a report on eight recordings, at most %d' % (sheets, MOST_SHEETS))
     except NotThere as why:
         print('NOT TRIED: the page in a browser: %s' % why)
