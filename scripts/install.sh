@@ -1,6 +1,6 @@
 #!/usr/bin/env bash
 # Installs r10: the program, the library for C and Rust (static and shared), its header and r10.pc, the filters as ch10, the service
-# r10d with r10ctl and its unit for systemd, the manual pages, completions for bash and zsh, and the documents.
+# r10d with r10ctl and its unit for systemd, the manual pages, completions for bash and zsh, and the documents for users.
 #
 #     scripts/install.sh [PREFIX] [DESTDIR]               # below /usr/local, or below DESTDIR/PREFIX for a package
 #     scripts/install.sh --uninstall [PREFIX] [DESTDIR]   # removes what the list of an installation names, and nothing else
@@ -109,7 +109,7 @@ service=()
 cp -r "$made/manual/"man? "$share/man"
 cp "$made/manual/bash/"* "$share/bash-completion/completions"
 cp "$made/manual/zsh/"* "$share/zsh/site-functions"
-cp -r "$top/README.md" "$top/docs" "$top/examples" "$share/doc/r10"
+"$top/scripts/tools/pages.py" "$share/doc/r10" || exit 3
 chmod -R u=rwX,go=rX "$whole"
 
 # A folder is in the list if it is r10's own, is made now, or was made by an earlier installation: it goes once it is empty.

@@ -19,6 +19,9 @@ check "the program runs" is "$("$r10" <"$top/examples/first.toml")" "$(cat "$top
 "$r10" sim --image <"$top/examples/first.toml" >"$room/medium.img"
 check "the filters run" says "$("$root/usr/bin/ch10" summary <"$room/medium.img")" "file 0 FLT1: 272 bytes"
 check "the filters have the number too" is "$("$root/usr/bin/ch10" --version)" "ch10 $version"
+check "the documents are those for users, the table of promises is none of them" is \
+    "$(cd "$root/usr/share/doc/r10" && find . -name '*.md' | sort | tr '\n' ' ')" \
+    "./README.md $(printf './docs/%s.md ' FORMAT LIBRARY MODEL RANGE RECORDER UNPROVED USING)"
 check "the filters leave nothing" is "$(find "$root" -name '__pycache__' | wc -l)" 0
 
 if [ "$(id -u)" = 0 ] && mkdir "$room/noexec" && mount -t tmpfs -o noexec tmpfs "$room/noexec" 2>/dev/null; then
