@@ -78,6 +78,12 @@ def doubts_of(survey: Any) -> List[str]:
     return lines
 
 
+def log_said(survey: Any) -> List[str]:
+    """What the recorder's log channel says of the clock and of losses, and what it does not say."""
+    after = ['channel %d: %d messages were lost after its last one' % (row.channel, row.after) for row in survey.rows if row.after]
+    return survey.log.clock() + after + survey.log_remarks
+
+
 MOST_SAID = 10  # sessions without times that are named
 MOST_APART = 500000  # two channels tell times to 10 ms each, and some recorders one of them late
 

@@ -9,8 +9,9 @@ from typing import Any, Callable, Dict, List, Optional, Tuple
 
 from .bodies import counts
 from .clocks import NOTHING, Asked, Clock, TimeLine, Timing
-from .doubts import NO_SETUP, doubts_of, has_no_setup, unread_in
+from .doubts import NO_SETUP, doubts_of, has_no_setup, log_said, unread_in
 from .kinds import by_type
+from .log_lines import MESSAGE, Log, use
 from .packets import HEADER, ONE_WORD, packet_at
 from .standard import INDEX, LOSS, SETUP, TIME, Fault, Wrong, little
 from .store_schema import MOST_NUMBER
@@ -144,10 +145,10 @@ class StrictSurvey:
     words, and one packet of each channel is read.
     """
 
-    def __init__(self, data: Any, begin: int, end: int, asked: Asked = NOTHING) -> None:
+    def __init__(self, data: Any, begin: int, end: int, asked: Asked = NOTHING, more: Optional[Log] = None) -> None:
         rows: Dict[Tuple[int, int], Row] = {}
         last: Dict[Tuple[int, int], int] = {}
-        self.timing = Timing()
+        self.timing, self.log = Timing(), Log()
         self.damage: List[Any] = []
         self.fault, self.out_of_step, self.begins_with_setup = None, 0, True
         self.setup: Optional[bytes] = None
@@ -177,6 +178,8 @@ class StrictSurvey:
                     row.lost += 1
                     row.untold += 1
             number = NUMBERS[kind](data, at + 24, size, word) if kind in NUMBERS else 0
+            if kind == MESSAGE:
+                self.log.add(channel, data[at + 24:at + 24 + size])
             if number:
                 row.entries += number
                 if not row.entered:
@@ -187,6 +190,7 @@ class StrictSurvey:
             at += length
         for key, place in last.items():
             rows[key].entered[0][1] = last_count(data, place, begin, end)
+        self.log_remarks = use(rows, self.log, lambda channel, kind: rows.setdefault((channel, kind), Row(channel, kind)), more)
         self.rows = [rows[key] for key in sorted(rows)]
         self.names = Names(self.setup)
         self.times: List[TimeLine] = list(self.timing.lines.values())
@@ -249,7 +253,7 @@ def facts_of(data: Any, begin: int, end: int, program: Optional[str], survey: Op
                  packets=sum(row.packets for row in survey.rows), entries=sum(row.entries for row in survey.rows),
                  channels=rows, damage=damage_of(survey), attributes=attributes_of(survey.names),
                  unread=[(one.channel, one.kind, one.packets, one.why) for one in unread_in(survey)],
-                 remarks=list(enumerate(doubts_of(survey) + ([NO_SETUP] if has_no_setup(survey) else []), 1)))
+                 remarks=list(enumerate(doubts_of(survey) + log_said(survey) + ([NO_SETUP] if has_no_setup(survey) else []), 1)))
     for name in SUMS:
         found[name] = most(sum(getattr(row, name) for row in survey.rows))
     found.update(damaged=len(found['damage']), damaged_bytes=sum(length for _, length, _ in found['damage']))

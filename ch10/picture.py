@@ -59,6 +59,19 @@ class Picture:
         self.lost = {key: [0] * self.bars for key in sources}
         self.sums = {key: [0, 0, 0] for key in sources}  # losses, messages lost, losses of an unknown number
         self.bottom = TOP + STEP * len(sources)
+        for key, row in sources.items():
+            self.add_log(key, row, low, high)
+
+    def add_log(self, key: Key, row: Row, low: int, high: int) -> None:
+        """Takes in what the recorder's log channel says of losses: those after a channel's last message stand at that message, and those
+        that an earlier file has told of are left out."""
+        last = self.axis_line.of(row.last())
+        if row.after and low <= last <= high:
+            self.lost[key][(last - low) // self.bar] += 1
+            self.sums[key][0] += 1
+            self.sums[key][1] += row.after
+        if row.told and low <= self.axis_line.of(row.first()) <= high:
+            self.sums[key][1] -= row.told
 
     def fill(self, seen: Iterable[Mark], has: Optional[Callable[[int], bool]]) -> None:
         """Counts how many entries stand in each bar, and losses; `has` says whether an instant is drawn, or is None."""

@@ -10,6 +10,7 @@ from .bodies import BODIES, counts
 from .clocks import BITS, COUNTLESS, NOTHING, Asked, Sessions, TimeLine, Timing
 from .data_types import family_of
 from .kinds import by_type
+from .log_lines import MESSAGE, Log, use
 from .packets import KNOWN, UNTOLD, Packet, Resync, Stretch, loss_of, lost_before, packet_at
 from .segments import WHY, Segments, is_segment
 from .standard import COUNT_BITS, INDEX, NETWORK_TIME, NONE_LATER, SETUP, SPAN, STREAMING, TIME, Damaged, Data, Fault, let_go
@@ -34,10 +35,12 @@ class Row:
 
     .packed    of each session the lowest and the highest instant of its packets; .entered, of their entries
     .unread    how many packets were not read, by why; .doubled, how many are the same as the channel's packet before
+    .after     how many messages were lost after its last one, by the recorder's log channel; .told, how many losses before its first
+               one are an earlier file's. Both are in .lost as it counts: those are added, these taken off
     """
 
     __slots__ = ('channel', 'kind', 'packets', 'entries', 'bytes', 'losses', 'lost', 'untold', 'jumps', 'opaque', 'bad', 'packed',
-                 'entered', 'unread', 'doubled')
+                 'entered', 'unread', 'doubled', 'after', 'told')
 
     def __init__(self, channel: int, kind: int) -> None:
         self.channel, self.kind = channel, kind
@@ -45,7 +48,7 @@ class Row:
         self.packed: Dict[int, List[int]] = {}
         self.entered: Dict[int, List[int]] = {}
         self.unread: Dict[str, int] = {}
-        self.doubled = 0
+        self.doubled = self.after = self.told = 0
 
     def add(self, packet: Packet, report: Optional[Tuple[int, int]]) -> None:
         """Adds a packet after this report, or after none."""
@@ -148,14 +151,17 @@ class Survey:
     .out_of_step    how many packets say that their counter is out of step (packet flags, bit 5)
     .segments  the `Segments` of messages that stand in several packets
     .begins_with_setup    whether the first packet is a setup, as it has to be
+    .log       the lines of the recorder's log channel: `ch10.log_lines.Log`; .log_remarks, what it does not say
     .setup     the first setup text as bytes, or None; .streaming, the first configuration of a stream, or None
     .names     what the one says of channels, or, where there is none, the other: `ch10.tmats.Names`
     .lows      of each packet that was read the lowest instant of its entries; .highs the highest; .places where it begins, after
                the recording's first byte; .of, the number of its session
     """
 
-    def __init__(self, data: Data, begin: int, end: int, goes_on: bool = True, asked: Asked = NOTHING) -> None:
+    def __init__(self, data: Data, begin: int, end: int, goes_on: bool = True, asked: Asked = NOTHING,
+                 more: Optional[Log] = None) -> None:
         self.rows: List[Row] = []
+        self.log = Log()
         self.damage: List[Stretch] = []
         self.passed: Dict[int, int] = {}
         self.spans: List[Tuple[Optional[int], Optional[int]]] = []
@@ -174,6 +180,7 @@ class Survey:
         self.size = self.go(data, begin, end, goes_on)
         if end == begin:
             self.fault = Fault('no packet')
+        self.log_remarks = use(self.by_key, self.log, self.new_row, more)
         self.rows = [self.by_key[key] for key in sorted(self.by_key)]
         self.names = Names(self.streaming if self.setup is None else self.setup)
         self.times: List[TimeLine] = list(self.timing.lines.values())
@@ -273,6 +280,10 @@ class Survey:
             return same
         return Fault(fault.what, at - begin, packet.length, (packet.channel, packet.kind, packet.sequence, packet.counter))
 
+    def new_row(self, channel: int, kind: int) -> Row:
+        """A row of a channel of which the recording has no packet."""
+        return self.row_of(channel, kind)
+
     def row_of(self, channel: int, kind: int) -> Row:
         row = self.by_key.get((channel, kind))
         if row is None:
@@ -282,6 +293,8 @@ class Survey:
     def note(self, packet: Packet, found: Tuple[int, int, int], said: Optional[Time], row: Row, base: int) -> None:
         """Takes note of what stands in a packet of the session whose count 0 is at this instant."""
         kind, (number, low, high) = packet.kind, found
+        if kind == MESSAGE and number:
+            self.log.add(packet.channel, packet.body)
         if number:
             low, high = low + base, high + base
             row.add_entries(number, low, high)

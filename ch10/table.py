@@ -6,8 +6,9 @@ import json
 from typing import Iterator, List, Optional, Sequence, Tuple
 
 from .clocks import BITS, TimeLine, asked_of
-from .doubts import NO_SETUP, doubts_of, has_no_setup, unread_in
+from .doubts import NO_SETUP, doubts_of, has_no_setup, log_said, unread_in
 from .inputs import Output, is_recording, listed, shown, the_file
+from .log_lines import Log, log_of
 from .medium import File, bytes_of
 from .standard import COUNT_BITS, Data, Fault
 from .survey import REPORT_ROW, Row, Survey, name_of, stretch_fields, stretch_text
@@ -36,17 +37,26 @@ def summary(asked: Namespace, data: Data, out: Output) -> None:
             first = first or Fault('file %d: %s' % (number, fault))
             continue
         try:
-            summary_of(asked, data, out, begin, end, number, file)
+            summary_of(asked, data, out, begin, end, number, file, next_log(data, files, number))
         except Fault as fault:
             first = first or Fault('file %d: %s' % (number, fault))
     if first:
         raise first
 
 
+def next_log(data: Data, files: Sequence[File], number: int) -> Optional[Log]:
+    """The log channel of the file after this one: what it has to say of this one stands there where this one had no room for it, or
+    was cut off."""
+    try:
+        return log_of(data, *bytes_of(data, files[number + 1])) if number + 1 < len(files) else None
+    except Fault:
+        return None
+
+
 def summary_of(asked: Namespace, data: Data, out: Output, begin: int, end: int, number: Optional[int],
-               file: Optional[File]) -> None:
+               file: Optional[File], more: Optional[Log] = None) -> None:
     """What one recording has. Raises its first fault, if it has one, when all is said."""
-    survey = Survey(data, begin, end, asked=asked_of(asked))
+    survey = Survey(data, begin, end, asked=asked_of(asked), more=more)
     if asked.json:
         front = {} if file is None else {'file': number, 'name': shown(file.name), 'closed': file.closed}
         for found in fields(survey):
@@ -90,7 +100,7 @@ def titles(survey: Survey, size: int, number: Optional[int], file: Optional[File
             lines.append('%s seconds%s, without a civil time' % (past, many))
     lines += session_lines(survey)
     lines += [line for times in survey.times for line in clock_lines(times, survey)]
-    lines += doubts_of(survey)
+    lines += doubts_of(survey) + log_said(survey)
     lines += [NO_SETUP] if has_no_setup(survey) else []
     return lines + [stretch_text(stretch) for stretch in survey.damage]
 
@@ -194,7 +204,7 @@ def fields(survey: Survey) -> Iterator[dict]:
         yield {'clock': of_clock(times, survey.ends())}
     for one in unread_in(survey):
         yield {'unread': {'channel': one.channel, 'type': name_of(one.kind), 'packets': one.packets, 'why': one.why}}
-    for line in doubts_of(survey) + ([NO_SETUP] if has_no_setup(survey) else []):
+    for line in doubts_of(survey) + log_said(survey) + ([NO_SETUP] if has_no_setup(survey) else []):
         yield {'note': line}
     for stretch in survey.damage:
         yield stretch_fields(stretch)
@@ -208,7 +218,7 @@ def of_row(row: Row, survey: Survey) -> dict:
         'bytes': row.bytes, 'first': row.counts()[0] if has else None, 'last': row.counts()[1] if has else None,
         'first_time': clock and has and clock.text(row.first()) or None,
         'last_time': clock and has and clock.text(row.last()) or None, 'rate': row.rate(),
-        'losses': row.losses, 'lost': row.lost, 'untold': row.untold, 'jumps': row.jumps, 'opaque': row.opaque, 'bad': row.bad}
+        'losses': row.losses, 'lost': row.lost, 'lost_after': row.after, 'untold': row.untold, 'jumps': row.jumps, 'opaque': row.opaque, 'bad': row.bad}
 
 
 def of_clock(times: TimeLine, ends: Sequence[Tuple[int, int]]) -> dict:

@@ -11,6 +11,7 @@ use crate::bodies::{self, Body};
 use crate::feed::Feed;
 use crate::header::{counts, within};
 use crate::inputs::Seldom;
+use crate::losses::Cause;
 use crate::settings::Channel;
 use crate::stamps::{Civil, Source};
 
@@ -260,7 +261,7 @@ impl Reader {
         // how many messages a missing packet had is not known: it is counted as one
         let missed =
             heard.packets.insert(packet.channel, packet.sequence.wrapping_add(1)).map_or(0, |it| packet.sequence.wrapping_sub(it));
-        feed.lost(place, missed.into());
+        feed.lost(place, Cause::Line, missed.into());
         for it in messages {
             let stamp = heard.source.count_of(it.count);
             let count = within(stamp, arrival, self.limit, feed, place, &mut self.refused, channels[place].id);
@@ -328,8 +329,8 @@ mod tests {
             let Some(batch) = self.outlet.take() else { return Vec::new() };
             let mut at = 0;
             let item = |it: &crate::feed::Item| {
-                at += it.length;
-                (it.count, it.lost, batch.bytes[at - it.length..at].to_vec())
+                at += it.length as usize;
+                (it.count, it.lost, batch.bytes[at - it.length as usize..at].to_vec())
             };
             batch.items.iter().map(item).collect()
         }

@@ -154,6 +154,15 @@ pub fn parse(text: &str) -> Option<r10::Civil> {
     Some(r10::Civil { year, month, day, hour, minute, second, centi })
 }
 
+/// A civil time in nanoseconds since 1970, if it is one.
+pub fn of_civil(it: &r10::Civil) -> Option<i128> {
+    let small = |it: u16| u8::try_from(it).ok();
+    let month = time::Month::try_from(small(it.month)?).ok()?;
+    let date = time::Date::from_calendar_date(it.year.into(), month, small(it.day)?).ok()?;
+    let at = date.with_hms_milli(small(it.hour)?, small(it.minute)?, small(it.second)?, 10 * it.centi).ok()?;
+    Some(at.assume_utc().unix_timestamp_nanos())
+}
+
 /// Notices steps of the system's clock: what it went beside the counts.
 #[derive(Debug, Default)]
 pub struct Steps {

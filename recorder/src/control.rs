@@ -14,7 +14,9 @@ use std::time::Duration;
 use nix::sys::socket::{getsockopt, setsockopt, sockopt};
 use nix::sys::stat::{Mode, umask};
 
+use crate::clock::Counter;
 use crate::inputs::{AGAIN, Seldom};
+use crate::losses::Moment;
 use crate::settings::Settings;
 use crate::{info, udp};
 
@@ -31,6 +33,8 @@ pub struct Command {
     pub origin: Origin,
     /// who gave it
     pub by: String,
+    /// when it came
+    pub count: u64,
     pub reply: Sender<Reply>,
 }
 
@@ -46,16 +50,23 @@ pub enum Reply {
 pub struct Asking {
     to: Sender<Command>,
     owner: Thread,
+    counter: Counter,
+    moment: Moment,
 }
 
 impl Asking {
-    pub fn new(to: Sender<Command>, owner: Thread) -> Asking {
-        Asking { to, owner }
+    pub fn new(to: Sender<Command>, owner: Thread, counter: Counter, moment: Moment) -> Asking {
+        Asking { to, owner, counter, moment }
     }
 
     pub fn ask(&self, line: &str, origin: Origin, by: &str) -> Option<Reply> {
-        let (reply, answer) = channel();
-        self.to.send(Command { line: line.to_string(), origin, by: by.to_string(), reply }).ok()?;
+        let ((reply, answer), count) = (channel(), self.counter.count());
+        // the recorder's thread may be busy with the disk: what comes meanwhile is after the stop
+        let word = line.split_whitespace().next().unwrap_or("");
+        if word.eq_ignore_ascii_case(".STOP") || word.eq_ignore_ascii_case(".SHUTDOWN") && origin == Origin::Socket {
+            self.moment.set(count);
+        }
+        self.to.send(Command { line: line.to_string(), origin, by: by.to_string(), count, reply }).ok()?;
         self.owner.unpark();
         answer.recv().ok()
     }

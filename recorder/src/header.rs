@@ -7,6 +7,7 @@ use std::time::Duration;
 
 use crate::feed::Feed;
 use crate::inputs::Seldom;
+use crate::losses::Cause;
 use crate::settings::Channel;
 use crate::stamps::{Civil, Source};
 
@@ -123,7 +124,7 @@ impl Reader {
     /// numbers of the next ones tell.
     pub fn dropped(&mut self, feed: &mut Feed, channels: &[Channel], count: u64) {
         if channels.len() == 1 {
-            feed.lost(0, count);
+            feed.lost(0, Cause::System, count);
             self.told += count;
         }
     }
@@ -258,7 +259,7 @@ mod tests {
         /// Place, count and losses before it of what came.
         fn found(&mut self) -> Vec<(usize, u64, u64)> {
             self.feed.flush();
-            self.outlet.take().map_or(Vec::new(), |it| it.items.iter().map(|it| (it.place, it.count, it.lost)).collect())
+            self.outlet.take().map_or(Vec::new(), |it| it.items.iter().map(|it| (it.place as usize, it.count, it.lost)).collect())
         }
     }
 

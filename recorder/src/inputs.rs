@@ -8,6 +8,8 @@ use std::time::Duration;
 
 use crate::clock::Counter;
 use crate::feed::{Came, Feed, Outlet, feed};
+use crate::losses::Moment;
+use crate::notes::Board;
 use crate::settings::{Header, Input, Settings};
 use crate::{info, pipe, serial, udp, warning};
 
@@ -15,7 +17,14 @@ use crate::{info, pipe, serial, udp, warning};
 pub const AGAIN: Duration = Duration::from_millis(200);
 
 /// Starts a thread for each input, and gives the ends of their queues. A socket that cannot be had is a fault of the settings.
-pub fn start(settings: &Settings, counter: Counter, came: &[Arc<Came>], owner: &Thread) -> io::Result<Vec<Outlet>> {
+pub fn start(
+    settings: &Settings,
+    counter: Counter,
+    came: &[Arc<Came>],
+    owner: &Thread,
+    board: &Board,
+    moment: &Moment,
+) -> io::Result<Vec<Outlet>> {
     let mut outlets = Vec::new();
     let mut pipes: BTreeMap<Option<PathBuf>, Vec<usize>> = BTreeMap::new();
     let mut queue = |places: &[usize]| -> Feed {
@@ -23,7 +32,7 @@ pub fn start(settings: &Settings, counter: Counter, came: &[Arc<Came>], owner: &
         let channels: Vec<_> = places.iter().map(|it| (*it, came[*it].clone())).collect();
         let (feed, outlet) = feed(owner.clone(), counter, limit, &channels);
         outlets.push(outlet);
-        feed
+        feed.with(board.clone(), moment.clone())
     };
     for (place, channel) in settings.channels.iter().enumerate() {
         match &channel.input {
@@ -50,8 +59,12 @@ pub fn start(settings: &Settings, counter: Counter, came: &[Arc<Came>], owner: &
                 };
                 let feed = queue(&places);
                 let channels: Vec<_> = places.iter().map(|it| settings.channels[*it].clone()).collect();
+                let ids: Vec<u16> = channels.iter().map(|it| it.id).collect();
                 thread::Builder::new().name(format!("udp {}", channel.id)).spawn(move || {
-                    let socket = socket.unwrap_or_else(|| udp::until_there(&what, open));
+                    let socket = socket.unwrap_or_else(|| {
+                        feed.note(&ids, &format!("udp {address}"), "failed", "the machine does not have this address yet");
+                        udp::until_there(&what, open)
+                    });
                     udp::run(socket, feed, &channels);
                 })?;
             }

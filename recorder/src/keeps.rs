@@ -5,6 +5,7 @@ use std::time::{Duration, Instant};
 use crate::chapter6::Noted;
 use crate::feed::{Batch, Item, Outlet};
 use crate::figures::Times;
+use crate::losses::Causes;
 
 /// How many events of a file are listed.
 const MOST: usize = 1000;
@@ -14,6 +15,8 @@ pub struct Current {
     /// its place in the directory, from 0
     pub number: usize,
     pub name: String,
+    /// it is closed, with all that it can have
+    pub is_ended: bool,
     /// the count of its first time
     pub first: u64,
     began: Instant,
@@ -23,7 +26,7 @@ pub struct Current {
 
 impl Current {
     pub fn new(number: usize, name: String, first: u64) -> Current {
-        Current { number, name, first, began: Instant::now(), events: 0, noted: VecDeque::new() }
+        Current { number, name, is_ended: false, first, began: Instant::now(), events: 0, noted: VecDeque::new() }
     }
 
     /// How long ago it was begun.
@@ -178,19 +181,30 @@ impl Intake {
 
     /// The bytes of the message in hand.
     pub fn bytes(&self) -> &[u8] {
-        let length = self.item().map_or(0, |it| it.length);
+        let length = self.item().map_or(0, |it| it.length as usize);
         &self.taken.batch.bytes[self.taken.byte..self.taken.byte + length]
     }
 
     /// The message in hand was offered: the next one is.
     pub fn next(&mut self) {
-        self.taken.byte += self.item().map_or(0, |it| it.length);
+        self.taken.byte += self.item().map_or(0, |it| it.length as usize);
         self.taken.item += 1;
     }
 
-    /// What was lost after the messages of the batch, which is used up.
-    pub fn lost(&mut self) -> Vec<(usize, u64)> {
-        std::mem::take(&mut self.taken).batch.lost
+    /// The batch is used up: what was lost after its messages, and what came after a stop and had no room.
+    pub fn rest(&mut self) -> (Vec<(usize, u64)>, Vec<(usize, u64)>) {
+        let batch = std::mem::take(&mut self.taken).batch;
+        (batch.lost, batch.after)
+    }
+
+    /// Why messages of the batch in hand were lost, which is asked once.
+    pub fn causes(&mut self) -> Vec<(usize, Causes)> {
+        std::mem::take(&mut self.taken.batch.causes)
+    }
+
+    /// Whether the batch in hand has a message that arrived after a count.
+    pub fn has_after(&self, count: u64) -> bool {
+        self.taken.batch.items.iter().any(|it| it.arrived > count)
     }
 
     /// The bytes that wait.

@@ -34,10 +34,7 @@ impl Line {
 
     /// One of a time, in nanoseconds since 1970.
     fn at(word: &str, time: i128) -> Line {
-        let it = clock::at(time);
-        let (year, month, day) = (it.year(), u8::from(it.month()), it.day());
-        let (hour, minute, second, micro) = it.to_hms_micro();
-        Line(format!("{LETTERS} {word} at={year:04}-{month:02}-{day:02}T{hour:02}:{minute:02}:{second:02}.{micro:06}Z"))
+        Line(format!("{LETTERS} {word} at={}", time_text(time)))
     }
 
     /// With a key and its value: as it is where it is a plain word, else in quotes as JSON has them.
@@ -60,6 +57,14 @@ impl Line {
     pub fn text(&self) -> &str {
         &self.0
     }
+}
+
+/// A time, in nanoseconds since 1970, as lines have it.
+pub(crate) fn time_text(time: i128) -> String {
+    let it = clock::at(time);
+    let (year, month, day) = (it.year(), u8::from(it.month()), it.day());
+    let (hour, minute, second, micro) = it.to_hms_micro();
+    format!("{year:04}-{month:02}-{day:02}T{hour:02}:{minute:02}:{second:02}.{micro:06}Z")
 }
 
 /// A line that is not durable yet.
@@ -169,11 +174,15 @@ impl Owner {
         if found.notes.is_empty() {
             return;
         }
+        let line = self.with_clock(Line::new("clock")).with("drift_ppm", format!("{:+.3}", self.clock.drift()));
+        self.log(line);
+    }
+
+    /// A line with the state of the clock.
+    pub(crate) fn with_clock(&self, line: Line) -> Line {
         let it = &self.clock.known;
         let error = it.error(Instant::now()).map_or("unknown".to_string(), |it| it.to_string());
-        let drift = format!("{:+.3}", self.clock.drift());
-        let line = Line::new("clock").with("sync", it.word()).with("source", it.source());
-        self.log(line.with("error_ns", error).with("drift_ppm", drift));
+        line.with("sync", it.word()).with("source", it.source()).with("error_ns", error)
     }
 
     /// Puts a line of now into the log channel. Where no file is recorded it waits for one.
@@ -231,6 +240,20 @@ impl Owner {
                     lane.untold += 1;
                     lane.seldom.warn(|| format!("channel {id}: a line of the log is refused: {error}"));
                 }
+            }
+        }
+        Ok(())
+    }
+}
+
+impl Owner {
+    /// Writes the lines that wait into the file that ends, as far as it has room: the others come first in the next one.
+    pub(crate) fn write_last_lines(&mut self) -> Result<(), Trouble> {
+        let Some(place) = self.notes.as_ref().map(|it| it.place) else { return Ok(()) };
+        for done in [self.write_lines(), self.pump(place)] {
+            match done {
+                Err(Trouble::Full(_)) => (),
+                other => other?,
             }
         }
         Ok(())

@@ -19,13 +19,15 @@ use crate::inputs::Seldom;
 use crate::keeps::{Commits, Current, Failures, Intake, Wish};
 use crate::kinds::Kind;
 use crate::live::Live;
+use crate::losses::{Causes, Moment};
 use crate::medium::{Medium, Refusal};
 use crate::notes::{self, Board, Line, Notes};
 use crate::readers::Reader;
 use crate::recording::Ended;
 use crate::settings::{self, Begin, Log, Settings};
+use crate::stop::{Base, End};
 use crate::words::Point;
-use crate::{error, info, warning, watchdog};
+use crate::{warning, watchdog};
 
 /// What stops the thread in what it does.
 #[derive(Debug)]
@@ -100,6 +102,18 @@ pub struct Lane {
     pub refused: u64,
     /// messages that came while nothing was recorded
     pub passed: u64,
+    /// messages that came, those that were lost on their way taken in: they are durable, pending, lost or passed
+    pub(crate) came_in: u64,
+    /// why they were lost
+    pub(crate) causes: Causes,
+    pub(crate) causes_logged: Causes,
+    /// why those were lost that the batch in hand tells of
+    pub(crate) pool: Causes,
+    /// how it stood when the file began
+    pub(crate) base: Base,
+    /// what the last total of a file said was lost after its last message
+    pub(crate) after: u64,
+    pub(crate) total_logged: Option<(usize, u64, u64)>,
     pub(crate) longest: usize,
     /// count, length and first bytes of the last message
     pub last: Option<(u64, usize, Vec<u8>)>,
@@ -121,6 +135,13 @@ impl Lane {
             given: 0,
             refused: 0,
             passed: 0,
+            came_in: 0,
+            causes: Causes::default(),
+            causes_logged: Causes::default(),
+            pool: Causes::default(),
+            base: Base::default(),
+            after: 0,
+            total_logged: None,
             longest: 1,
             last: None,
             seldom: Seldom::default(),
@@ -146,6 +167,15 @@ pub struct Owner {
     pub(crate) intake: Intake,
     pub(crate) commands: Receiver<Command>,
     pub ending: Arc<AtomicBool>,
+    /// up to when a stop takes what came, as the inputs know it
+    pub(crate) moment: Moment,
+    /// while a stop drains the queues: what arrived after this count has passed
+    pub(crate) limit: Option<u64>,
+    /// what comes out of the queues is left out, as a stop's time is over
+    pub(crate) leaves: bool,
+    /// while a stop goes on: how many that came before it are in no file
+    pub(crate) stopping: Option<u64>,
+    pub(crate) losses_logged: Instant,
     pub point: Point,
     pub readers: Vec<Reader>,
     pub live: Live,
@@ -164,8 +194,6 @@ pub struct Owner {
 
 /// How long batches are taken in before something else has its turn.
 pub(crate) const TURN: Duration = Duration::from_millis(20);
-/// How long they are taken in before a recording ends. (A test of a part may have to wait for a processor.)
-const LAST_TURN: Duration = Duration::from_secs(if cfg!(test) { 60 } else { 1 });
 
 /// Whether a file is as old as it may become. One without a message may become a day old, as each takes a place in the directory.
 fn is_old(age: Duration, file_for: Duration, has_messages: bool) -> bool {
@@ -181,6 +209,7 @@ impl Owner {
         commands: Receiver<Command>,
         ending: Arc<AtomicBool>,
         board: Board,
+        moment: Moment,
     ) -> std::io::Result<Owner> {
         let mut lanes: Vec<Lane> = settings.channels.iter().zip(came).map(|(it, came)| Lane::new(it.clone(), came)).collect();
         let notes = settings.log.id().map(|id| {
@@ -207,6 +236,11 @@ impl Owner {
             intake: Intake::default(),
             commands,
             ending,
+            moment,
+            limit: None,
+            leaves: false,
+            stopping: None,
+            losses_logged: Instant::now(),
             point: Point::default(),
             readers: Vec::new(),
             file: None,
@@ -226,13 +260,14 @@ impl Owner {
         self.medium.describe();
         let look = self.clock.look();
         let found = self.clock.judge(&look.pair);
+        let goes_on = self.medium.goes_on();
+        let begins = |was_cut: bool, begin: Begin| begin == Begin::Record || begin == Begin::Resume && (was_cut || goes_on);
+        let opened = self.open();
         let (version, sum) = (env!("CARGO_PKG_VERSION"), self.settings.sum.clone());
         let id = self.settings.log.id().unwrap_or(0);
         self.log_for_sure(Line::new("start").with("version", version).with("settings", sum).with("log", id));
         self.log_clock(&found);
-        let goes_on = self.medium.goes_on();
-        let begins = |was_cut: bool, begin: Begin| begin == Begin::Record || begin == Begin::Resume && (was_cut || goes_on);
-        match self.open() {
+        match opened {
             Ok(was_cut) => Ok(begins(was_cut, self.settings.begin)),
             Err(refusal @ Refusal::Taken(_)) => Err(refusal),
             Err(Refusal::Failed(why)) => {
@@ -247,8 +282,8 @@ impl Owner {
         }
     }
 
-    /// Works until it is asked to end, and ends the file then. Whether all went well.
-    pub fn run(&mut self, outlets: Vec<Outlet>, records: bool) -> bool {
+    /// Works until it is asked to end, and ends the file then.
+    pub fn run(&mut self, outlets: Vec<Outlet>, records: bool) -> End {
         self.intake.outlets = outlets;
         self.begin_in_time(records);
         loop {
@@ -287,6 +322,9 @@ impl Owner {
                 has_more = true;
                 break;
             }
+        }
+        if self.losses_logged.elapsed() >= Duration::from_secs(1) {
+            self.log_losses();
         }
         self.write_lines()?;
         let now = Instant::now();
@@ -346,21 +384,6 @@ impl Owner {
         self.counter.count()
     }
 
-    /// Takes in all that the inputs handed over, before a recording ends. What has no room in the file comes into the next one. A
-    /// flood has no end: after [`LAST_TURN`] it is cut off.
-    pub fn take_in_all(&mut self) -> Result<(), Trouble> {
-        let until = Instant::now() + LAST_TURN;
-        while Instant::now() < until {
-            match self.take_in() {
-                Ok(true) => (),
-                Ok(false) => break,
-                Err(Trouble::Full(_)) => self.next_file(Ended::Full)?,
-                Err(trouble) => return Err(trouble),
-            }
-        }
-        Ok(())
-    }
-
     /// The channels of the settings, without the log channel.
     pub(crate) fn listed(&self) -> &[Lane] {
         &self.lanes[..self.settings.channels.len()]
@@ -403,35 +426,60 @@ impl Owner {
     }
 
     /// Offers what was taken. After trouble it goes on with the message that met it.
-    fn offer_taken(&mut self) -> Result<(), Trouble> {
+    pub(crate) fn offer_taken(&mut self) -> Result<(), Trouble> {
+        for (place, causes) in self.intake.causes() {
+            self.lanes[place].pool += causes;
+        }
         while let Some(item) = self.intake.item() {
-            self.offer(item)?;
+            if self.limit.is_some_and(|it| item.arrived > it) {
+                self.pass(item);
+            } else {
+                self.offer(item)?;
+            }
             self.intake.next();
         }
-        for (place, lost) in self.intake.lost() {
-            self.missed(place, lost);
+        let (lost, after) = self.intake.rest();
+        for (place, count) in lost {
+            self.never_came(place, count);
+        }
+        for (place, count) in after {
+            let lane = &mut self.lanes[place];
+            lane.came_in += count;
+            lane.passed += count;
         }
         Ok(())
     }
 
+    /// A message came after the moment of a stop.
+    fn pass(&mut self, item: Item) {
+        let place = item.place as usize;
+        self.never_came(place, item.lost);
+        self.lanes[place].came_in += 1;
+        self.lanes[place].passed += 1;
+    }
+
     fn offer(&mut self, item: Item) -> Result<(), Trouble> {
-        let place = item.place;
+        let place = item.place as usize;
         // a lane that is full is pumped first, which may meet trouble: until then nothing is changed, so that the message can be
         // offered again
-        if self.state == State::Recording && self.lanes[place].waiting >= self.lanes[place].channel.capacity {
+        let is_recording = self.state == State::Recording && !self.leaves;
+        if is_recording && self.lanes[place].waiting >= self.lanes[place].channel.capacity {
             self.pump(place)?;
-            if self.commits.age() >= self.settings.commit / 4 {
+            // (a stop commits once, at its end)
+            if self.limit.is_none() && self.commits.age() >= self.settings.commit / 4 {
                 self.commit()?;
             }
         }
-        if item.lost > 0 {
-            self.missed(place, item.lost);
+        self.never_came(place, item.lost);
+        self.lanes[place].came_in += 1;
+        if self.leaves && self.loses() {
+            self.stopping = self.stopping.map(|it| it + 1);
         }
         let bytes = self.intake.bytes();
         let lane = &mut self.lanes[place];
         lane.last = Some((item.count, bytes.len(), bytes[..bytes.len().min(16)].to_vec()));
         match (self.state, &mut self.recorder) {
-            (State::Recording, Some(recorder)) => {
+            (State::Recording, Some(recorder)) if is_recording => {
                 lane.longest = lane.longest.max(bytes.len());
                 tell_lost(recorder, lane);
                 match item.head.offer(recorder, lane.channel.id, item.count, bytes) {
@@ -444,71 +492,48 @@ impl Owner {
                         let id = lane.channel.id;
                         lane.refused += 1;
                         lane.seldom.warn(|| format!("channel {id}: a message of {} bytes is refused: {error}", item.length));
-                        self.note_lost(place, 1);
+                        self.note_lost(place, Causes { line: 1, ..Causes::default() });
                     }
                 }
             }
-            _ => self.missed(place, 1),
+            _ => self.missed(place, Causes { disk: 1, ..Causes::default() }),
         }
         Ok(())
     }
 
     /// So many messages of a channel came, or would have come, and are in no file. Where none is recorded, and none is to be,
     /// they only pass.
-    fn missed(&mut self, place: usize, count: u64) {
-        if matches!(self.state, State::Recording | State::Full) || self.wish.wants {
-            self.note_lost(place, count);
+    fn missed(&mut self, place: usize, causes: Causes) {
+        if self.loses() {
+            self.note_lost(place, causes);
         } else {
-            self.lanes[place].passed += count;
+            self.lanes[place].passed += causes.all();
+        }
+    }
+
+    /// Whether what is in no file is lost: a file is recorded, or is to be.
+    fn loses(&self) -> bool {
+        matches!(self.state, State::Recording | State::Full) || self.wish.wants
+    }
+
+    /// So many messages of a channel were lost before they came to this thread.
+    fn never_came(&mut self, place: usize, count: u64) {
+        if count > 0 {
+            let lane = &mut self.lanes[place];
+            lane.came_in += count;
+            let causes = lane.pool.take(count);
+            self.missed(place, causes);
         }
     }
 
     /// So many messages of a channel were lost before the next one that is offered. They are counted, logged and shown.
-    pub(crate) fn note_lost(&mut self, place: usize, count: u64) {
-        let lane = &mut self.lanes[place];
+    pub(crate) fn note_lost(&mut self, place: usize, causes: Causes) {
+        let (lane, count) = (&mut self.lanes[place], causes.all());
+        lane.causes += causes;
         lane.lost += count;
         lane.untold += count;
         let (id, lost) = (lane.channel.id, lane.lost);
         lane.seldom.warn(|| format!("channel {id}: {count} messages were lost, {lost} since the start"));
-    }
-
-    /// Ends the file and the use of the medium. Whether all went well.
-    fn end(&mut self) -> bool {
-        let _ = sd_notify::notify(false, &[sd_notify::NotifyState::Stopping]);
-        let done = self.take_in_all();
-        self.mind(done);
-        if self.state == State::Dismounted {
-            info!("the service has ended; the medium was dismounted before");
-            return true;
-        }
-        if self.recorder.is_none() {
-            warning!("the service ends; recording was down: {}", self.failures.why);
-            return false;
-        }
-        let done = self.close();
-        // what a full medium left would have come first in the next file
-        let left = self.waiting();
-        if left > 0 {
-            warning!("{left} messages waited for room, and are in no file");
-        }
-        match done {
-            Ok(()) => {
-                info!("the service has ended; the medium can be taken away");
-                true
-            }
-            Err(trouble) => {
-                error!("the service ends, and its file is not closed: {trouble}; its next start closes it");
-                false
-            }
-        }
-    }
-
-    fn close(&mut self) -> Result<(), Trouble> {
-        if self.state == State::Recording {
-            self.end_recording(Ended::WithService)?;
-        }
-        self.recorder()?.dismount()?;
-        self.settle()
     }
 }
 
@@ -531,6 +556,7 @@ mod tests {
     use crate::control::{Origin, Reply};
     use crate::feed::{Feed, feed};
     use crate::kinds::Head;
+    use crate::losses::Cause;
 
     /// A recorder's thread without a thread: it does what a test asks of it, and nothing else. Its medium is a file.
     struct Alone {
@@ -551,8 +577,16 @@ mod tests {
             );
             let (counter, came) = (Counter::new(), Arc::new(Came::default()));
             let settings = settings::read(&text, &folder).unwrap();
-            let mut owner =
-                Owner::new(settings, counter, vec![came.clone()], channel().1, Arc::default(), Board::new(counter)).unwrap();
+            let mut owner = Owner::new(
+                settings,
+                counter,
+                vec![came.clone()],
+                channel().1,
+                Arc::default(),
+                Board::new(counter),
+                Moment::default(),
+            )
+            .unwrap();
             assert!(!owner.begin().unwrap());
             let (feed, outlet) = feed(std::thread::current(), counter, 1 << 26, &[(0, came)]);
             owner.intake.outlets = vec![outlet];
@@ -569,9 +603,48 @@ mod tests {
             self.feed.flush();
         }
 
+        /// Takes in what came, into the next file where one is full.
+        fn takes_in(&mut self) {
+            loop {
+                match self.owner.take_in() {
+                    Ok(false) => return,
+                    Ok(true) => (),
+                    Err(trouble) => self.owner.mind(Err(trouble)),
+                }
+            }
+        }
+
+        /// The words of the lines of the log channel that are of a kind, in all files.
+        fn lines(&mut self, word: &str) -> Vec<String> {
+            let id = self.owner.settings.log.id().unwrap();
+            let recorder = self.owner.recorder().unwrap();
+            let mut found = Vec::new();
+            for file in 0..recorder.files().unwrap().len() {
+                let cursor = recorder.cursor(file, &[id], ALL_COUNTS).unwrap();
+                recorder.advance(cursor).unwrap();
+                while let Some(entry) = recorder.next(cursor).unwrap() {
+                    if let r10::Content::Message { bytes, .. } = entry.content {
+                        let text = String::from_utf8(bytes.to_vec()).unwrap();
+                        let words: Vec<&str> = text.splitn(4, ' ').collect();
+                        found.extend((words[1] == word).then(|| words[3].to_string()));
+                    }
+                }
+                recorder.close_cursor(cursor).unwrap();
+            }
+            found
+        }
+
         fn ask(&mut self, line: &str) -> String {
             let (reply, answer) = channel();
-            self.owner.answer(Command { line: line.to_string(), origin: Origin::Socket, by: "a test".to_string(), reply }).unwrap();
+            self.owner
+                .answer(Command {
+                    line: line.to_string(),
+                    origin: Origin::Socket,
+                    by: "a test".to_string(),
+                    count: self.owner.count(),
+                    reply,
+                })
+                .unwrap();
             match answer.recv() {
                 Ok(Reply::Text(text)) => text,
                 _ => panic!("{line} has no answer"),
@@ -620,6 +693,81 @@ mod tests {
         }
     }
 
+    /// What came before a stop is recorded, though the order comes to the thread later; what came after it has passed. The file says so
+    /// at its end.
+    #[test]
+    fn a_stop_takes_what_came_up_to_its_moment() {
+        let mut it = Alone::recording("moment", 1500, 64);
+        it.comes(600);
+        let moment = it.owner.count();
+        while it.owner.count() == moment {}
+        it.comes(700);
+        assert_eq!(it.owner.finish(Ended::ByCommand, moment).unwrap(), 0);
+        // (what is still in the queue passes too)
+        it.takes_in();
+        assert_eq!((it.counts(), it.entries(5), it.owner.lanes[0].came_in), ((600, 0, 0, 700), vec![600], 1300));
+        let total = it.lines("total").pop().unwrap();
+        // (a batch is taken whole)
+        assert!(total.ends_with("channel=5 kind=message came=1112 recorded=600 lost=0 after=0 waiting=0 passed=512"), "{total}");
+    }
+
+    /// Where the time of a stop is over, what is still in the queues is lost, counted, and in the file's last lines; what came after the
+    /// stop is not among it.
+    #[test]
+    fn what_a_stop_leaves_is_lost_and_told() {
+        let mut it = Alone::recording("leaves", 3000, 64);
+        it.owner.settings.stop_for = Duration::ZERO;
+        it.comes(3_000);
+        let moment = it.owner.count();
+        while it.owner.count() == moment {}
+        it.comes(100);
+        let left = it.owner.finish(Ended::ByCommand, moment).unwrap();
+        it.takes_in();
+        let (durable, lost, waiting, passed) = it.counts();
+        assert!(durable > 0 && left > 0, "{durable} {left}");
+        assert_eq!((lost, durable + lost, waiting, passed), (left, 3_000, 0, 100));
+        assert_eq!(it.entries(5).iter().sum::<usize>() as u64, durable);
+        let wanted = format!("channel=5 kind=message came=3100 recorded={durable} lost={lost} after={lost} waiting=0 passed=100");
+        let total = it.lines("total").pop().unwrap();
+        assert!(total.ends_with(&wanted), "{total}, wanted {wanted}");
+        assert_eq!(it.lines("lost"), [format!("channel=5 all={lost} system=0 queue=0 line=0 disk={lost}")]);
+        assert_eq!(it.owner.lanes[0].causes, Causes { disk: lost, ..Causes::default() });
+    }
+
+    /// Losses that no message follows are in the file's last lines, and the next file tells that it was said.
+    #[test]
+    fn losses_after_the_last_message_are_told() {
+        let mut it = Alone::recording("after", 3000, 64);
+        it.comes(10);
+        it.takes_in();
+        it.feed.lost(0, Cause::System, 7);
+        it.feed.lost(0, Cause::Line, 2);
+        it.feed.flush();
+        assert_eq!((it.ask(".STOP"), it.counts()), (String::new(), (10, 9, 0, 0)));
+        assert!(it.lines("total")[0].ends_with("channel=5 kind=message came=19 recorded=10 lost=9 after=9 waiting=0 passed=0"));
+        assert_eq!(it.lines("lost"), ["channel=5 all=9 system=7 queue=0 line=2 disk=0"]);
+        assert_eq!(it.ask(".RECORD"), "");
+        it.comes(1);
+        assert_eq!((it.ask(".STOP"), it.lines("before")), (String::new(), vec!["channel=5 waiting=0 lost=9 told=9".to_string()]));
+        assert!(it.lines("total")[1].ends_with("channel=5 kind=message came=1 recorded=1 lost=0 after=0 waiting=0 passed=0"));
+    }
+
+    /// A note of the crew, and who gave a command, are in the recording. A line alone begins no file.
+    #[test]
+    fn notes_wait_for_a_file() {
+        let mut it = Alone::recording("notes", 3000, 64);
+        assert_eq!((it.ask(".STOP"), it.ask(".NOTE the gate is open")), (String::new(), String::new()));
+        it.owner.write_lines().unwrap();
+        assert_eq!((it.owner.recorder().unwrap().files().unwrap().len(), it.lines("note").len()), (1, 0));
+        assert!(it.ask(".NOTE").starts_with("E 01") && it.ask(&format!(".NOTE {}", "x".repeat(201))).starts_with("E 01"));
+        assert_eq!((it.ask(".RECORD"), it.ask(".STOP")), (String::new(), String::new()));
+        assert_eq!(it.lines("note"), [r#"by="a test" text="the gate is open""#]);
+        assert_eq!(it.lines("command").iter().filter(|it| it.ends_with("line=.STOP")).count(), 2);
+        assert!(it.ask(".STOP").starts_with("E 02"));
+        assert_eq!((it.ask(".RECORD"), it.ask(".STOP")), (String::new(), String::new()));
+        assert!(it.lines("refused")[0].starts_with(r#"line=.STOP answer="E 02 INVALID MODE: no file"#));
+    }
+
     /// A stop on a full medium ends the recording too, and says so. What has no room is counted, and later commands do their work.
     #[test]
     fn a_stop_ends_a_recording_on_a_full_medium() {
@@ -632,7 +780,8 @@ mod tests {
         assert_eq!(it.entries(5).iter().sum::<usize>() as u64, durable);
         // what comes now only passes
         it.comes(3);
-        assert_eq!((it.owner.take_in_all().is_ok(), it.counts()), (true, (durable, lost, waiting, 3)));
+        it.takes_in();
+        assert_eq!(it.counts(), (durable, lost, waiting, 3));
         assert!(it.ask(".STOP").starts_with("E 02") && it.ask(".EVENT 1").starts_with("E 02"));
         // after an erase what waited comes first
         assert_eq!((it.ask(".ERASE"), it.ask(".RECORD"), it.ask(".STOP")), (String::new(), String::new(), String::new()));
@@ -645,7 +794,7 @@ mod tests {
     fn a_full_medium_takes_no_event_and_is_stopped() {
         let mut it = Alone::recording("no-event", 1500, 5_000);
         it.comes(30_000);
-        it.owner.take_in_all().unwrap();
+        it.takes_in();
         assert_eq!((it.owner.state, it.owner.medium.goes_on()), (State::Full, true));
         assert!(it.ask(".EVENT 1").starts_with("E 04 MEMORY FULL: there is no room for another file, and the event is in none"));
         // (a clock that is not in sync is a warning)

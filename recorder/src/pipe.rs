@@ -56,6 +56,7 @@ fn is_at(file: &File, path: &Path) -> bool {
 
 pub fn run(path: Option<&Path>, mut feed: Feed, channels: &[Channel]) {
     let mut was_said = false;
+    let ids: Vec<u16> = channels.iter().map(|it| it.id).collect();
     loop {
         let from = path.map_or("standard input".to_string(), |it| it.display().to_string());
         let failed = match path.map(open) {
@@ -65,6 +66,7 @@ pub fn run(path: Option<&Path>, mut feed: Feed, channels: &[Channel]) {
                 .and_then(|it| read(BufReader::with_capacity(1 << 16, it.into()), None, &from, &mut feed, channels)),
             Some(Ok((file, is_pipe))) => {
                 was_said = false;
+                feed.note(&ids, &format!("lines {from}"), "open", "");
                 let at = path.filter(|_| is_pipe);
                 let ended = read(BufReader::with_capacity(1 << 16, file), at, &from, &mut feed, channels);
                 match ended {
@@ -72,6 +74,7 @@ pub fn run(path: Option<&Path>, mut feed: Feed, channels: &[Channel]) {
                     // a file that was read in part is not read again: its lines would come twice
                     Err(error) if !is_pipe => {
                         warning!("{from} cannot be read to its end: {error}");
+                        feed.note(&ids, &format!("lines {from}"), "failed", &error.to_string());
                         return feed.end();
                     }
                     other => other,
@@ -82,20 +85,25 @@ pub fn run(path: Option<&Path>, mut feed: Feed, channels: &[Channel]) {
         match failed {
             Ok(()) => {
                 info!("{from} has ended: its channels get nothing more");
+                feed.note(&ids, &format!("lines {from}"), "closed", "");
                 return feed.end();
             }
             Err(error) if !was_said => {
                 warning!("{from} cannot be read: {error}; it is tried again until it can");
+                feed.note(&ids, &format!("lines {from}"), "failed", &error.to_string());
                 was_said = true;
             }
             Err(_) => (),
         }
+        feed.reads(None);
+        feed.waits();
         std::thread::sleep(AGAIN);
     }
 }
 
 /// Reads lines to the end. What is no entry is counted; the channel is the line's, or the first. `at` is where a pipe is.
 fn read(mut from: BufReader<File>, at: Option<&Path>, name: &str, feed: &mut Feed, channels: &[Channel]) -> io::Result<()> {
+    feed.reads(from.get_ref().try_clone().ok().map(Into::into));
     let only = if channels.len() == 1 { channels.first().map(|it| it.id) } else { None };
     let (mut line, mut number, mut bad) = (Vec::new(), 1u64, Seldom::default());
     let is_file = from.get_ref().metadata().is_ok_and(|it| it.is_file());
@@ -104,10 +112,11 @@ fn read(mut from: BufReader<File>, at: Option<&Path>, name: &str, feed: &mut Fee
     loop {
         let found = read_line(&mut from, &mut line, |file| {
             // what came goes over before the thread may wait; losses may have to wait for room first
-            feed.flush();
+            feed.waits();
             while !wait(file, at)? {
-                feed.flush();
+                feed.waits();
             }
+            feed.goes_on();
             Ok(())
         })?;
         let Some(is_whole) = found else {

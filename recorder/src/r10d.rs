@@ -4,20 +4,24 @@ use std::io::{self, Write};
 use std::path::{Path, PathBuf};
 use std::process::ExitCode;
 use std::sync::Arc;
-use std::sync::atomic::AtomicBool;
+use std::sync::atomic::{AtomicBool, Ordering::Relaxed};
 use std::sync::mpsc::channel;
+use std::thread;
 
 use clap::Parser;
 use nix::sys::signal::{SigSet, Signal};
 use r10_recorder::clock::Counter;
 use r10_recorder::control::{self, Asking};
 use r10_recorder::feed::Came;
+use r10_recorder::losses::Moment;
 use r10_recorder::medium::{Medium, Refusal};
 use r10_recorder::notes::Board;
 use r10_recorder::owner::Owner;
 use r10_recorder::settings::{self, Settings};
+use r10_recorder::stop::End;
 use r10_recorder::{error, info, inputs, log, metrics, watchdog};
 use signal_hook::consts::signal::{SIGHUP, SIGINT, SIGTERM, SIGXFSZ};
+use signal_hook::iterator::Signals;
 
 #[derive(Parser)]
 #[command(
@@ -27,7 +31,7 @@ use signal_hook::consts::signal::{SIGHUP, SIGINT, SIGTERM, SIGXFSZ};
     after_help = "SIGTERM, SIGINT and SIGHUP end the file, and then the service.
 
 Statuses: 0 all went well; 2 the settings are wrong; 3 it cannot start. With 4 it ended while recording was down, or with a
-file that is not closed."
+file that is not closed. With 5 messages came before its end that are in no file."
 )]
 struct Words {
     /// The settings, in TOML: see docs/RECORDER.md
@@ -40,10 +44,12 @@ struct Words {
     format: bool,
 }
 
-/// Statuses: 0 all went well, 2 the settings are wrong, 3 the service cannot start, 4 it ended with a file that is not closed.
+/// Statuses: 0 all went well, 2 the settings are wrong, 3 the service cannot start, 4 it ended with a file that is not closed, 5 what
+/// came before its end is in no file.
 const WRONG: u8 = 2;
 const NO_START: u8 = 3;
 const NOT_CLOSED: u8 = 4;
+const LOST: u8 = 5;
 
 fn read(path: &Path) -> Result<Settings, Vec<String>> {
     let text =
@@ -87,8 +93,9 @@ fn main() -> ExitCode {
         };
     }
     let status = match serve(settings) {
-        Ok(true) => ExitCode::SUCCESS,
-        Ok(false) => NOT_CLOSED.into(),
+        Ok(End::Well) => ExitCode::SUCCESS,
+        Ok(End::NotClosed) => NOT_CLOSED.into(),
+        Ok(End::Lost) => LOST.into(),
         Err(why) => {
             error!("the service does not start: {why}");
             NO_START.into()
@@ -105,7 +112,7 @@ fn ignores_hangups() -> bool {
     ignored.is_some_and(|it| it >> (SIGHUP - 1) & 1 == 1)
 }
 
-fn serve(settings: Settings) -> Result<bool, String> {
+fn serve(settings: Settings) -> Result<End, String> {
     watchdog::start();
     // in the background of a terminal a read or a write there fails, or is done, and does not halt the recording; threads begin with
     // what is blocked here
@@ -115,21 +122,31 @@ fn serve(settings: Settings) -> Result<bool, String> {
     of_terminal.thread_block().map_err(|it| it.to_string())?;
     let ending = Arc::new(AtomicBool::new(false));
     let hangup = Some(SIGHUP).filter(|_| !ignores_hangups());
-    for signal in [SIGTERM, SIGINT].into_iter().chain(hangup) {
-        signal_hook::flag::register(signal, ending.clone()).map_err(|it| it.to_string())?;
-    }
+    let mut signals = Signals::new([SIGTERM, SIGINT].into_iter().chain(hangup)).map_err(|it| it.to_string())?;
     // where a file may grow no more (`acknowledge`) its write fails, and the service goes on
     signal_hook::flag::register(SIGXFSZ, Arc::default()).map_err(|it| it.to_string())?;
     let counter = Counter::new();
     let came: Vec<Arc<Came>> = settings.channels.iter().map(|_| Arc::default()).collect();
     let (to, commands) = channel();
-    let board = Board::new(counter);
-    let mut owner =
-        Owner::new(settings.clone(), counter, came.clone(), commands, ending, board.clone()).map_err(|it| it.to_string())?;
+    let (board, moment) = (Board::new(counter), Moment::default());
+    let (ended, at, owner_thread) = (ending.clone(), moment.clone(), thread::current());
+    thread::Builder::new()
+        .name("signals".to_string())
+        .spawn(move || {
+            for _ in signals.forever() {
+                // (what comes from now on is after the end)
+                at.set(counter.count());
+                ended.store(true, Relaxed);
+                owner_thread.unpark();
+            }
+        })
+        .map_err(|it| it.to_string())?;
+    let mut owner = Owner::new(settings.clone(), counter, came.clone(), commands, ending, board.clone(), moment.clone())
+        .map_err(|it| it.to_string())?;
     let records = owner.begin().map_err(|it: Refusal| it.text().to_string())?;
-    let thread = std::thread::current();
-    let asking = Asking::new(to, thread.clone());
-    let outlets = inputs::start(&settings, counter, &came, &thread).map_err(|it| it.to_string())?;
+    let thread = thread::current();
+    let asking = Asking::new(to, thread.clone(), counter, moment.clone());
+    let outlets = inputs::start(&settings, counter, &came, &thread, &board, &moment).map_err(|it| it.to_string())?;
     control::start(&settings, &asking).map_err(|it| it.to_string())?;
     if let Some(address) = settings.metrics {
         metrics::start(address, asking).map_err(|it| it.to_string())?;

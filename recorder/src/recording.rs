@@ -220,7 +220,9 @@ impl Owner {
         let text = format!("file {} {name}: recording", files.len() + 1);
         info!("{text}");
         let (number, id) = (files.len() + 1, self.settings.log.id().unwrap_or(0));
-        self.log(Line::new("file").with("number", number).with("name", &name).with("log", id));
+        let line = Line::new("file").with("number", number).with("name", &name).with("log", id);
+        let line = self.with_clock(line);
+        self.log(line);
         let _ = sd_notify::notify(false, &[sd_notify::NotifyState::Status(&text)]);
         self.file = Some(Current::new(files.len(), name, self.ticked_count));
         self.live.begin();
@@ -230,6 +232,7 @@ impl Owner {
         self.state = State::Recording;
         self.commits.has_more();
         self.lanes.iter_mut().for_each(|it| it.durable_in_file = 0);
+        self.log_before();
         Ok(())
     }
 
@@ -242,32 +245,27 @@ impl Owner {
                 other => other?,
             }
         }
+        self.log_totals();
+        self.write_last_lines()?;
         let stopped = self.recorder()?.stop()?;
         self.settle()?;
         for place in 0..self.lanes.len() {
             self.lanes[place].waiting = self.recorder()?.channel_at(place)?.waiting;
         }
         self.is_durable();
+        // (where the file took more at its end)
+        self.log_totals();
         self.show()?;
         self.state = State::Idle;
         self.wish.wants = false;
+        if let Some(it) = &mut self.file {
+            it.is_ended = true;
+        }
         let (number, name) = self.file.as_ref().map(|it| (it.number, it.name.clone())).unwrap_or_default();
         info!("file {} {name}: ended, it {why}", number + 1);
         if stopped.left > 0 || is_full {
             warning!("file {} {name}: {} messages had no room in it, and come first in the next one", number + 1, stopped.left);
         }
-        Ok(())
-    }
-
-    /// Ends the recording with all that came up to now. On a full medium, where none is recorded any more, what comes only passes
-    /// from then on.
-    pub(crate) fn finish(&mut self, why: Ended) -> Result<(), Trouble> {
-        self.take_in_all()?;
-        if self.state == State::Recording {
-            self.end_recording(why)?;
-        }
-        self.medium.keep(false);
-        self.state = State::Idle;
         Ok(())
     }
 

@@ -92,13 +92,17 @@ pub fn run(path: &Path, baud: Option<u32>, mut framer: Framer, pause: Option<Dur
             Ok(file) => {
                 info!("channel {}: reads the serial line {}", channel.id, path.display());
                 was_said = false;
+                feed.note(&[channel.id], &format!("serial {}", path.display()), "open", "");
+                feed.reads(file.try_clone().ok().map(Into::into));
                 read(file, &mut framer, pause, &mut feed, channel)
             }
             Err(error) => error,
         };
         framer.pause(|bytes| give(&mut feed, channel, bytes));
-        feed.flush();
+        feed.reads(None);
+        feed.waits();
         if !was_said {
+            feed.note(&[channel.id], &format!("serial {}", path.display()), "failed", &failed.to_string());
             warning!(
                 "channel {}: the serial line {} cannot be read: {failed}; it is tried again until it can",
                 channel.id,
@@ -119,6 +123,7 @@ fn give(feed: &mut Feed, channel: &Channel, bytes: &[u8]) {
 /// Reads until the line fails, and says why.
 fn read(mut file: File, framer: &mut Framer, pause: Option<Duration>, feed: &mut Feed, channel: &Channel) -> io::Error {
     let mut bytes = [0; 4096];
+    feed.goes_on();
     loop {
         match file.read(&mut bytes) {
             Ok(0) => return io::ErrorKind::UnexpectedEof.into(),
@@ -133,7 +138,13 @@ fn read(mut file: File, framer: &mut Framer, pause: Option<Duration>, feed: &mut
                     _ if feed.has_losses() => LOOK,
                     _ => -1,
                 };
-                match poll(&mut [PollFd::new(file.as_raw_fd(), PollFlags::POLLIN)], wait) {
+                // (a message that its pause will end is not there yet)
+                if !is_pause {
+                    feed.waits();
+                }
+                let found = poll(&mut [PollFd::new(file.as_raw_fd(), PollFlags::POLLIN)], wait);
+                feed.goes_on();
+                match found {
                     Ok(0) if is_pause => {
                         framer.pause(|bytes| give(feed, channel, bytes));
                         feed.flush();

@@ -114,6 +114,10 @@ pub struct Settings {
     pub commit: Duration,
     pub file_for: Duration,
     pub tries: u32,
+    /// how long a stop takes in what came before it
+    pub stop_for: Duration,
+    /// the channel of times
+    pub time: u16,
     pub clock_event: u16,
     /// how long a recording that begins by itself waits for the clock to be in sync
     pub wait_for_time: Option<Duration>,
@@ -181,6 +185,7 @@ struct Document {
     commit_ms: Option<Spanned<u64>>,
     file_minutes: Option<Spanned<u64>>,
     tries: Option<Spanned<u64>>,
+    stop_seconds: Option<Spanned<u64>>,
     clock_event: Option<Spanned<u64>>,
     wait_for_time: Option<Spanned<u64>>,
     ask_for_time: Option<Vec<Spanned<String>>>,
@@ -461,6 +466,8 @@ impl Reader<'_> {
             commit: Duration::from_millis(self.number_or("commit_ms", &it.commit_ms, 100, 1..=10_000)),
             file_for: Duration::from_secs(60 * self.number_or("file_minutes", &it.file_minutes, 60, 1..=1440)),
             tries: self.number_or("tries", &it.tries, 5, 1..=100) as u32,
+            stop_for: Duration::from_secs(self.number_or("stop_seconds", &it.stop_seconds, 30, 1..=600)),
+            time: time as u16,
             clock_event: self.number_or("clock_event", &it.clock_event, 4095, 0..=4095) as u16,
             wait_for_time: it.wait_for_time.as_ref().map(|at| Duration::from_secs(self.number("wait_for_time", at, 1..=86_400))),
             ask_for_time: self.ask_for_time(&it),

@@ -5,6 +5,7 @@ use std::net::{IpAddr, Ipv4Addr, Ipv6Addr, SocketAddr, UdpSocket};
 use std::os::fd::AsRawFd;
 
 use nix::errno::Errno;
+use nix::poll::{PollFd, PollFlags, poll};
 use nix::sys::socket::{
     ControlMessageOwned, MsgFlags, SockaddrStorage, TimestampingFlag, Timestamps, recvmsg, setsockopt, sockopt,
 };
@@ -12,12 +13,13 @@ use nix::sys::time::TimeSpec;
 
 use crate::feed::Feed;
 use crate::inputs::{AGAIN, Seldom};
+use crate::losses::Cause;
 use crate::settings::{Channel, Header, Input, Udp};
 use crate::stamps::{Stamps, nanos};
 use crate::{chapter10, header};
 use crate::{info, warning};
 use std::sync::atomic::Ordering::Relaxed;
-use std::time::Duration;
+use std::time::{Duration, Instant};
 
 /// Whether an address may be this machine's a little later: its network is not up yet, as when the machine has just started.
 pub fn may_come(error: &io::Error) -> bool {
@@ -88,6 +90,8 @@ const LOOK: u32 = 64;
 
 /// After so long without a datagram the system is asked what it dropped since the last one.
 const SILENCE: Duration = Duration::from_secs(1);
+/// So often it looks whether a stop wants to know that sooner.
+const AFTER: Duration = Duration::from_millis(100);
 
 /// How many datagrams the system dropped of a socket since its creation: the last column of its line in /proc/net/udp.
 fn all_dropped(socket: &UdpSocket) -> Option<u32> {
@@ -133,11 +137,13 @@ impl Reader {
             Reader::Plain(bad) => {
                 let (channel, length) = (&channels[0], bytes.len());
                 if let Some((head, length)) = channel.kind.of_bytes(bytes, channel.sub) {
-                    feed.message_at(0, lost, count, head, &bytes[..length]);
+                    feed.lost(0, Cause::System, lost);
+                    feed.message_at(0, 0, count, head, &bytes[..length]);
                 } else {
                     // something was sent that is in no file
                     feed.bad(0);
-                    feed.lost(0, lost + 1);
+                    feed.lost(0, Cause::System, lost);
+                    feed.lost(0, Cause::Line, 1);
                     bad.warn(|| {
                         let (id, name) = (channel.id, channel.kind.name());
                         format!("channel {id}: a datagram of {length} bytes is no message of kind {name}")
@@ -150,7 +156,7 @@ impl Reader {
     /// The system dropped so many, and none came since. (The numbers of a source's own messages, and of packets, tell of them too.)
     fn dropped(&mut self, feed: &mut Feed, channels: &[Channel], lost: u64) {
         match self {
-            Reader::Plain(_) => feed.lost(0, lost),
+            Reader::Plain(_) => feed.lost(0, Cause::System, lost),
             Reader::R10(it) => it.dropped(feed, channels, lost),
             Reader::Chapter10(_) => (),
         }
@@ -204,53 +210,74 @@ pub fn run(socket: UdpSocket, mut feed: Feed, channels: &[Channel]) {
     let mut space = nix::cmsg_space!(u32, TimeSpec, Timestamps);
     let (mut reader, mut clocks) = (Reader::new(from, &feed), Clocks::new(from, &feed));
     let (mut drops, mut failed) = (0, Seldom::default());
-    let (mut flags, mut has_heard) = (MsgFlags::empty(), false);
+    let ids: Vec<u16> = channels.iter().map(|it| it.id).collect();
+    let name = from.map_or("udp".to_string(), |it| format!("udp {}", it.address));
+    feed.reads(socket.try_clone().ok().map(Into::into));
+    feed.note(&ids, &name, "open", "");
+    // whether the socket was found empty, and the thread waited; and when a datagram came after which nobody asked what was dropped
+    let (mut is_empty, mut has_waited, mut heard) = (true, false, None::<Instant>);
     let mut taken = 0u32;
     loop {
-        let mut slices = [IoSliceMut::new(&mut bytes)];
-        let (mut lost, mut kernel, mut card) = (0, None, None);
-        let (length, from) = match recvmsg::<SockaddrStorage>(socket.as_raw_fd(), &mut slices, Some(&mut space), flags) {
-            Ok(it) => {
-                for it in it.cmsgs() {
-                    match it {
-                        ControlMessageOwned::RxqOvfl(count) => lost = dropped(&mut drops, count),
-                        ControlMessageOwned::ScmTimestampns(it) => kernel = Some(it),
-                        ControlMessageOwned::ScmTimestampsns(it) => card = Some(it.hw_raw),
-                        _ => (),
-                    }
-                }
-                (it.bytes, it.address.as_ref().and_then(address_of))
-            }
-            Err(Errno::EAGAIN) => {
-                // nothing more is there: what came goes over, and then the thread waits; after a while without any it asks what was
-                // dropped
-                if flags.is_empty() && std::mem::take(&mut has_heard) {
+        if is_empty {
+            // what came goes over, and then the thread waits; after a while without any it asks what was dropped
+            feed.is_unsure(heard.is_some());
+            feed.waits();
+            let most = if heard.is_some() { AFTER } else { SILENCE };
+            let found = poll(&mut [PollFd::new(socket.as_raw_fd(), PollFlags::POLLIN)], most.as_millis() as i32);
+            feed.goes_on();
+            has_waited = true;
+            if found == Ok(0) {
+                if heard.is_some_and(|it| it.elapsed() >= SILENCE || feed.is_stopped()) {
+                    heard = None;
                     let lost = all_dropped(&socket).map_or(0, |count| dropped(&mut drops, count));
                     reader.dropped(&mut feed, channels, lost);
                 }
-                feed.flush();
                 clocks.drained();
-                flags = MsgFlags::empty();
                 continue;
             }
-            Err(Errno::EINTR) => continue,
-            Err(error) => {
-                failed.warn(|| format!("channel {}: the socket failed: {error}", channels[0].id));
-                std::thread::sleep(crate::inputs::AGAIN);
-                continue;
-            }
-        };
+        }
+        let mut slices = [IoSliceMut::new(&mut bytes)];
+        let (mut lost, mut kernel, mut card) = (0, None, None);
+        let (length, from) =
+            match recvmsg::<SockaddrStorage>(socket.as_raw_fd(), &mut slices, Some(&mut space), MsgFlags::MSG_DONTWAIT) {
+                Ok(it) => {
+                    for it in it.cmsgs() {
+                        match it {
+                            ControlMessageOwned::RxqOvfl(count) => lost = dropped(&mut drops, count),
+                            ControlMessageOwned::ScmTimestampns(it) => kernel = Some(it),
+                            ControlMessageOwned::ScmTimestampsns(it) => card = Some(it.hw_raw),
+                            _ => (),
+                        }
+                    }
+                    (it.bytes, it.address.as_ref().and_then(address_of))
+                }
+                Err(Errno::EAGAIN) => {
+                    clocks.drained();
+                    is_empty = true;
+                    continue;
+                }
+                Err(Errno::EINTR) => continue,
+                Err(error) => {
+                    failed.warn(|| {
+                        feed.note(&ids, &name, "failed", &error.to_string());
+                        format!("channel {}: the socket failed: {error}", channels[0].id)
+                    });
+                    std::thread::sleep(crate::inputs::AGAIN);
+                    continue;
+                }
+            };
         // the clock is looked at after a wait, and in a flood every so often
-        if flags.is_empty() || taken.is_multiple_of(LOOK) {
+        if std::mem::take(&mut has_waited) || taken.is_multiple_of(LOOK) {
             clocks.look();
         }
         taken = taken.wrapping_add(1);
-        flags = MsgFlags::MSG_DONTWAIT;
-        has_heard = true;
+        is_empty = false;
+        heard = Some(Instant::now());
         let count = clocks.count_of(kernel, card).unwrap_or_else(|| {
             feed.came(0).inspect(|it| _ = it.unstamped.fetch_add(1, Relaxed));
             feed.counter().count()
         });
+        feed.arrives(count);
         reader.datagram(&mut feed, channels, from, lost, count, &bytes[..length]);
     }
 }

@@ -152,6 +152,10 @@ impl Owner {
         {
             self.log(Line::new("refused").with("line", &command.line).with("answer", text.trim_end()));
         }
+        // (a stop that was refused is none for the inputs)
+        if !self.ending.load(Relaxed) {
+            self.moment.clear();
+        }
         // who is gone wants no answer
         let _ = command.reply.send(reply);
         done
@@ -210,6 +214,7 @@ impl Owner {
             ".MEDIUM" => format!("{} {} {}\n", self.medium.name(), self.settings.blocks, self.settings.directory),
             ".SHUTDOWN" => {
                 info!("the service was asked to end");
+                self.moment.set(command.count);
                 self.ending.store(true, Relaxed);
                 String::new()
             }
@@ -223,7 +228,15 @@ impl Owner {
             }
             ".RECORD" => return self.record(&words),
             ".STOP" if matches!(self.state, State::Recording | State::Full) => {
-                self.finish(Ended::ByCommand)?;
+                let lost = self.finish(Ended::ByCommand, command.count)?;
+                if self.recorder.is_none() {
+                    return Err(No::Failed("the disk failed, and the file may not be closed; see the log".to_string()).into());
+                }
+                if lost > 0 {
+                    let text =
+                        format!("the recording is stopped, and {lost} messages that came before are in no file; see the log");
+                    return Err(No::Failed(text).into());
+                }
                 String::new()
             }
             ".STOP" if self.wish.waits.take().is_some() => {

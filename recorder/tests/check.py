@@ -12,6 +12,7 @@ from typing import Optional
 
 import trials_of_disks
 import trials_of_inputs
+import trials_of_losses
 import trials_of_service
 import trials_of_time
 from trying import R10, NotTried, Room, fault, must, report, tidy_up_at_signals
@@ -20,7 +21,7 @@ from trying import R10, NotTried, Room, fault, must, report, tidy_up_at_signals
 # the trials stand in these modules, each under its name
 TRIALS = {
     name.replace('_', '-'): function
-    for module in (trials_of_inputs, trials_of_disks, trials_of_service, trials_of_time)
+    for module in (trials_of_inputs, trials_of_disks, trials_of_service, trials_of_time, trials_of_losses)
     for name, function in vars(module).items()
     if getattr(function, 'is_trial', False)
 }
@@ -39,7 +40,8 @@ def main() -> None:
         fault(f'there is no trial {unknown[0]}; the trials are {", ".join(TRIALS)}')
     must(subprocess.run([R10, 'files'], input=b'', capture_output=True).returncode != 127, 'there is no r10')
     begin, needs_disk = time.monotonic(), (
-        'a-clock-that-steps', 'power-cuts', 'disk-failures', 'a-block-that-cannot-be-read', 'a-disk-that-fails-twice'
+        'a-clock-that-steps', 'power-cuts', 'disk-failures', 'a-block-that-cannot-be-read', 'a-disk-that-fails-twice',
+        'a-stop-with-a-backlog', 'a-stop-that-is-over', 'a-disk-that-fails-and-sums',
     )
     tidy_up_at_signals()
 

@@ -11,6 +11,7 @@
  *     DISK_NEXT=PATH       where this file is, the next operation fails with EIO, and takes the file away
  *     DISK_HIT=PATH        made where an operation failed
  *     DISK_SLOW=MICROS     each sync takes so much longer
+ *     DISK_DRAG=MICROS     each write takes so much longer
  *     DISK_BAD=BLOCK       a plain read that touches this block fails
  *     DISK_CLOCK=PATH      the system's clock is so many seconds off as this file says
  */
@@ -28,7 +29,7 @@
 #include <unistd.h>
 
 static const char *disk, *lines, *clock_file, *hit, *next;
-static int trail = -1, fail_errno, slow;
+static int trail = -1, fail_errno, slow, drag;
 static long fail_at, fail_to, again, failed_at, done, bad = -1;
 
 __attribute__((constructor)) static void begin(void) {
@@ -44,6 +45,8 @@ __attribute__((constructor)) static void begin(void) {
         trail = open(text, O_WRONLY | O_CREAT | O_APPEND | O_CLOEXEC, 0644);
     if ((text = getenv("DISK_SLOW")))
         slow = atoi(text);
+    if ((text = getenv("DISK_DRAG")))
+        drag = atoi(text);
     if ((text = getenv("DISK_BAD")))
         bad = atol(text);
     if ((text = getenv("DISK_FAIL"))) {
@@ -96,6 +99,8 @@ ssize_t pwrite64(int file, const void *bytes, size_t count, off64_t at) {
         if (fails())
             return -1;
         note('W', (uint64_t[]){(uint64_t)at, count}, 2, bytes, count);
+        if (drag)
+            usleep((useconds_t)drag);
     }
     return syscall(SYS_pwrite64, file, bytes, count, at);
 }

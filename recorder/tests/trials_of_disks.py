@@ -127,7 +127,7 @@ def full_medium(room: Room) -> str:
     service.until(lambda it: it['state'] == 'full' and it['channels'][0]['waiting'] > 0, 'it is not full again')
     load.kill()
     load.wait()
-    service.end()
+    service.end(status=5)
     must(' messages waited for room, and are in no file' in service.log(), 'what is in no file is not said')
     return f"{found['files']} files, {found['messages']} messages, {used:.0%} used"
 

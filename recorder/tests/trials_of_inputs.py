@@ -15,6 +15,7 @@ from kinds import KINDS, LONGEST
 from trying import (
     CH10,
     HOST,
+    LOG,
     LONG,
     NotTried,
     Room,
@@ -52,7 +53,8 @@ def each_kind_by_udp(room: Room) -> str:
         )
     service.end()
     found = [
-        (it.channel, ' '.join([it.kind, *it.words])) for it in entries((room.folder / 'medium').read_bytes(), 0) if it.channel >= 10
+        (it.channel, ' '.join([it.kind, *it.words])) for it in entries((room.folder / 'medium').read_bytes(), 0)
+        if 10 <= it.channel < LOG
     ]
     must(sorted(found) == wanted, f'by UDP came {found}')
     return f'{len(KINDS)} kinds, one of {len(LONGEST):,} bytes, and {sum(wrong)} datagrams that are none'
@@ -116,7 +118,7 @@ def each_kind_by_lines(room: Room) -> str:
         found = {
             it.channel: ' '.join([it.kind, *it.words])
             for it in entries((room.folder / 'medium').read_bytes(), 0)
-            if it.channel >= 10
+            if 10 <= it.channel < LOG
         }
         must(found == {10 + n: kind.entry for n, kind in enumerate(KINDS.values())}, f'by lines came {found}')
     return f'{len(KINDS)} kinds by a pipe and by standard input'
@@ -330,14 +332,14 @@ def chapter_6_words(room: Room) -> str:
     must(ask('.PUBLISH START 127.0.0.1 9', '.PUBLISH LIST') == ['127.0.0.1 9 ALL'], 'a place to send to')
     must(ask('.PUBLISH START 127.0.0.1 9')[0].startswith('E 02') and ask('.PUBLISH STOP', '.PUBLISH') == [], 'none to send to')
     must(ask('.FOLLOW 77')[0].startswith('E 01'), 'a channel that is not there')
-    words = ['STATUS', 'RECORD', 'STOP', 'ERASE', 'EVENT', 'FILES', 'HEALTH', 'FIND', 'REPLAY', 'PUBLISH', 'FOLLOW', 'FIGURES']
+    words = ['STATUS', 'RECORD', 'STOP', 'ERASE', 'EVENT', 'NOTE', 'FILES', 'HEALTH', 'FIND', 'REPLAY', 'PUBLISH', 'FOLLOW', 'FIGURES']
     listed = [it.split(' ')[0] for it in ask('.HELP')]
     words += ['TIME', 'SETUP', 'TMATS', 'MEDIA', 'MOUNT', 'DISMOUNT', 'BIT', 'CRITICAL', 'IRIG106', 'VERSION', 'MEDIUM']
     words += ['SHUTDOWN', 'HELP']
     must(listed == [f'.{it}' for it in words], f'help has {listed}')
     # each word that it lists is one, and none is an invalid command (asked with a word too many, so that nothing is done)
     for word in listed:
-        found = ask(f'{word} a b c d e') if word != '.FOLLOW' else ask('.FOLLOW x')
+        found = ask({'.FOLLOW': '.FOLLOW x', '.NOTE': '.NOTE'}.get(word, f'{word} a b c d e'))
         must(len(found) == 1 and re.match(r'E 0[1-5] [A-Z ]+: \S', found[0]), f'{word} with words too many: {found}')
     ran = subprocess.run([*ctl, 'files\n.ERASE'], capture_output=True)
     must(ran.returncode == 1 and len(ask('.FILES')) == 1, f'two commands in a word: {ran}')

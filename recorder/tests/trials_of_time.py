@@ -554,7 +554,7 @@ def stamps_of_a_card(room: Room) -> str:
     for file in (0, 1):
         found = entries(image, file)
         times = Times(found)
-        for entry, (before, after) in zip([it for it in found if it.kind == 'message'], sent[2 * file :]):
+        for entry, (before, after) in zip([it for it in found if it.channel in (5, 6)], sent[2 * file :]):
             if file == 0:
                 before, after = before - 5_000_000, after - 5_000_000
             worst = max(worst, before - times.of(entry.count), times.of(entry.count) - after)

@@ -25,6 +25,8 @@ CH10 = TOP / 'scripts' / 'ch10.py'
 R10 = os.environ.get('R10', str(TOP / 'r10'))
 # An address of this machine that no other run has: so ports that are free stay so.
 HOST = '127.' + '.'.join(str(random.SystemRandom().randrange(1, 255)) for _ in range(3))
+# The log channel, where the settings say nothing of it.
+LOG = 65535
 # How long is waited for what has to come: a trial fails by what is wrong, and not by a slow machine.
 LONG = float(os.environ.get('R10_PATIENCE', '240'))
 # A child ends with the thread that started it, however that ends.
