@@ -228,9 +228,9 @@ impl Feed {
         if !has_room {
             // what comes after the moment of a stop is not recorded: it has passed
             if self.moment.is_before(self.arrived) {
-                it.after += 1
+                it.after += 1;
             } else {
-                it.lose(Cause::Queue, 1)
+                it.lose(Cause::Queue, 1);
             }
             return;
         }
@@ -275,7 +275,11 @@ impl Feed {
     pub fn lost(&mut self, channel: usize, cause: Cause, count: u64) {
         let is_after = self.moment.is_before(self.before);
         if let Some(it) = self.channels.get_mut(channel) {
-            if is_after { it.after += count } else { it.lose(cause, count) }
+            if is_after {
+                it.after += count;
+            } else {
+                it.lose(cause, count);
+            }
         }
     }
 

@@ -156,6 +156,12 @@ pub struct Intake {
     taken: Taken,
 }
 
+/// What a batch tells beside its messages: by place, how many were lost after them, and how many came after a stop and had no room.
+pub struct Rest {
+    pub lost: Vec<(usize, u64)>,
+    pub after: Vec<(usize, u64)>,
+}
+
 #[derive(Default)]
 struct Taken {
     batch: Batch,
@@ -192,9 +198,9 @@ impl Intake {
     }
 
     /// The batch is used up: what was lost after its messages, and what came after a stop and had no room.
-    pub fn rest(&mut self) -> (Vec<(usize, u64)>, Vec<(usize, u64)>) {
+    pub fn rest(&mut self) -> Rest {
         let batch = std::mem::take(&mut self.taken).batch;
-        (batch.lost, batch.after)
+        Rest { lost: batch.lost, after: batch.after }
     }
 
     /// Why messages of the batch in hand were lost, which is asked once.

@@ -40,6 +40,7 @@ impl Causes {
     }
 
     /// Takes so many out, in the order of the causes.
+    #[must_use]
     pub fn take(&mut self, mut count: u64) -> Causes {
         let mut taken = Causes::default();
         for (from, to) in self.each().into_iter().zip(taken.each()) {

@@ -438,11 +438,11 @@ impl Owner {
             }
             self.intake.next();
         }
-        let (lost, after) = self.intake.rest();
-        for (place, count) in lost {
+        let rest = self.intake.rest();
+        for (place, count) in rest.lost {
             self.never_came(place, count);
         }
-        for (place, count) in after {
+        for (place, count) in rest.after {
             let lane = &mut self.lanes[place];
             lane.came_in += count;
             lane.passed += count;

@@ -174,7 +174,7 @@ impl Owner {
         self.log_for_sure(line.with("without_s", without.map_or("unknown".to_string(), |it| format!("{it:.3}"))));
         for (id, count, messages) in found {
             let line = Line::new("durable").with("file", number + 1).with("channel", id).with("messages", messages);
-            let time = at(count).map_or("unknown".to_string(), |it| notes::time_text(it));
+            let time = at(count).map_or("unknown".to_string(), notes::time_text);
             self.log_for_sure(line.with("count", count).with("time", time));
         }
         Ok(())

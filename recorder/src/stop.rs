@@ -73,6 +73,9 @@ impl Owner {
         }
         let mut done = Ok(());
         while self.state == State::Recording {
+            if why == Ended::WithService {
+                self.ask_for_time();
+            }
             done = self.end_recording(why);
             let Err(Trouble::Failed(text)) = &done else { break };
             if Instant::now() >= until {
