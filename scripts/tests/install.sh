@@ -41,6 +41,7 @@ if why=$("$top/scripts/recorder.sh" ready); then
     found=$(sed -n 's/^ExecStart=//p' "$root/usr/lib/systemd/system/r10d.service")
     check "its unit runs what was installed" is "$found" "/usr/bin/r10d /etc/r10/recorder.toml"
     check "its settings are an example that it takes" says "$("$root/usr/bin/r10d" --check "$example")" "good, 1 channels"
+    check "so are those that README begins with" says "$("$root/usr/bin/r10d" --check "$top/recorder/demo.toml")" "good, 1 channels"
     if command -v systemd-analyze >/dev/null; then
         # (of this root alone: so it has the units that this one names, as empty ones)
         for name in local-fs network sysinit basic shutdown multi-user; do
