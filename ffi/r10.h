@@ -695,6 +695,120 @@ static inline uint32_t r10_part(r10 *recorder, r10_parts *parts, size_t file, co
     }
 }
 
+/* ---- a log channel: the lines that the service r10d writes into one, in a channel of kind message of a program's own
+ *
+ * A line has a word, the time of the program's clock, and keys with values: docs/RECORDER.md lists the words. Of the lines `start`, `file`,
+ * `before` and `total` the filter `ch10 summary` knows what a file lost after its channels' last messages. One that is to be known
+ * needs the key `log` in the line `start` or `file`, with the ID of the channel that it stands in. */
+
+enum { R10_LOG_ROOM = 4096, R10_LOG_VALUE = 1000 };
+
+typedef struct r10_log {
+    size_t length;
+    bool is_full; /* a key had no room */
+    char text[R10_LOG_ROOM];
+} r10_log;
+
+static inline void r10_log_put(r10_log *line, const char *bytes, size_t length) {
+    if (line->is_full || length > R10_LOG_ROOM - line->length) {
+        line->is_full = true;
+        return;
+    }
+    memcpy(line->text + line->length, bytes, length);
+    line->length += length;
+}
+
+static inline void r10_log_digits(r10_log *line, uint64_t number, int least) {
+    char digits[20];
+    int at = 20;
+    do
+        digits[--at] = (char)('0' + number % 10);
+    while ((number /= 10) > 0 || 20 - at < least);
+    r10_log_put(line, digits + at, (size_t)(20 - at));
+}
+
+/* Begins a line with a word of small letters, at a time in nanoseconds since 1970, in UTC, from that year on. */
+static inline void r10_log_begin(/* out */ r10_log *line, const char *word, uint64_t time) {
+    /* the days since 1 March of the year 0, in eras of 400 years */
+    uint64_t second = time / 1000000000, days = second / 86400 + 719468, era = days / 146097, day = days % 146097;
+    uint64_t year = (day - day / 1460 + day / 36524 - day / 146096) / 365;
+    uint64_t in_year = day - (365 * year + year / 4 - year / 100), month = (5 * in_year + 2) / 153;
+    line->length = 0;
+    line->is_full = false;
+    r10_log_put(line, "r10log ", 7);
+    r10_log_put(line, word, strlen(word));
+    r10_log_put(line, " at=", 4);
+    r10_log_digits(line, year + 400 * era + (month >= 10), 4);
+    r10_log_put(line, "-", 1);
+    r10_log_digits(line, month < 10 ? month + 3 : month - 9, 2);
+    r10_log_put(line, "-", 1);
+    r10_log_digits(line, in_year - (153 * month + 2) / 5 + 1, 2);
+    r10_log_put(line, "T", 1);
+    r10_log_digits(line, second / 3600 % 24, 2);
+    r10_log_put(line, ":", 1);
+    r10_log_digits(line, second / 60 % 60, 2);
+    r10_log_put(line, ":", 1);
+    r10_log_digits(line, second % 60, 2);
+    r10_log_put(line, ".", 1);
+    r10_log_digits(line, time / 1000 % 1000000, 6);
+    r10_log_put(line, "Z", 1);
+}
+
+/* Adds a key of small letters and `_`, and a value in UTF-8: as it is where it is a plain word, else in quotes as JSON has texts. One
+ * of more than R10_LOG_VALUE bytes ends with `..` there. */
+static inline void r10_log_text(r10_log *line, const char *key, const char *value) {
+    static const char hex[] = "0123456789abcdef";
+    size_t length = strlen(value), most = length;
+    bool is_plain = length > 0;
+    if (length > R10_LOG_VALUE) {
+        most = R10_LOG_VALUE;
+        while (most > 0 && ((unsigned char)value[most] & 0xC0) == 0x80)
+            most--;
+    }
+    for (size_t at = 0; is_plain && at < most; at++) {
+        char it = value[at];
+        is_plain = (it >= '0' && it <= '9') || (it >= 'A' && it <= 'Z') || (it >= 'a' && it <= 'z') || strchr("._:+/,-", it) != NULL;
+    }
+    r10_log_put(line, " ", 1);
+    r10_log_put(line, key, strlen(key));
+    r10_log_put(line, is_plain ? "=" : "=\"", is_plain ? 1 : 2);
+    for (size_t at = 0; at < most; at++) {
+        unsigned char it = (unsigned char)value[at];
+        char escape[6] = {'\\', 'u', '0', '0', hex[it >> 4], hex[it & 15]};
+        if (it < 0x20)
+            r10_log_put(line, escape, 6);
+        else {
+            if (it == '"' || it == '\\')
+                r10_log_put(line, "\\", 1);
+            r10_log_put(line, value + at, 1);
+        }
+    }
+    if (most < length)
+        r10_log_put(line, "..", 2);
+    if (!is_plain)
+        r10_log_put(line, "\"", 1);
+}
+
+/* Adds a key and a whole number. */
+static inline void r10_log_number(r10_log *line, const char *key, uint64_t value) {
+    r10_log_put(line, " ", 1);
+    r10_log_put(line, key, strlen(key));
+    r10_log_put(line, "=", 1);
+    r10_log_digits(line, value, 1);
+}
+
+/* Offers the line as a message of a channel of kind message. R10_TOO_LONG of one in which a key had no room; else as
+ * r10_offer_message. */
+static inline uint32_t r10_log_offer(r10 *recorder, uint16_t channel, uint64_t count, const r10_log *line) {
+    if (recorder == NULL)
+        return R10_CLOSED;
+    if (line == NULL)
+        return R10_ROOM;
+    if (line->is_full)
+        return R10_TOO_LONG;
+    return r10_offer_message(recorder, channel, count, false, false, 0, line->text, line->length);
+}
+
 /* ---- null pointers: from here on each name stands for a call that looks at them first */
 
 #ifndef R10_UNCHECKED

@@ -13,8 +13,8 @@
 #                                                # scripts of 1,000 beside `r10 sim`
 #     scripts/ffi.sh check                       # runs both, ffi/calls.c, which calls each function, also as C++, ffi/flight.c,
 #                                                # ffi/disk.c, ffi/commits.c, ffi/accounts.c, ffi/refused.c, ffi/media.c,
-#                                                # ffi/parts.c, ffi/memory.c and ffi/ports.c, and compares what they print with
-#                                                # ffi/*.expected; ffi/port_load.c, for its sums; runs the rows
+#                                                # ffi/parts.c, ffi/memory.c, ffi/ports.c and ffi/log.c, and compares what they print
+#                                                # with ffi/*.expected; ffi/port_load.c, for its sums; runs the rows
 #     scripts/ffi.sh kept                        # prints where the library is: the proved one if it is there, else one that is not
 #                                                # proved
 #     scripts/ffi.sh proved                      # prints where the proved library is; status 1 if it is not there, or a source has
@@ -271,6 +271,15 @@ check() {
             "$room/$trial" >"$room/$trial.out" || give_up "$trial: status $?"
             compare "$trial.expected" "$room/$trial.out"
         done
+        c_example log.c "$room/log"
+        "$room/log" "$room/log.medium" >"$room/log.out" || give_up "log: status $?"
+        compare log.expected "$room/log.out"
+        "$top/scripts/ch10.py" summary <"$room/log.medium" >"$room/log.summary" &&
+            grep -qx 'channel 5: 3 messages were lost after its last one' "$room/log.summary" &&
+            grep -qx 'clock of its times: .* says a clock without GPS' "$room/log.summary" || {
+            cat "$room/log.summary" >&2
+            give_up "ch10 summary does not read the log channel of ffi/log.c"
+        }
         c_example port_load.c "$room/port_load"
         { "$room/port_load" feeds 20000 8 && "$room/port_load" slow 1; } >"$room/port_load.out" || give_up "port_load: status $?"
         c_example random.c "$room/random"
