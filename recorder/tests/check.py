@@ -41,7 +41,7 @@ def main() -> None:
     must(subprocess.run([R10, 'files'], input=b'', capture_output=True).returncode != 127, 'there is no r10')
     begin, needs_disk = time.monotonic(), (
         'a-clock-that-steps', 'power-cuts', 'disk-failures', 'a-block-that-cannot-be-read', 'a-disk-that-fails-twice',
-        'a-stop-with-a-backlog', 'a-stop-that-is-over', 'a-disk-that-fails-and-sums',
+        'a-stop-with-a-backlog', 'a-stop-that-is-over', 'a-disk-that-fails-and-sums', 'an-overload-and-sums',
     )
     tidy_up_at_signals()
 

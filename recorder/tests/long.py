@@ -9,6 +9,8 @@
     end            the service ends within two seconds of a SIGTERM
     flood          1,000,000 datagrams as fast as they can be sent
     full           a full medium, five times
+    sums           what entries, gaps and log lines say adds up to what was sent: 600,000 datagrams over a service that stands still,
+                   stops on a disk whose syncs take 1.5 s, an overload, 30 failures of the disk, a full medium
     torn           what a lost sector of 4,096 bytes leaves: nothing of it is promised
 """
 import pathlib
@@ -18,6 +20,7 @@ import time
 from typing import Callable
 
 import trials_of_disks as disks
+import trials_of_losses as losses
 import trials_of_service as service
 from trying import Room, Wrong, fault, report, tidy_up_at_signals
 
@@ -28,6 +31,17 @@ TRIALS: dict[str, Callable[[Room], str]] = {
     'end': lambda room: service.the_end_and_the_manager(room, 2.0),
     'flood': lambda room: service.a_flood(room, 1_000_000),
     'torn': lambda room: '; '.join(disks.torn_sectors(room, 4, 25, directory) for directory in (63, 8)),
+    'sums': lambda room: '; '.join(
+        (room.clear(), run())[1]
+        for run in (
+            lambda: losses.losses_that_no_message_follows(room, 300_000),
+            lambda: losses.a_stop_with_a_backlog(room, 200_000, 1_500_000),
+            lambda: losses.an_overload_and_sums(room, 500_000),
+            lambda: losses.a_stop_that_is_over(room, 60_000),
+            lambda: losses.a_disk_that_fails_and_sums(room, 30),
+            lambda: losses.a_full_medium_and_sums(room),
+        )
+    ),
     'full': lambda room: '; '.join((room.clear(), disks.full_medium(room))[1] for _ in range(5)),
 }
 

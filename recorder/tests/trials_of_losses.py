@@ -221,6 +221,37 @@ def a_stop_with_a_backlog(room: Room, count: int = 30_000, slow: int = 600_000) 
 
 
 @trial
+def an_overload_and_sums(room: Room, count: int = 60_000, slow: int = 200_000) -> str:
+    """A flood on a slow disk, with little room: what the system and the queue had no room for, and what came after a stop, adds up with
+    what is in the files, channel by channel."""
+    ports = room.ports(2)
+    channels = udp_channels(ports, more='queue_mib = 1\n').replace('receive_mib = 32', 'receive_mib = 1')
+    service = Service(room, settings(channels, blocks=1 << 19), disk={'slow': slow})
+    service.wait_for(': recording')
+    load = room.load(ports, count=2 * count, rate=0, size=300, seconds=900)
+    # (a stop amid it: what comes after passes, and a second recording has losses of its own)
+    service.until(lambda it: sum(at['came'] for at in it['channels']) > count // 4, 'nothing comes')
+    service.ask('.STOP')
+    service.ask('.RECORD')
+    sent = sent_by(load)
+    service.until(lambda it: it['queued_bytes'] == 0, 'the queues are not drained')
+    service.ask('.STOP')
+    service.end()
+    image, totals = (room.folder / 'medium').read_bytes(), system_totals(service)
+    found = sums(image, [5, 6])
+    for number in (5, 6):
+        came, recorded, lost, system, queue, line, disk, passed, waiting = totals[number]
+        must(came == recorded + lost + passed == sent // 2 and waiting == 0, f'channel {number}: {sent} sent, {totals[number]}')
+        must((recorded, lost) == (found[number].recorded, found[number].lost), f'{found[number]}, {totals[number]}')
+        causes = by_cause(image, number)
+        must(sum(causes.values()) == lost and (line, disk) == (0, 0), f'{causes}, {totals[number]}')
+        must((system, queue) == (causes['system'], causes['queue']), f'{causes}, {totals[number]}')
+    recorded, lost, passed = (sum(it[at] for it in totals.values()) for at in (1, 2, 7))
+    must(lost > 0 and passed > 0, f'{totals}')
+    return f'{sent} sent, {recorded} recorded, {lost} lost, {passed} passed'
+
+
+@trial
 def a_stop_that_is_over(room: Room, drag: int = 60_000) -> str:
     """A stop takes no longer than the settings say. What is in no file then is counted, in the file and in the system's log, and the
     status is 5."""
