@@ -86,8 +86,14 @@ class Log:
         return []
 
     def file(self) -> Optional[Line]:
-        """The line with which the file says its number and name, or None."""
-        return next((line for line in self.own() if line.word == 'file'), None)
+        """The line with which the file says its number and name, or None. Where the disk failed, the lines of the file before that
+        were not durable come first."""
+        return next((line for line in reversed(self.own()) if line.word == 'file'), None)
+
+    def since(self) -> List[Line]:
+        """That line and those after it."""
+        lines = self.own()
+        return lines[max((at for at, line in enumerate(lines) if line.word == 'file'), default=len(lines)):]
 
     def totals(self, more: Optional['Log'] = None) -> Dict[int, Line]:
         """By channel the last line with what it has of this file; of those of the next file too, where these are given."""
@@ -100,7 +106,7 @@ class Log:
 
     def told(self) -> Dict[int, int]:
         """By channel how many of the losses before its first message an earlier file has told of."""
-        return {line.number('channel'): line.number('told') for line in self.own() if line.word == 'before'}
+        return {line.number('channel'): line.number('told') for line in self.since() if line.word == 'before'}
 
     def clock(self) -> List[str]:
         """What clock the time packets had: a line, and one for each change."""

@@ -63,8 +63,8 @@ class Picture:
             self.add_log(key, row, low, high)
 
     def add_log(self, key: Key, row: Row, low: int, high: int) -> None:
-        """Takes in what the recorder's log channel says of losses: those after a channel's last message stand at that message, and those
-        that an earlier file has told of are left out."""
+        """Takes in what the recorder's log channel says of losses: those after a channel's last message stand at that message, and
+        those that an earlier file has told of are left out."""
         last = self.axis_line.of(row.last())
         if row.after and low <= last <= high:
             self.lost[key][(last - low) // self.bar] += 1

@@ -94,7 +94,8 @@ def attributes_of(text: str) -> Iterator[Tuple[str, object]]:
 
 
 def log_channels(top: Dict[str, object], channels: List[dict]) -> List[dict]:
-    """The log channel that r10d adds to those of its settings, if it does: under the key `log`, or the highest ID that nothing has."""
+    """The log channel that r10d adds to those of its settings, if it does: under the key `log`, or under the highest ID that is
+    free."""
     log, taken = top.get('log'), {channel['id'] for channel in channels} | {top.get('time'), top.get('event', 2)}
     if log == 0 or len(channels) >= MOST_CHANNELS:
         return []

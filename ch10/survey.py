@@ -35,8 +35,8 @@ class Row:
 
     .packed    of each session the lowest and the highest instant of its packets; .entered, of their entries
     .unread    how many packets were not read, by why; .doubled, how many are the same as the channel's packet before
-    .after     how many messages were lost after its last one, by the recorder's log channel; .told, how many losses before its first
-               one are an earlier file's. Both are in .lost as it counts: those are added, these taken off
+    .after     how many messages were lost after its last one, by the recorder's log channel, which .lost has too; .told, how many
+               losses before its first one are an earlier file's, which it has not
     """
 
     __slots__ = ('channel', 'kind', 'packets', 'entries', 'bytes', 'losses', 'lost', 'untold', 'jumps', 'opaque', 'bad', 'packed',

@@ -218,7 +218,8 @@ def of_row(row: Row, survey: Survey) -> dict:
         'bytes': row.bytes, 'first': row.counts()[0] if has else None, 'last': row.counts()[1] if has else None,
         'first_time': clock and has and clock.text(row.first()) or None,
         'last_time': clock and has and clock.text(row.last()) or None, 'rate': row.rate(),
-        'losses': row.losses, 'lost': row.lost, 'lost_after': row.after, 'untold': row.untold, 'jumps': row.jumps, 'opaque': row.opaque, 'bad': row.bad}
+        'losses': row.losses, 'lost': row.lost, 'lost_after': row.after, 'untold': row.untold,
+        'jumps': row.jumps, 'opaque': row.opaque, 'bad': row.bad}
 
 
 def of_clock(times: TimeLine, ends: Sequence[Tuple[int, int]]) -> dict:

@@ -63,8 +63,8 @@ static void forms(void) {
     /* a key without room, and a line that is none */
     for (int key = 0; key < 5; key++)
         r10_log_text(&line, "long", text);
-    printf("too long %u, none %u, nobody %u\n", r10_log_offer(&recorder, LOG, 1000, &line), r10_log_offer(&recorder, LOG, 1000, NULL),
-           r10_log_offer(NULL, LOG, 1000, &line));
+    uint32_t none = r10_log_offer(&recorder, LOG, 1000, NULL), nobody = r10_log_offer(NULL, LOG, 1000, &line);
+    printf("too long %u, none %u, nobody %u\n", r10_log_offer(&recorder, LOG, 1000, &line), none, nobody);
 }
 
 /* What the service says when a file begins and ends. */

@@ -13,8 +13,8 @@
 #                                                # scripts of 1,000 beside `r10 sim`
 #     scripts/ffi.sh check                       # runs both, ffi/calls.c, which calls each function, also as C++, ffi/flight.c,
 #                                                # ffi/disk.c, ffi/commits.c, ffi/accounts.c, ffi/refused.c, ffi/media.c,
-#                                                # ffi/parts.c, ffi/memory.c, ffi/ports.c and ffi/log.c, and compares what they print
-#                                                # with ffi/*.expected; ffi/port_load.c, for its sums; runs the rows
+#                                                # ffi/parts.c, ffi/memory.c, ffi/ports.c and ffi/log.c, and compares what they
+#                                                # print with ffi/*.expected; ffi/port_load.c, for its sums; runs the rows
 #     scripts/ffi.sh kept                        # prints where the library is: the proved one if it is there, else one that is not
 #                                                # proved
 #     scripts/ffi.sh proved                      # prints where the proved library is; status 1 if it is not there, or a source has

@@ -9,8 +9,8 @@
     end            the service ends within two seconds of a SIGTERM
     flood          1,000,000 datagrams as fast as they can be sent
     full           a full medium, five times
-    sums           what entries, gaps and log lines say adds up to what was sent: 600,000 datagrams over a service that stands still,
-                   stops on a disk whose syncs take 1.5 s, an overload, 30 failures of the disk, a full medium
+    sums           what entries, gaps and log lines have adds up to what was sent: 600,000 datagrams to a service that stands
+                   still, stops on a disk whose syncs take 1.5 s, an overload, 30 failures of the disk, a full medium
     torn           what a lost sector of 4,096 bytes leaves: nothing of it is promised
 """
 import pathlib

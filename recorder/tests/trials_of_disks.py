@@ -7,6 +7,7 @@ import subprocess
 import time
 from typing import Optional
 
+from trials_of_losses import log_lines, sums
 from trying import LONG, NotTried, Room, Service, Trail, Wrong, channel, entries, files, judge, lines_of, must, r10, settings, trial
 from trying import udp_channels, until
 
@@ -401,7 +402,16 @@ def failing_run(
     load.wait()
     service.end(status=None)
     lines = (room.folder / 'lines').read_text() if (room.folder / 'lines').exists() else ''
-    found = judge((room.folder / 'medium').read_bytes(), lines_of(lines), [5, 6])
+    image = (room.folder / 'medium').read_bytes()
+    found = judge(image, lines_of(lines), [5, 6])
+    if durable is not None and 'the medium can be taken away' in service.log():
+        added = sums(image, [5, 6])
+        words = [it.word for file in range(len(files(image))) for it in log_lines(image, file)]
+        must(words.count('start') == 1, f'operation {fail}: the lines are {words}')
+        must(
+            sum(it.recorded + it.lost for it in added.values()) == messages,
+            f'operation {fail}: of {messages} messages the lines and entries have {added}:\n{service.log()}',
+        )
     must(
         durable is None or found.get('untold', 0) == found.get('untold_before', 0) == 0,
         f'operation {fail}: losses that no gap tells of: {found}:\n{service.log()}',

@@ -332,7 +332,8 @@ def chapter_6_words(room: Room) -> str:
     must(ask('.PUBLISH START 127.0.0.1 9', '.PUBLISH LIST') == ['127.0.0.1 9 ALL'], 'a place to send to')
     must(ask('.PUBLISH START 127.0.0.1 9')[0].startswith('E 02') and ask('.PUBLISH STOP', '.PUBLISH') == [], 'none to send to')
     must(ask('.FOLLOW 77')[0].startswith('E 01'), 'a channel that is not there')
-    words = ['STATUS', 'RECORD', 'STOP', 'ERASE', 'EVENT', 'NOTE', 'FILES', 'HEALTH', 'FIND', 'REPLAY', 'PUBLISH', 'FOLLOW', 'FIGURES']
+    words = ['STATUS', 'RECORD', 'STOP', 'ERASE', 'EVENT', 'NOTE', 'FILES', 'HEALTH', 'FIND', 'REPLAY', 'PUBLISH', 'FOLLOW']
+    words += ['FIGURES']
     listed = [it.split(' ')[0] for it in ask('.HELP')]
     words += ['TIME', 'SETUP', 'TMATS', 'MEDIA', 'MOUNT', 'DISMOUNT', 'BIT', 'CRITICAL', 'IRIG106', 'VERSION', 'MEDIUM']
     words += ['SHUTDOWN', 'HELP']

@@ -1,5 +1,5 @@
-"""Trials of losses: what the files' entries, gaps and log lines say adds up to what was sent, channel by channel. The lines of the log
-channel are read by a parser of this module's own."""
+"""Trials of losses: what the files' entries, gaps and log lines say adds up to what was sent, channel by channel. The lines of the
+log channel are read by a parser of this module's own."""
 from __future__ import annotations
 
 import collections
@@ -69,11 +69,10 @@ class Sums(NamedTuple):
 
 
 def sums(image: bytes, channels: list[int]) -> dict[int, Sums]:
-    """Adds up entries, gaps and log lines, file by file, and compares the lines with the entries and the gaps. Each file but one that
-    was cut off by a kill has its totals: in it, or in the next one."""
+    """Adds up entries, gaps and log lines, file by file, and compares the lines with the entries and the gaps. Each file but one
+    that was cut off by a kill has its totals: in it, or in the next one."""
     of = [log_lines(image, file) for file in range(len(files(image)))]
     every: dict[tuple[int, int], Line] = {}
-    begun = [next((it for it in lines if it.word == 'file'), None) for lines in of]
     for line in (it for lines in of for it in lines if it.word == 'total'):
         every[line.number('file') - 1, line.number('channel')] = line
     found = {}
@@ -82,9 +81,11 @@ def sums(image: bytes, channels: list[int]) -> dict[int, Sums]:
         for file, lines in enumerate(of):
             of_channel = entries(image, file, number)
             gaps = sum(int(it.gap) for it in of_channel)
-            before = next((it for it in lines if it.word == 'before' and it.number('channel') == number), None)
+            # (lines that were not durable when the disk failed come first in the next file: its own follow its last line `file`)
+            begun = max((at for at, it in enumerate(lines) if it.word == 'file'), default=len(lines))
+            must(begun == len(lines) or lines[begun].number('number') == file + 1, f'file {file} is not {lines[begun : begun + 1]}')
+            before = next((it for it in lines[begun:] if it.word == 'before' and it.number('channel') == number), None)
             told, earlier, carried = (before.number(key) if before else 0 for key in ('told', 'lost', 'waiting'))
-            must(begun[file] is not None and begun[file].number('number') == file + 1, f'file {file} does not name itself')
             recorded += len(of_channel)
             total = every.get((file, number))
             must(total, f'file {file} has no total of channel {number}')
@@ -129,7 +130,8 @@ def system_totals(service: Service) -> dict[int, list[int]]:
 
 
 def filtered(room: Room, *words: str) -> str:
-    ran = subprocess.run([sys.executable, str(CH10), *words], stdin=open(room.folder / 'medium', 'rb'), capture_output=True, text=True)
+    with open(room.folder / 'medium', 'rb') as image:
+        ran = subprocess.run([sys.executable, str(CH10), *words], stdin=image, capture_output=True, text=True)
     must(ran.returncode == 0, f'ch10 {words}: {ran}')
     return ran.stdout
 
@@ -151,8 +153,8 @@ def overrun(room: Room, service: Service, ports: list[int], count: int) -> int:
 
 @trial
 def losses_that_no_message_follows(room: Room, count: int = 6000) -> str:
-    """Datagrams until the end, and silence after: what the system dropped after the last message is in the file, at a stop at once and
-    after a while; the filters, the picture and the catalogue have it."""
+    """Datagrams until the end, and silence after: what the system dropped after the last message is in the file, at a stop at once
+    and after a while; the filters, the picture and the catalogue have it."""
     ports = room.ports(1)
     text = settings(udp_channels(ports).replace('receive_mib = 32', 'receive_mib = 1'), blocks=1 << 17)
     service = Service(room, text)
@@ -180,7 +182,8 @@ def losses_that_no_message_follows(room: Room, count: int = 6000) -> str:
     must(f'channel 5: {found.after} messages were lost after its last one' in shown, shown)
     must(shown.count('clock of its times: the system\'s, ') == 2, shown)
     must(f'{rows[0]["lost"]:,} lost' in filtered(room, 'svg', '--file', '0'), 'the picture does not have it')
-    catalogue, medium, base = [sys.executable, str(CH10), 'catalogue'], str(room.folder / 'medium'), str(room.folder / 'catalogue.db')
+    catalogue, medium = [sys.executable, str(CH10), 'catalogue'], str(room.folder / 'medium')
+    base = str(room.folder / 'catalogue.db')
     ran = subprocess.run([*catalogue, 'add', '--unjudged', '--db', base, medium], capture_output=True, text=True)
     must(ran.returncode == 0, f'catalogue add: {ran}')
     words = [*catalogue, 'find', '--db', base, '--channel', '5', '--losses', '1', '--json']
@@ -188,7 +191,8 @@ def losses_that_no_message_follows(room: Room, count: int = 6000) -> str:
     listed = [json.loads(it)['lost'] for it in ran.stdout.splitlines()]
     must(sorted(listed) == sorted(it['lost'] for it in rows), f'catalogue find: {ran}, {rows}')
     made = subprocess.run([sys.executable, str(CH10), 'report', '--unjudged', medium], capture_output=True, text=True)
-    must(made.returncode == 0 and f'{found.after} messages were lost after its last one' in made.stdout, f'ch10 report: {made.stderr}')
+    after = f'{found.after} messages were lost after its last one'
+    must(made.returncode == 0 and after in made.stdout, f'ch10 report: {made.stderr}')
     return f'{sum(all_sent)} sent, {found.recorded} recorded, {found.lost} lost, {found.after} of them after the last message'
 
 
@@ -222,8 +226,8 @@ def a_stop_with_a_backlog(room: Room, count: int = 30_000, slow: int = 600_000) 
 
 @trial
 def an_overload_and_sums(room: Room, count: int = 60_000, slow: int = 200_000) -> str:
-    """A flood on a slow disk, with little room: what the system and the queue had no room for, and what came after a stop, adds up with
-    what is in the files, channel by channel."""
+    """A flood on a slow disk, with little room: what the system and the queue had no room for, and what came after a stop, adds up
+    with what is in the files, channel by channel."""
     ports = room.ports(2)
     channels = udp_channels(ports, more='queue_mib = 1\n').replace('receive_mib = 32', 'receive_mib = 1')
     service = Service(room, settings(channels, blocks=1 << 19), disk={'slow': slow})
@@ -253,8 +257,8 @@ def an_overload_and_sums(room: Room, count: int = 60_000, slow: int = 200_000) -
 
 @trial
 def a_stop_that_is_over(room: Room, drag: int = 60_000) -> str:
-    """A stop takes no longer than the settings say. What is in no file then is counted, in the file and in the system's log, and the
-    status is 5."""
+    """A stop takes no longer than the settings say. What is in no file then is counted, in the file and in the system's log, and
+    the status is 5."""
     ports = room.ports(1)
     # (what a lane has taken is written, however long that takes: so the lane is short)
     text = settings(udp_channels(ports, more='capacity = 500\n'), blocks=1 << 18, stop_seconds=1)
@@ -310,7 +314,8 @@ def a_full_medium_and_sums(room: Room) -> str:
     service.wait_for('the medium is full')
     sent = sent_by(load)
     service.until(
-        lambda it: it['state'] == 'full' and sum(it['channels'][0][key] for key in ('durable', 'lost', 'waiting')) == sent, 'some are not counted'
+        lambda it: it['state'] == 'full' and sum(it['channels'][0][key] for key in ('durable', 'lost', 'waiting')) == sent,
+        'some are not counted',
     )
     service.end(status=5)
     image = (room.folder / 'medium').read_bytes()
