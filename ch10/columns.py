@@ -406,6 +406,10 @@ class Each(Group):
         return self.held
 
 
+class Ready(Each):
+    """Texts that stand in lines as they are."""
+
+
 def columns_of(groups: Iterable[Group]) -> Iterator[Sequence[Any]]:
     """The values of groups, column by column."""
     for group in groups:

@@ -136,6 +136,10 @@ def parser_of() -> 'Parser':
         made.add_argument('--channel', type=channel_number, metavar='C', action='append',
                           help='this channel alone; may be given again for another')
 
+    def with_measurements(made: argparse.ArgumentParser) -> None:
+        made.add_argument('--icd', metavar='DOCUMENT', help='a column more for each measurement of a document: CSV, or DBC')
+        made.add_argument('--measurements', action='store_true', help="the same by the recording's own setup text")
+
     def with_forms(made: argparse.ArgumentParser) -> None:
         made.add_argument('--kind', choices=sorted(BY_NAME), metavar='K',
                           help='the entries of this kind alone, with its columns: ' + ', '.join(sorted(BY_NAME)))
@@ -178,6 +182,7 @@ def parser_of() -> 'Parser':
         with_times(made)
         if name != 'svg':
             with_forms(made)
+            with_measurements(made)
     made = going_on(command('setup', run_of('cuts', 'setup'),
                             'Writes the setup text, byte for byte; several packets one after the other.'))
     made.add_argument('--streaming', action='store_true', help='the configuration of a stream (computer-generated data, format 4)')
@@ -192,6 +197,7 @@ def parser_of() -> 'Parser':
     made.add_argument('--out', metavar='FILE', help='where the database is to be; there must be none')
     with_channels(made)
     with_clock(made)
+    with_measurements(made)
     made.add_argument('--turned-labels', action='store_true',
                       help='labels of ARINC 429 whose first bit on the bus is the lowest of the word')
     with_times(going_on(command('range', run_of('cuts', 'as_range'), 'Writes the packets of a range of time as a recording.',
@@ -209,13 +215,13 @@ def parser_of() -> 'Parser':
     with_clock(made)
     made = going_on(command('values', run_of('values', 'values'), 'Writes measurements by name, in their units, as CSV.',
                             VALUES_MORE + TIMES))
-    made.add_argument('--icd', required=True, metavar='DOCUMENT', help='where measurements stand: CSV, or DBC')
+    made.add_argument('--icd', metavar='DOCUMENT', help='where measurements stand: CSV, or DBC; else the setup text')
     made.add_argument('--json', action='store_true', help='as JSON lines')
     made.add_argument('--out', metavar='FILE', help='into a new database of SQLite')
     with_times(made)
     made = going_on(command('plot', run_of('values', 'plot'), 'Draws measurements over time, as SVG.', VALUES_MORE + TIMES))
-    made.add_argument('names', nargs='+', metavar='NAME', help='a measurement of the document')
-    made.add_argument('--icd', required=True, metavar='DOCUMENT', help='where measurements stand: CSV, or DBC')
+    made.add_argument('names', nargs='+', metavar='NAME', help='a measurement of the document, or of the setup text')
+    made.add_argument('--icd', metavar='DOCUMENT', help='where measurements stand: CSV, or DBC; else the setup text')
     with_times(made)
     add_words(commands, Parser, channel_number, with_clock)
     COMMANDS.extend(commands.choices)
@@ -267,7 +273,8 @@ it would name other places.
 """
 
 
-VALUES_MORE = """DOCUMENT says of each measurement where it stands and what it is counted in. A
+VALUES_MORE = """Without --icd the setup text says where measurements stand: its groups C, B, D
+and P. DOCUMENT says of each measurement where it stands and what it is counted in. A
 CSV has a line for each, and names its columns in the first one:
   name,kind,channel,rt,tr,sa,word,bits,signed,scale,unit
   HEADING,1553,7,5,T,3,2,0-15,yes,0.0054931640625,deg

@@ -14,6 +14,7 @@ from .doubts import KINDS_READ, NO_SETUP, doubts_of, has_no_setup, judge, unread
 from .fields import Reader
 from .inputs import Output, is_recording, listed, shown, the_file
 from .kinds import KINDS, REAL, TEXT, WHOLE
+from .measured import Measured, asked_for
 from .medium import File, bytes_of
 from .packets import UNTOLD
 from .replay import Ordered, Part
@@ -52,6 +53,26 @@ def schema() -> Iterator[str]:
         yield 'CREATE TABLE "%s" (%s)' % (name, ', '.join('"%s" %s' % column for column in COLUMNS[kind]))
 
 
+MOST_MEASUREMENTS = 1900  # of a kind; a table of SQLite has 2,000 columns
+
+
+def columns_for(measured: Measured) -> Iterator[Tuple[int, str]]:
+    """Of each measurement that is a column of a kind's table that kind, and the statement that makes the column."""
+    for kind, numbers in measured.by_kind.items():
+        if kind not in TABLES:
+            continue
+        if len(numbers) > MOST_MEASUREMENTS:
+            raise Wrong('%d measurements of %s are more than the %d that a table has room for' % (
+                len(numbers), TABLES[kind], MOST_MEASUREMENTS))
+        names = {column.lower() for column, _ in COLUMNS[kind]}
+        for number in numbers:
+            name = measured.all[number].name
+            if name.lower() in names:
+                raise Wrong('the measurement %r has the name of another column of the table %s' % (name[:40], TABLES[kind]))
+            names.add(name.lower())
+            yield kind, 'ALTER TABLE "%s" ADD COLUMN "%s" REAL' % (TABLES[kind], name.replace('"', '""'))
+
+
 class Database:
     """A new database in a file beside the one that is asked for, whose place it takes when it is whole."""
 
@@ -68,6 +89,20 @@ class Database:
         self.inserts = {name: 'INSERT INTO "%s" VALUES (%s)' % (name, ', '.join('?' * len(columns))) for name, columns in OTHERS}
         for kind, name in TABLES.items():
             self.inserts[name] = 'INSERT INTO "%s" VALUES (%s)' % (name, ', '.join('?' * len(COLUMNS[kind])))
+
+        self.measured: Optional[Measured] = None
+
+    def measure(self, measured: Optional[Measured]) -> None:
+        """Makes the columns of measurements: those of the first file that has some, whose names those of others have to have."""
+        if measured is None:
+            return
+        names = [(one.name, one.kind) for one in measured.all]
+        if self.measured is not None and names != [(one.name, one.kind) for one in self.measured.all]:
+            raise Wrong('the files have other measurements: --file N takes one of them')
+        for kind, line in columns_for(measured) if self.measured is None else ():
+            self.base.execute(line)
+            self.inserts[TABLES[kind]] = self.inserts[TABLES[kind]][:-1] + ', ?)'
+        self.measured = measured
 
     def add(self, table: str, rows: List[tuple]) -> None:
         self.base.executemany(self.inserts[table], rows)
@@ -152,6 +187,7 @@ def add(asked: Namespace, data: Data, begin: int, end: int, base: Database, numb
     base.add('notes', [(number, line) for line in doubts_of(survey) + ([NO_SETUP] if has_no_setup(survey) else [])])
     base.add('setup', [(number, name, value) for name, value in survey.names.attributes.items()])
     ordered, reader = Ordered(data, begin, survey, asked.channel), Reader(survey.names, asked.turned_labels)
+    base.measure(asked_for(asked, survey, out))
     for part in ordered.parts():
         add_part(base, number, ordered, part, reader)
     try:
@@ -183,11 +219,14 @@ def add_part(base: Database, number: int, ordered: Ordered, part: Part, reader: 
         states = [ordered.states.get(place) for place, _, _, _ in some]
         block, many = read([packet for _, packet, _, _ in some], reader.numbering, [NONE if one is None else one for one in states])
         values, counts, at = rows_of(MEANT[kind](block, reader)), block.count.tolist(), 0
+        more = base.measured.rows(block, reader.numbering) if base.measured else None
         rows: List[Tuple[int, tuple]] = []
         for (place, packet, lost, _), own in zip(some, many.tolist()):
             name, count_0, first = reader.names.channel(packet.channel) or None, ordered.base(place), True
-            for count in counts[at:at + own]:
+            for entry, count in enumerate(counts[at:at + own], at):
                 instant, what = count + count_0, next(values)
+                if more is not None:
+                    what = (*what, *more(entry))
                 if part.low <= instant < part.high:
                     when = clock.text(instant) if clock else None
                     rows.append((instant, (number, packet.channel, name, instant & COUNT_BITS, when, told(lost), *what)))

@@ -9,15 +9,16 @@ from typing import Any, Callable, Dict, List, Optional, Sequence, Tuple
 from .bodies import MEANT
 from .bodies import RAW as READ_RAW
 from .clocks import asked_of
-from .columns import Block, Group
+from .columns import Block, Group, Ready
 from .doubts import KINDS_READ, judge
 from .fields import COLUMNS, FRONT, Reader
 from .inputs import Output, one_part
 from .kinds import BY_NAME, KINDS, REAL, TEXT, TRUTH, VALUE, WHOLE, Kind
+from .measured import Measured, asked_for, said, title
 from .packets import UNTOLD
 from .parallel import LEAST, MOST, in_order, processors
 from .replay import Ordered
-from .standard import Data
+from .standard import Data, Wrong
 from .survey import Survey, ended_fields, stretch_fields
 from .times import Range
 from .vector import EACH, Vector
@@ -45,17 +46,41 @@ class Csv:
 
     quote = b''
 
-    def __init__(self, reader: Reader, only: Optional[Kind] = None) -> None:
+    def __init__(self, reader: Reader, only: Optional[Kind] = None, measured: Optional[Measured] = None) -> None:
         self.reader, self.numbering = reader, reader.numbering
         self.columns = COLUMNS if only is None else FRONT + only.column_names
+        self.measured = [] if measured is None else [
+            number for kind, numbers in measured.by_kind.items() if only is None or only.type == kind for number in numbers]
+        self.measured.sort()
+        self.all = measured
+        none = ',' * len(self.measured)
         self.shapes = {}
         for kind in KINDS:
             if only in (None, kind):
                 cells = ['%s' if column in kind.column_names else '' for column in self.columns[len(FRONT):]]
-                self.shapes[kind.type] = ',%s,%s' % (kind.name, ','.join(cells))
+                self.shapes[kind.type] = ',%s,%s' % (kind.name, ','.join(cells)) + ('%s' if self.has_measured(kind.type) else none)
+
+    def has_measured(self, kind: int) -> bool:
+        """Whether lines of a kind have measurements."""
+        return self.all is not None and kind in self.all.by_kind
+
+    def measurements(self, kind: int, block: Block) -> List[Group]:
+        """The group of all measurements of a block, which is at the end; none where there are none."""
+        if self.all is None or not self.has_measured(kind):
+            return []
+        found = self.all.by_entry(block, self.numbering)
+        texts = [self.measured_text({})] * len(block)
+        for place, values in found.items():
+            texts[place] = self.measured_text(values)
+        return [Ready(texts)]
+
+    def measured_text(self, values: Dict[int, float]) -> str:
+        """The cells of an entry's measurements, each after its comma."""
+        return ''.join(',' + said(values[number]) if number in values else ',' for number in self.measured)
 
     def title(self) -> Optional[str]:
-        return ','.join(self.columns)
+        more = [] if self.all is None else [csv_text(title(self.all.all[number])) for number in self.measured]
+        return ','.join([*self.columns, *more])
 
     def front(self, channel: int) -> str:
         return '%d,%s,' % (channel, csv_text(self.reader.names.channel(channel)))
@@ -65,7 +90,7 @@ class Csv:
         if self.columns is COLUMNS and BY_TYPE[kind].is_later:
             names = iter(BY_TYPE[kind].column_names)
             groups = [group for group in groups if [next(names) in COLUMNS for _ in range(group.number)][0]]
-        return groups
+        return groups + self.measurements(kind, block)
 
     def cell(self, _kind: int, _place: int, value: Any) -> str:
         return '' if value is None else csv_text(value) if value.__class__ is str else str(value)
@@ -95,6 +120,7 @@ class RawCsv(Csv):
 
     def __init__(self, reader: Reader) -> None:
         self.reader, self.numbering, self.columns, self.shapes = reader, reader.numbering, RAW, {}
+        self.all, self.measured = None, []
         self.keys: Dict[int, List[str]] = {}
         for kind in KINDS:
             names = {'value' if form == VALUE else key: key for key, form in kind.keys}
@@ -114,11 +140,17 @@ class Json(Csv):
 
     quote = b'"'
 
-    def __init__(self, reader: Reader, only: Optional[Kind] = None) -> None:
+    def __init__(self, reader: Reader, only: Optional[Kind] = None, measured: Optional[Measured] = None) -> None:
         self.reader, self.numbering, self.columns, self.shapes, self.forms = reader, reader.numbering, (), {}, {}
+        self.all, self.measured = measured, []
         for kind in KINDS:
             if only in (None, kind):
                 self.shape(kind, kind.columns)
+                if self.has_measured(kind.type):
+                    self.shapes[kind.type] = self.shapes[kind.type][:-1] + '%s}'
+
+    def measured_text(self, values: Dict[int, float]) -> str:
+        return ''.join(', %s: %s' % (json.dumps(self.all.all[number].name), said(values[number])) for number in sorted(values))
 
     def shape(self, kind: Kind, columns: Sequence[Tuple[str, str]]) -> None:
         self.shapes[kind.type] = '"type": "%s", %s}' % (kind.name, ', '.join('"%s": %%s' % column for column, _ in columns))
@@ -154,6 +186,7 @@ class RawJson(Json):
 
     def __init__(self, reader: Reader) -> None:
         self.reader, self.numbering, self.shapes, self.forms = reader, reader.numbering, {}, {}
+        self.all, self.measured = None, []
         for kind in KINDS:
             self.shape(kind, kind.keys)
 
@@ -173,13 +206,16 @@ BY_TYPE = {kind.type: kind for kind in KINDS}
 Form = Csv  # or one of those above
 
 
-def form_of(asked: Namespace, survey: Survey, is_json: bool) -> Form:
+def form_of(asked: Namespace, survey: Survey, is_json: bool, out: Output) -> Form:
     """What the lines look like that a call asks for."""
     only = BY_NAME[asked.kind] if asked.kind else None
     reader = Reader(survey.names, asked.turned_labels)
+    measured = asked_for(asked, survey, out)
     if asked.raw:
+        if measured is not None:
+            raise Wrong('with --raw there are no measurements')
         return RawJson(reader) if is_json else RawCsv(reader)
-    return Json(reader, only) if is_json else Csv(reader, only)
+    return Json(reader, only, measured) if is_json else Csv(reader, only, measured)
 
 
 def written(asked: Namespace, data: Data, out: Output, is_json: bool) -> Tuple[Survey, int]:
@@ -188,7 +224,7 @@ def written(asked: Namespace, data: Data, out: Output, is_json: bool) -> Tuple[S
     survey = Survey(data, begin, end, asked.keep_going, asked=asked_of(asked))
     if not survey.lows:
         survey.judge()
-    form = form_of(asked, survey, is_json)
+    form = form_of(asked, survey, is_json, out)
     ordered = Ordered(data, begin, survey, asked.channel)
     within = Range(asked.first, asked.last, survey.clock)
     if form.title():

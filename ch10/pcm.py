@@ -22,11 +22,13 @@ MOST_WORDS = 1 << 16
 
 class Layout(NamedTuple):
     """A minor frame: its bits, those of its sync pattern, those of each of its words, of which the first follows the pattern, and
-    where its number stands in it, or None. .words is empty where the setup text does not say them."""
+    where its number stands in it, or None; and how many of them are a major frame. .words is empty where the setup text does not
+    say them."""
     bits: int
     sync: int
     words: Tuple[int, ...]
     counter: Optional['Counter'] = None
+    frames: int = 1
 
     def is_long(self, size: int) -> bool:
         """Whether a word of the frame is longer than words of so many bytes, or the sync pattern than two of them."""
@@ -42,12 +44,13 @@ class Layout(NamedTuple):
 
 
 class Counter(NamedTuple):
-    """Where the number of a minor frame stands: the word, from 1 on, the first bit in it, from 1 on, the bits, and which number the
-    first frame has."""
+    """Where the number of a minor frame stands: the word, from 1 on, the first bit in it, from 1 on, and the bits; and of one frame
+    its number and which one it is, from 1 on."""
     word: int
     first: int
     bits: int
     begin: int
+    frame: int
 
 
 def number(found: Dict[str, str], name: str, most: int) -> Optional[int]:
@@ -79,13 +82,17 @@ def of_group(found: Dict[str, str], front: str) -> Optional[Layout]:
     total = (sync or 0) + sum(sizes) if sizes else None
     if bits is None and total is None or bits and total and bits != total:
         return None
-    return Layout(bits or total or 0, sync or 0, tuple(sizes), counter_of(found, front) if sizes else None)
+    counter = counter_of(found, front)
+    if counter and (counter.word > len(sizes) or counter.first - 1 + counter.bits > sizes[counter.word - 1]):
+        counter = None
+    return Layout(bits or total or 0, sync or 0, tuple(sizes), counter,
+                  number(found, front + 'MF\\N', MOST_WORDS) or 1)
 
 
 def counter_of(found: Dict[str, str], front: str) -> Optional[Counter]:
     """Where the number of a minor frame stands, by the attributes of its one counter."""
-    word, first, bits, begin = (number(found, front + 'IDC%d-1' % one, MOST_WORDS) for one in (1, 3, 4, 6))
-    return Counter(word, first or 1, bits, begin or 0) if word and bits else None
+    word, first, bits, begin, frame = (number(found, front + 'IDC%d-1' % one, MOST_WORDS) for one in (1, 3, 4, 6, 7))
+    return Counter(word, first or 1, bits, begin or 0, frame or 1) if word and bits else None
 
 
 class Frames(NamedTuple):

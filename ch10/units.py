@@ -4,12 +4,13 @@ interface control document as CSV, or from a DBC file of a controller area netwo
 The columns of the CSV are named in its first line, in any order; what is empty or not there holds for all:
 
     name       what the measurement is called
-    kind       1553, arinc, can or discrete
+    kind       1553, arinc, can, discrete or pcm
     channel    the channel's number
     rt, tr, sa    of 1553: the terminal, T or R, and the subaddress of the command
     label, sdi    of ARINC 429: the label in octal, and the source or destination
     id         of CAN: the identifier, in decimal or as 0x..
-    word       of 1553: which data word, from 1 on; or two, as 3-4, the high one first
+    word       of 1553: which data word, from 1 on; or two, as 3-4, the high one first. Of pcm: which word of a minor frame, of
+               which the first follows the sync pattern
     bits       the first and the last bit, as 5-12, or one; 0 is the lowest of the word, of the data of a CAN frame (its first
                byte's), or of the discretes
     signed     1 or yes for two's complement
@@ -24,7 +25,7 @@ from __future__ import annotations
 
 import csv
 import re
-from typing import Any, Dict, Iterator, List, NamedTuple, Optional, Tuple
+from typing import Any, Callable, Dict, Iterator, List, NamedTuple, Optional, Tuple
 
 from .arrays import Array, numpy
 from .columns import Block
@@ -34,9 +35,17 @@ from .kind_discrete import up
 from .kinds import ARINC, BUS, CAN, DISCRETE
 from .standard import Wrong
 
-KINDS = {'1553': BUS, 'arinc': ARINC, 'can': CAN, 'discrete': DISCRETE}
+PCM = 0x09
+KINDS = {'1553': BUS, 'arinc': ARINC, 'can': CAN, 'discrete': DISCRETE, 'pcm': PCM}
 NAMES = ('name', 'kind', 'channel', 'rt', 'tr', 'sa', 'label', 'sdi', 'id', 'word', 'bits', 'signed', 'scale', 'offset', 'unit')
-MOST_BITS = {BUS: 32, ARINC: 32, CAN: 64, DISCRETE: 32}
+MOST_BITS = {BUS: 32, ARINC: 32, CAN: 64, DISCRETE: 32, PCM: 64}
+
+
+class Piece(NamedTuple):
+    """Some bits of a word: the word, from 1 on, its lowest bit that is meant, and how many there are."""
+    word: int
+    low: int
+    size: int
 
 
 class Measurement(NamedTuple):
@@ -45,7 +54,7 @@ class Measurement(NamedTuple):
     unit: str
     kind: int
     channel: Optional[int]
-    keys: Dict[str, int]  # rt, tr (1: transmits), sa, label, sdi, id, extended: those that a message has to have
+    keys: Dict[str, int]  # rt, tr (1: transmits), sa, label, sdi, bus, id, extended: those that a message has to have
     words: Tuple[int, ...]  # of 1553, from 1 on, the high one first
     low: int
     size: int
@@ -53,23 +62,68 @@ class Measurement(NamedTuple):
     scale: float
     offset: float
     is_turned: bool = False  # of CAN: the high byte first, `low` being the highest bit as DBC counts them
+    pieces: Tuple[Piece, ...] = ()  # in place of words and low: the high one first
+    form: str = ''  # in place of is_signed: a binary format of chapter 9
+    curve: Tuple[float, ...] = ()  # in place of scale and offset: coefficients of a polynomial, that of power 0 first
+    pairs: Tuple[Tuple[float, float], ...] = ()  # or numbers and values, between which it is a line
+    frames: Optional[Tuple[int, int]] = None  # of PCM: the first minor frame it is in, and the step; None: each
 
     def read(self, block: Block, channels: Array) -> Tuple[Array, Array]:
         """Which entries of a block of its kind, of these channels, have it, and the value of each of them."""
         has = numpy.ones(len(block), bool) if self.channel is None else channels == self.channel
         raw, there = READ[self.kind](self, block)
-        has &= there
-        some = raw[has]
-        if self.is_signed and self.size < 64:
-            some = some - (some >> self.size - 1 << self.size)
-        elif not self.is_signed and self.size == 64:
-            some = some.view(numpy.uint64)
-        return has, some * self.scale + self.offset
+        return self.told(raw, has & there)
+
+    def told(self, raw: Array, has: Array) -> Tuple[Array, Array]:
+        """The same by the numbers of all entries, and which of them have it. A value that is none, or none that the pairs tell, is
+        not there."""
+        values = self.scaled(plain(raw[has], self.size, self.form or ('TWO' if self.is_signed else 'UNS')))
+        is_one = numpy.isfinite(values)
+        if is_one.all():
+            return has, values
+        has = has.copy()
+        has[numpy.flatnonzero(has)[~is_one]] = False
+        return has, values[is_one]
+
+    def scaled(self, numbers: Array) -> Array:
+        """Numbers in its unit."""
+        if self.pairs:
+            return numpy.interp(numbers, *zip(*self.pairs), left=numpy.nan, right=numpy.nan)
+        if not self.curve:
+            return numbers * self.scale + self.offset
+        found = numpy.zeros(len(numbers))
+        for one in reversed(self.curve):
+            found = found * numbers + one
+        return found
+
+
+def plain(raw: Array, size: int, form: str) -> Array:
+    """What so many bits are as a number, by a binary format of chapter 9."""
+    if form == 'FPT':
+        return raw.astype('<u%d' % (size // 8)).view('<f%d' % (size // 8)).astype(float)
+    if form == 'UNS':
+        return raw.astype(numpy.uint64).astype(float) if size == 64 else raw
+    high, low = raw >> size - 1 & 1, raw & (1 << size - 1) - 1  # the highest bit, and those below it
+    if form == 'TWO':
+        return raw if size == 64 else raw - (high << size)
+    if form == 'ONE':
+        return raw - high * ((1 << size) - 1)
+    if form == 'OFF':
+        return low - (1 - high) * (1 << size - 1)
+    return numpy.where(high == (form == 'SIG'), -low, low)  # SIG: 1 is a minus; SIM: 0 is
 
 
 def bits_in(one: Measurement, number: Array) -> Array:
     found = number >> one.low
     return found if one.size >= 64 else found & (1 << one.size) - 1
+
+
+def joined(pieces: Tuple[Piece, ...], word: Callable[[int], Array], number: int) -> Array:
+    """The numbers that some bits of words make, the high ones first."""
+    found = numpy.zeros(number, numpy.int64)
+    for piece in pieces:
+        found = found << piece.size | word(piece.word) >> piece.low & (1 << piece.size) - 1
+    return found
 
 
 def read_1553(one: Measurement, block: Block) -> Tuple[Array, Array]:
@@ -79,25 +133,34 @@ def read_1553(one: Measurement, block: Block) -> Tuple[Array, Array]:
         if key in one.keys:
             has &= words.command >> low & mask == one.keys[key]
     second, first, _ = words.places
-    number = numpy.zeros(len(block), numpy.int64)
     begin = numpy.where(second == 1, 2 + (words.number > 2), 1 + (first == 1))
-    for place in one.words:
+
+    def data_word(place: int) -> Array:
+        nonlocal has
         at = begin + place - 1
         at = at + ((first >= begin) & (at >= first)) + ((words.places[2] >= 0) & (at >= words.places[2]))
         at = numpy.where(at < words.number, at, -1)
         found = words.word(at)
         has &= found != NO_WORD
-        number = number << 16 | found & 0xFFFF
+        return found & 0xFFFF
+
+    if one.pieces:
+        return joined(one.pieces, data_word, len(block)), has
+    number = numpy.zeros(len(block), numpy.int64)
+    for place in one.words:
+        number = number << 16 | data_word(place)
     return bits_in(one, number), has
 
 
 def read_arinc(one: Measurement, block: Block) -> Tuple[Array, Array]:
-    word = block.numbers(4, 4)
+    head, word = block.numbers(0, 4), block.numbers(4, 4)
     has = numpy.ones(len(block), bool)
     for key, low, mask in (('label', 0, 0xFF), ('sdi', 8, 3)):
         if key in one.keys:
             has &= word >> low & mask == one.keys[key]
-    return bits_in(one, word), has
+    if 'bus' in one.keys:
+        has &= head >> 24 == one.keys['bus']
+    return (joined(one.pieces, lambda _: word, len(block)) if one.pieces else bits_in(one, word)), has
 
 
 def read_can(one: Measurement, block: Block) -> Tuple[Array, Array]:
@@ -210,6 +273,8 @@ def of_row(cells: Dict[str, str]) -> Measurement:
         keys = {'id': whole(cells, 'id', 0x1FFFFFFF)}
         if keys['id'] is None:
             raise ValueError('a measurement of CAN has an id')
+    elif kind == PCM and not words[0] == words[1] >= 1:
+        raise ValueError('a word of a minor frame is one, from 1 on')
     most = 16 * (words[1] - words[0] + 1) if kind == BUS else MOST_BITS[kind]
     if not low <= high < most:
         raise ValueError('bits %s are not in 0..=%d' % (cells['bits'], most - 1))

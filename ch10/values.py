@@ -2,28 +2,34 @@
 from __future__ import annotations
 
 from argparse import Namespace
+from heapq import merge
 import json
 import os
 import sqlite3
 from typing import Dict, Iterator, List, NamedTuple, Optional, Tuple
 
-from .arrays import Array, numpy
+from .arrays import numpy
 from .bodies import read
-from .clocks import asked_of
-from .columns import Block, Numbering
+from .clocks import BITS, asked_of
+from .columns import Numbering
 from .doubts import judge
+from .exports import Part, batch_of
 from .inputs import Output, one_part
 from .lines import csv_text
+from .measured import measured_of, said, title
+from .packets import packet_at, packets
+from .pcm import THROUGHPUT, counts_of_frames, frames_of, layout_of
 from .picture import BLUE, number_text, seconds, words
 from .replay import Ordered
-from .standard import COUNT_BITS, Data, Wrong
+from .standard import COUNT_BITS, Data, Wrong, little
 from .survey import Survey
 from .times import Range
-from .units import Measurement, measurements
+from .units import PCM, Measurement, measurements
 
 
 class Row(NamedTuple):
-    """An entry with measurements: its instant, channel, place in the order, and the values by the measurements' numbers."""
+    """An entry or a minor frame with measurements: its instant, channel, place in the order, and the values by the measurements'
+    numbers."""
     instant: int
     channel: int
     place: int
@@ -31,74 +37,88 @@ class Row(NamedTuple):
 
 
 class Values:
-    """The measurements of a document, over one recording."""
+    """The measurements of a document or of the setup text, over one recording."""
 
-    def __init__(self, asked: Namespace, data: Data, only: Optional[List[str]] = None) -> None:
-        self.all = measurements(asked.icd)
-        if only is not None:
-            known = {one.name: one for one in self.all}
-            wrong = [name for name in only if name not in known]
-            if wrong:
-                raise Wrong('the document has no measurement %r; it has %s' % (
-                    wrong[0][:40], ', '.join(sorted(known)[:10]) + (' ..' if len(known) > 10 else '')))
-            self.all = [known[name] for name in only]
+    def __init__(self, asked: Namespace, data: Data, out: Output, only: Optional[List[str]] = None) -> None:
         _, begin, end = one_part(data, asked.file)
+        if asked.icd:
+            measurements(asked.icd)  # which is looked at before the recording is
+        self.data, self.begin, self.asked = data, begin, asked
         self.survey = Survey(data, begin, end, asked.keep_going, asked=asked_of(asked))
+        self.measured = measured_of(asked, self.survey, out, only)
+        self.all = self.measured.all
         self.ordered = Ordered(data, begin, self.survey)
         self.within = Range(asked.first, asked.last, self.survey.clock)
         self.numbering = Numbering()
-
-    def found_in(self, block: Block, kind: int) -> Iterator[Tuple[int, Array, Array]]:
-        """Of each measurement of a kind its number, the places of the entries that have it, and its values."""
-        channels = numpy.array(self.numbering.channels, numpy.int64)[block.channel]
-        for number, one in enumerate(self.all):
-            if one.kind == kind:
-                has, values = one.read(block, channels)
-                yield number, numpy.flatnonzero(has), values
+        self.left: Dict[int, int] = {}  # packets of PCM whose minor frames are not read, by channel
 
     def rows(self) -> Iterator[Row]:
-        """The entries with measurements, by instant, then channel, then place."""
-        kinds = {one.kind for one in self.all}
+        """The entries and minor frames with measurements, by instant, then channel, then place."""
+        return merge(self.entries(), self.frames(), key=lambda row: row[:3])
+
+    def entries(self) -> Iterator[Row]:
+        """The entries with measurements."""
+        kinds = set(self.measured.by_kind)
         for part in self.ordered.parts():
             held: List[Row] = []
-            packets = [(number, packet) for number, packet, _, _ in self.ordered.packets(part)
-                       if packet.kind in kinds and packet.word is not None]
+            packets_ = [(number, packet) for number, packet, _, _ in self.ordered.packets(part)
+                        if packet.kind in kinds and packet.word is not None]
             for kind in kinds:
-                some = [(number, packet) for number, packet in packets if packet.kind == kind]
+                some = [(number, packet) for number, packet in packets_ if packet.kind == kind]
                 if not some:
                     continue
                 block, _ = read([packet for _, packet in some], self.numbering)
                 bases = numpy.array([self.ordered.base(number) for number, _ in some], numpy.int64)
                 places = numpy.array([number << 32 for number, _ in some], numpy.int64)
                 instants = (block.count + bases[block.of]).tolist() if len(block) else []
-                made: Dict[int, Row] = {}
-                for number, at, values in self.found_in(block, kind) if len(block) else ():
-                    for place, value in zip(at.tolist(), values.tolist()):
-                        if place not in made:
-                            made[place] = Row(instants[place], some[int(block.of[place])][1].channel,
-                                              int(places[block.of[place]]) + place, {})
-                        made[place].values[number] = value
-                held += [row for row in made.values() if part.low <= row.instant < part.high and (
-                    self.within.is_all or self.within.has(row.instant))]
+                for place, values in self.measured.by_entry(block, self.numbering).items():
+                    row = Row(instants[place], some[int(block.of[place])][1].channel, int(places[block.of[place]]) + place, values)
+                    if part.low <= row.instant < part.high and self.has(row.instant):
+                        held.append(row)
             held.sort(key=lambda row: row[:3])
             yield from held
+
+    def has(self, instant: int) -> bool:
+        return self.within.is_all or self.within.has(instant)
+
+    def frames(self) -> Iterator[Row]:
+        """The minor frames of PCM with measurements, by their packets' counters."""
+        if PCM not in self.measured.by_kind:
+            return
+        names, survey = self.survey.names, self.survey
+        layouts = {row.channel: layout_of(names.attributes, names.channels.get(row.channel, ('', '', ''))[2])
+                   for row in survey.rows if row.kind == PCM}
+        found = [(packet.counter + (survey.of[number] << BITS), number, packet.offset) for number, packet in enumerate(
+            packets(self.data, self.begin, self.begin + survey.size, False, survey.passed)) if packet.kind == PCM]
+        for instant, number, offset in sorted(found):
+            packet = packet_at(self.data, self.begin + offset, self.begin, self.begin + survey.size, False)
+            size = little(self.data, self.begin + offset + 8, 4)
+            layout = layouts.get(packet.channel)
+            batch = batch_of(Part(packet, bytes(packet.body[:size]), 0, 0)) if size >= 4 else None
+            frames = frames_of(batch, layout) if layout and layout.words and batch else None
+            if frames is None or batch is None or layout is None or int(batch.words[0]) & THROUGHPUT:
+                self.left[packet.channel] = self.left.get(packet.channel, 0) + 1
+                continue
+            counts = counts_of_frames(batch, frames)
+            for place, values in enumerate(self.measured.by_frame(frames, layout, packet.channel)):
+                one = counts[place] + instant - packet.counter
+                if values and self.has(one):
+                    yield Row(one, packet.channel, (number << 32) + place, values)
 
     def time(self, instant: int) -> Optional[str]:
         return self.survey.clock.text(instant) if self.survey.clock else None
 
-
-def said(value: float) -> str:
-    """A value with up to 12 digits."""
-    return '%.12g' % value
-
-
-def title(one: Measurement) -> str:
-    return '%s [%s]' % (one.name, one.unit) if one.unit else one.name
+    def judge(self, out: Output) -> None:
+        """Says what is doubtful or was not read, and raises what is wrong with the recording."""
+        for channel, many in sorted(self.left.items()):
+            out.note('channel %d: %d packet%s of PCM not read: the setup text does not say the words of a minor frame, or they do '
+                     'not fit' % (channel, many, 's' * (many > 1)))
+        judge(self.survey, out)
 
 
 def values(asked: Namespace, data: Data, out: Output) -> None:
     """Writes them as CSV, as JSON lines, or into a new database."""
-    found = Values(asked, data)
+    found = Values(asked, data, out)
     if asked.out:
         into_database(asked.out, found)
     elif asked.json:
@@ -112,7 +132,7 @@ def values(asked: Namespace, data: Data, out: Output) -> None:
         for row in found.rows():
             cells = [said(row.values[number]) if number in row.values else '' for number in every]
             out.line('%d,%d,%s,%s' % (row.channel, row.instant & COUNT_BITS, found.time(row.instant) or '', ','.join(cells)))
-    judge(found.survey, out)
+    found.judge(out)
 
 
 def into_database(path: str, found: Values) -> None:
@@ -154,7 +174,7 @@ MOST_POINTS = 2000  # steps from left to right, of each of which the lowest and 
 def plot(asked: Namespace, data: Data, out: Output) -> None:
     """Draws measurements over time, each by itself: a line through their values, or, where these are many, from the lowest to the
     highest of each step."""
-    found = Values(asked, data, asked.names)
+    found = Values(asked, data, out, asked.names)
     points: List[List[Tuple[int, float]]] = [[] for _ in found.all]
     for row in found.rows():
         for number, value in row.values.items():
@@ -166,7 +186,7 @@ def plot(asked: Namespace, data: Data, out: Output) -> None:
     for number, (one, some) in enumerate(zip(found.all, points)):
         parts += panel(found, one, some, HEIGHT * number, (min(every), max(every)) if every else (0, 1))
     out.write(('\n'.join(parts) + '\n</svg>\n').encode())
-    judge(found.survey, out)
+    found.judge(out)
 
 
 def panel(found: Values, one: Measurement, points: List[Tuple[int, float]], top: int, ends: Tuple[int, int]) -> List[str]:

@@ -10,7 +10,7 @@ from typing import Any, Callable, Dict, Iterator, List, Optional, Union, TYPE_CH
 
 from .arrays import Array, numpy
 from .bodies import read
-from .columns import (LONGEST, NONE, ROOM, Bits, Block, Changed, Coded, Each, Hexed, Number, Numbering, Octets, Printed,
+from .columns import (LONGEST, NONE, ROOM, Bits, Block, Changed, Coded, Each, Hexed, Number, Numbering, Octets, Printed, Ready,
                       wide_view)
 from .buses import changed_bits
 from .doubts import quality_of
@@ -526,6 +526,9 @@ class Vector:
             texts = [self.cells(kind, place, values) for values in group.values()]
         return [texts_piece(texts)]
 
+    def ready(self, kind: int, group: Ready, place: int) -> List[Piece]:
+        return [texts_piece([text.encode('utf-8', 'replace') for text in group.values()])]
+
     def printed(self, kind: int, group: Printed, place: int) -> List[Piece]:
         """Texts, with what has to be written otherwise written so, and in quotes where CSV wants them."""
         data, starts, sizes = group.data, group.start, group.size
@@ -576,7 +579,7 @@ class Vector:
 QUOTED = Hexed, Octets, Printed, Bits, Changed  # in quotes where a form has such
 MAKERS: Dict[type, Callable[..., List[Piece]]] = {
     Number: Vector.numbers, Hexed: Vector.hexed, Octets: Vector.octets, Printed: Vector.printed, Bits: Vector.bits,
-    Changed: Vector.changed, Each: Vector.each}
+    Changed: Vector.changed, Each: Vector.each, Ready: Vector.ready}
 # Of each byte: 8 where it does not print, 4 where it is written as two, 1 for a quote, 2 for a comma.
 CLASSES = bytes(8 if not (0x20 <= value < 0x7F or value in (9, 10, 13)) else 4 if value in (9, 10, 13, 0x5C) else 1 if value == 0x22
                 else 2 if value == 0x2C else 0

@@ -1,16 +1,19 @@
 """Measurements in engineering units: packets are made here with values that are known, and `ch10 values` and `ch10 plot` have to
 say them by the documents that are made here too."""
+import csv
 import json
 import os
 import pathlib
 import random
 import sqlite3
+import struct
 import tempfile
 import xml.etree.ElementTree as tree
 from typing import Callable, List, Sequence, Tuple
 
 from ch10_types import Found, run
-from chapter11 import bus_1553, can_frame, discretes, message_1553, opened, packet, secondary_header, word
+from chapter11 import (bus_1553, can_frame, discretes, halves, message_1553, opened, packet, pcm_frame, pcm_unpacked, pcm_word,
+                       secondary_header, word)
 
 DOCUMENT = """name,kind,channel,rt,tr,sa,label,sdi,id,word,bits,signed,scale,offset,unit
 # lines that begin so are none
@@ -152,4 +155,236 @@ def drawn() -> Found:
         0, '', 1, True, True, True, True, 2, True)
 
 
-TRIALS: List[Callable[[], Found]] = [by_document, by_dbc, wrong_documents, drawn]
+# ---- columns by name
+
+COLUMNS = [(name, count, value) for _, count, name, value in VALUES]
+
+
+def stored_columns(path: str, tables: Sequence[str], names: Sequence[str]) -> List[Tuple[str, int, float]]:
+    """The measurements that stand in columns of tables, by count."""
+    base, found = sqlite3.connect(path), []
+    for table in tables:
+        has = [row[1] for row in base.execute('PRAGMA table_info("%s")' % table)]
+        for name in names:
+            if name in has:
+                found += [(name, *row) for row in base.execute(
+                    'SELECT count, "%s" FROM "%s" WHERE "%s" IS NOT NULL' % (name, table, name))]
+    base.close()
+    return sorted(found, key=lambda row: row[1])
+
+
+def by_columns() -> Found:
+    """Each measurement is a column at the end of csv, a key of json and a column of its kind's table; what stood there before
+    stands there as it did, also with a kind alone, with the quality after them, and by several processes."""
+    names = [line.split(',')[0] for line in DOCUMENT.splitlines()[2:]]
+    plain = run(['csv'], flight())[1].decode().splitlines()
+    lines = asked(['csv'], flight())[1].decode().splitlines()
+    rows = list(csv.reader(lines))
+    titles, wide = rows[0][-len(names):], len(plain[0].split(','))
+    found = sorted(((names[at], int(row[2]), float(cell)) for row in rows[1:] for at, cell in enumerate(row[wide:]) if cell),
+                   key=lambda row: row[1])
+    said = [json.loads(line) for line in asked(['json'], flight())[1].splitlines()]
+    keys = sorted(((name, row['count'], row[name]) for row in said for name in names if name in row), key=lambda row: row[1])
+    bare = [{name: value for name, value in row.items() if name not in names} for row in said]
+    one = asked(['csv', '--kind', '1553', '--quality'], flight())[1].decode().splitlines()
+    alone = run(['csv', '--kind', '1553', '--quality'], flight())[1].decode().splitlines()
+    many = asked(['csv', '--jobs', '2'], flight())[1].decode().splitlines()
+    with tempfile.TemporaryDirectory() as folder:
+        path = os.path.join(folder, 'flight.db')
+        status = asked(['sqlite', '--out', path], flight())[0]
+        stored = stored_columns(path, ('bus1553', 'arinc', 'discrete', 'can', 'uart'), names)
+    return (found, keys, stored, status, titles, [row[:wide] for row in rows] == list(csv.reader(plain)), bare == [
+        json.loads(line) for line in run(['json'], flight())[1].splitlines()], many == lines,
+            [line.split(',')[-1] for line in one], len(one[0].split(',')) - len(alone[0].split(','))), (
+        COLUMNS, COLUMNS, COLUMNS, 0, ['HEADING [deg]', 'BEARING [deg]', 'LATITUDE [deg]', 'ALTITUDE [ft]', 'SPEED [kt]', 'GEAR',
+                                       'TORQUE [Nm, at the shaft]', 'AFTER'], True, True, True, ['quality'] + ['locked'] * 5, 4)
+
+
+def wrong_columns() -> Found:
+    """A name that a table has already, both ways to say measurements, measurements of raw values, and a setup text without any are
+    lines, and nothing is written."""
+    head, found = 'name,kind,bits\n', []
+    with tempfile.TemporaryDirectory() as folder:
+        path = os.path.join(folder, 'flight.db')
+        found.append((asked(['sqlite', '--out', path], flight(), head + 'Label,arinc,1\n')[::2], os.listdir(folder)))
+    found += [(asked(words, flight())[0], asked(words, flight())[1]) for words in (['csv', '--measurements'], ['json', '--raw'])]
+    found += [run(words, flight())[::2] for words in (['csv', '--measurements'], ['values'], ['plot', 'A'])]
+    none = 'the setup text has no measurement that is read: --icd names a document of such'
+    return found, [((2, "the measurement 'Label' has the name of another column of the table arinc"), []), (2, b''), (2, b''),
+                   (1, none), (1, none), (1, none)]
+
+
+# ---- by the setup text (chapter 9: groups C, B, D and P)
+
+def group(front: str, **attributes: object) -> bytes:
+    """Attributes of a group: keywords are their names, with _ for a dash, and N for the number of them."""
+    return b''.join(b'%s\\%s:%s;' % (front.encode(), name.replace('_', '-').encode(), str(value).encode())
+                    for name, value in attributes.items())
+
+
+def conversion(number: int, name: str, **attributes: object) -> bytes:
+    return group('C-%d' % number, DCN=name, **attributes)
+
+
+BUSES = (b'R-1\\TK1-1:7;R-1\\CDT-1:1553IN;R-1\\CDLN-1:BUS A;R-1\\TK1-2:8;R-1\\CDT-2:429IN;R-1\\CDLN-2:AIR;' + group(
+    'B-1', DLN='BUS A', BID_1='1', BT_1='1553', TRA_1_1='00101', TRM_1_1='1', STA_1_1='00011', TRA_1_2='00101', TRM_1_2='0',
+    STA_1_2='00100', TRA_1_3='XXXXX', TRM_1_3='0', STA_1_3='00010') + group(
+        'B-1', MN_1_1_1='HEADING', MWN_1_1_1_1='2', MBM_1_1_1_1='FW', MN_1_2_1='BEARING', MWN_1_2_1_1='1',
+        MBM_1_2_1_1='0001111111100000', MN_1_3_1='LATITUDE', MWN_1_3_1_1='2', MBM_1_3_1_1='FW', MFP_1_3_1_1='2', MWN_1_3_1_2='1',
+        MBM_1_3_1_2='FW', MFP_1_3_1_2='1') + group(
+            'B-2', DLN='AIR', BID_1='1', BT_1='A429', LBL_1_1='10000011', SDI_1_1='01', MN_1_1_1='ALTITUDE', MBM_1_1_1_1='FW',
+            LBL_1_2='206', SDI_1_2='XX', MN_1_2_1='SPEED', MBM_1_2_1_1='0' * 3 + '1' * 16 + '0' * 13) + conversion(
+                1, 'HEADING', MN3='deg', BFM='TWO', DCT='COE', CO_N=1, CO='0', CO_1='0.0054931640625') + conversion(
+                    2, 'BEARING', MN3='deg', BFM='TWO', DCT='PRS', PS3_1=-100, PS4_1=-10, PS3_2=100, PS4_2=10) + conversion(
+                        3, 'LATITUDE', MN3='deg', BFM='TWO', DCT='COE', CO_1='0.00000001') + conversion(
+                            4, 'ALTITUDE', MN3='ft', BFM='TWO', DCT='COE', CO='-100', CO_1='0.125') + conversion(
+                                5, 'SPEED', MN3='kt', BFM='UNS', DCT='COE', CO_1='0.0625'))
+
+
+def with_setup(text: bytes, data: bytes) -> bytes:
+    """A recording with another setup text."""
+    return b''.join(opened(text)) + data[len(b''.join(opened())):]
+
+
+def by_setup() -> Found:
+    """Messages of buses by the groups B and C: by values, csv, json, a database and a plot, with no document."""
+    data = with_setup(b'G\\106:17;' + BUSES, flight())
+    wanted = [row for row in COLUMNS if row[0] not in ('GEAR', 'TORQUE')]
+    lines = [json.loads(line) for line in run(['values', '--json'], data)[1].splitlines()]
+    by_values = [(name, line['count'], line[name]) for line in lines for name in list(line)[3:]]
+    names = [name for name, _, _ in wanted]
+    rows = list(csv.DictReader(run(['csv', '--measurements'], data)[1].decode().splitlines()))
+    titles = {name: next(one for one in rows[0] if one.split(' ')[0] == name) for name in names}
+    by_csv = sorted(((name, int(row['count']), float(row[titles[name]])) for row in rows for name in names if row[titles[name]]),
+                    key=lambda row: row[1])
+    said = [json.loads(line) for line in run(['json', '--measurements'], data)[1].splitlines()]
+    by_json = sorted(((name, row['count'], row[name]) for row in said for name in names if name in row), key=lambda row: row[1])
+    with tempfile.TemporaryDirectory() as folder:
+        path = os.path.join(folder, 'flight.db')
+        run(['sqlite', '--measurements', '--out', path], data)
+        stored = stored_columns(path, ('bus1553', 'arinc'), names)
+    status, plot, line = run(['plot', 'BEARING'], data)
+    return (by_values, by_csv, by_json, stored, titles['SPEED'], status, line, b'BEARING [deg]' in plot), (
+        wanted, wanted, wanted, wanted, 'SPEED [kt]', 0, '', True)
+
+
+def number_of(value: int, size: int, form: str) -> int:
+    """The bits of a number in a binary format of chapter 9."""
+    whole = (1 << size) - 1
+    if form == 'ONE':
+        return value if value >= 0 else whole + value
+    if form in ('SIG', 'SIM'):
+        return abs(value) | ((value < 0) == (form == 'SIG')) << size - 1
+    return value + (1 << size - 1) if form == 'OFF' else value & whole
+
+
+def forms_of_numbers() -> Found:
+    """Each binary format, of several sizes, and floating point of both; polynomials of a power of three; pairs, between which it is
+    a line, and beyond which there is no value."""
+    draw, found, wanted = random.Random('forms'), [], []
+    link = b'R-1\\TK1-1:7;R-1\\CDLN-1:B;' + group('B-1', DLN='B', BT_1='1553', STA_1_1='00100', MN_1_1_1='M')
+    for form in ('UNS', 'TWO', 'ONE', 'SIG', 'SIM', 'OFF'):
+        for size in (2, 9, 16):
+            low = draw.randrange(17 - size)
+            top = (1 << size - 1) - 1
+            value = draw.randint(0, 2 * top + 1) if form == 'UNS' else draw.choice((draw.randint(-top, -1), draw.randint(1, top)))
+            bits = (number_of(value, size, form) if form != 'UNS' else value) << low
+            noise = draw.getrandbits(16) & ~(((1 << size) - 1) << low)
+            mask = '{:016b}'.format(((1 << size) - 1) << low)
+            setup = link + group('B-1', MWN_1_1_1_1=1, MBM_1_1_1_1=mask) + conversion(1, 'M', BFM=form)
+            data = b''.join(opened(setup) + [packet(7, 0x19, 2000, bus_1553([message_1553(2000, [0x2881, bits | noise, 0x2800])]))])
+            found.append([json.loads(line)['M'] for line in run(['values', '--json'], data)[1].splitlines()])
+            wanted.append([float(value)])
+    for size, value in ((32, 1.5), (64, -123456.789), (32, float('nan'))):
+        words = list(struct.unpack('>%dH' % (size // 16), struct.pack('>f' if size == 32 else '>d', value)))
+        places = {'MWN_1_1_1_%d' % at: at for at in range(1, 1 + size // 16)}
+        setup = link + group('B-1', **places) + conversion(1, 'M', BFM='FPT')
+        data = b''.join(opened(setup) + [packet(7, 0x19, 2000, bus_1553([message_1553(2000, [0x2880 | size // 16, *words])]))])
+        found.append([json.loads(line)['M'] for line in run(['values', '--json'], data)[1].splitlines()])
+        wanted.append([] if value != value else [value])
+    for more, some, said in ((dict(DCT='COE', CO='2', CO_1='-1', CO_3='0.5'), (0, 3, 10), (2.0, 12.5, 492.0)),
+                             (dict(DCT='PRS', PS3_1=10, PS4_1=100, PS3_2=0, PS4_2=0, PS3_3=20, PS4_3=400), (5, 15, 20, 21),
+                              (50.0, 250.0, 400.0))):
+        setup = link + group('B-1', MWN_1_1_1_1=1) + conversion(1, 'M', **more)
+        messages = [message_1553(2000 + at, [0x2881, one, 0x2800]) for at, one in enumerate(some)]
+        data = b''.join(opened(setup) + [packet(7, 0x19, 2000, bus_1553(messages))])
+        found.append([json.loads(line)['M'] for line in run(['values', '--json'], data)[1].splitlines()])
+        wanted.append(list(said))
+    return found, wanted
+
+
+FRAME = b'R-1\\TK1-1:20;R-1\\CDT-1:PCMIN;R-1\\CDLN-1:TLM;' + group(
+    'P-1', DLN='TLM', MF_N=4, MF1=6, MF4=24, F1=12, MFW1_1=4, MFW2_1=16, IDC1_1=1, IDC3_1=3, IDC4_1=10, IDC6_1=0, IDC7_1=1).replace(
+        b'MF-N', b'MF\\N')
+PLACES = group('D-1', DLN='TLM', MN_1_1='SPEED', LT_1_1='MFWD', MF_1_1=2, MN_1_2='MODE', LT_1_2='WDFR', WP_1_2_1_1=3,
+               WFM_1_2_1_1='0' * 8 + '1110', FP_1_2_1_1=1, FI_1_2_1_1=1, MN_1_3='RARE', LT_1_3='WDFR', WP_1_3_1_1=5, FP_1_3_1_1=2,
+               FI_1_3_1_1=2, MN_1_4='LONG', LT_1_4='WDFR', WP_1_4_1_1=4, WFP_1_4_1_1=2, FP_1_4_1_1=1,
+               FI_1_4_1_1=1, WP_1_4_1_2=3, WFP_1_4_1_2=1, FP_1_4_1_2=1, FI_1_4_1_2=1, MN_1_5='FAST', LT_1_5='WDFR', WP_1_5_1_1=2, WI_1_5_1_1=3, FP_1_5_1_1=1, FI_1_5_1_1=1)
+SPEED = conversion(1, 'SPEED', MN3='kt', BFM='TWO', DCT='COE', CO_1='0.5')
+
+
+def minor_frames() -> Found:
+    """Measurements in minor frames by the groups D and P, of packed and of unpacked ones: a word, bits of a word, a word in each
+    second frame, two words, and one that is there twice in a frame; beside a bus, by time; and by a document."""
+    draw = random.Random('frames')
+    sizes = (12, 12, 12, 16, 12)
+    frames = [[at % 4] + [draw.getrandbits(size) for size in sizes[1:]] for at in range(8)]
+    rows = ['{:024b}'.format(0xFAF320) + ''.join('{:0{}b}'.format(*pair) for pair in zip(words, sizes)) for words in frames]
+    packed = pcm_word(packed=1) + b''.join(pcm_frame(3000 + 10 * at, row) for at, row in enumerate(rows))
+    unpacked = pcm_word(unpacked=1) + b''.join(pcm_unpacked(3000 + 10 * at, halves(0xFAF320, 24) + list(zip(words, sizes)))
+                                               for at, words in enumerate(frames))
+    wanted = []
+    for at, (_, one, two, three, four) in enumerate(frames):
+        row = {'SPEED': (one - (one >> 11 << 12)) / 2, 'MODE': two >> 1 & 7, 'LONG': two << 16 | three, 'FAST': one, 'FAST#2': four}
+        if at % 2:
+            row['RARE'] = four
+        wanted.append((20, 3000 + 10 * at, row))
+    found = []
+    for body in (packed, unpacked):
+        data = b''.join(opened(b'G\\106:17;' + FRAME + PLACES + SPEED) + [packet(20, 0x09, 3000, body)])
+        lines = [json.loads(line) for line in run(['values', '--json'], data)[1].splitlines()]
+        found.append([(line['channel'], line['count'], {name: line[name] for name in list(line)[3:]}) for line in lines])
+    document = DOCUMENT + 'FIRST,pcm,20,,,,,,,2,0-11,yes,0.5,,kt\n'
+    both = with_setup(b'G\\106:17;' + FRAME, flight()) + packet(20, 0x09, 1990, packed.replace(b'\xb8\x0b', b'\xd0\x07', 1), 1)
+    lines = [json.loads(line) for line in asked(['values', '--json'], both, document)[1].splitlines()]
+    counts = [line['count'] for line in lines]
+    plot = run(['plot', 'SPEED', '--from', '3010', '--to', '3030'], data)
+    return (found, counts == sorted(counts), [line['FIRST'] for line in lines if 'FIRST' in line], b'3 values' in plot[1]), (
+        [wanted] * 2, True, [row['SPEED'] for _, _, row in sorted(wanted, key=lambda one: (one[1] != 3000, one[1]))], True)
+
+
+def not_told() -> Found:
+    """What the setup text does not tell, or tells in another way, is named with why; the others are read."""
+    good = group('B-1', DLN='B', BT_1='1553', STA_1_1='00100', MN_1_1_1='GOOD', MWN_1_1_1_1=1)
+    link = b'R-1\\TK1-1:7;R-1\\CDLN-1:B;R-1\\TK1-2:20;R-1\\CDLN-2:TLM;'
+    data = [packet(7, 0x19, 2000, bus_1553([message_1553(2000, [0x2881, 7, 0x2800])]))]
+    found, wanted = [], []
+    bad = group('B-1', MN_1_1_2='BAD', MWN_1_1_2_1=2)
+    frame = FRAME[FRAME.index(b'P-1'):]
+    for more, why in ((bad + conversion(1, 'BAD', BFM='BCD'), 'its binary format is BCD'),
+                      (bad + conversion(1, 'BAD', DCT='DER'), 'its conversion is DER'),
+                      (bad + conversion(1, 'BAD', DCT='PRS', PS3_1=1, PS4_1=1), 'it has fewer than two pairs'),
+                      (bad + conversion(1, 'BAD', DCT='COE', CO_1='much'), "a coefficient 'much' is no number"),
+                      (bad + group('B-1', MBM_1_1_2_1='101'), "the mask '101' has not 16 binary digits"),
+                      (bad + group('B-1', MBM_1_1_2_1='0000110011000000'),
+                       "the mask '0000110011000000' is not one stretch of bits"),
+                      (bad + group('B-1', MTO_1_1_2_1='LSB'), 'its bits are transferred in another order'),
+                      (group('B-1', MN_1_1_2='BAD'), 'the setup text does not say where it stands'),
+                      (group('B-1', MN_1_2_1='BAD', MWN_1_2_1_1=1, TRA_1_2='99'), "'99' is no number of 5 bits"),
+                      (group('D-1', DLN='TLM', MN_1_1='BAD', LT_1_1='MFWD', MF_1_1=1),
+                       'the setup text does not say the words of its minor frame'),
+                      (frame + group('D-1', DLN='TLM', MN_1_1='BAD', LT_1_1='REL'), 'its location type is REL'),
+                      (frame + group('D-1', DLN='TLM', MN_1_1='BAD', LT_1_1='MFWD', MF_1_1=6), 'a minor frame has no word 6'),
+                      (frame.replace(b'IDC4', b'IDC9') + group('D-1', DLN='TLM', MN_1_1='BAD', LT_1_1='WDFR', WP_1_1_1_1=1,
+                                                                FP_1_1_1_1=2),
+                       'the setup text does not say where a minor frame has its number'),
+                      (frame + group('D-1', DLN='TLM', MN_1_1='BAD', MN3_1_1='L', LT_1_1='MFWD', MF_1_1=1),
+                       'its bits are transferred in another order')):
+        status, said, line = run(['values', '--json'], b''.join(opened(link + good + more) + data))
+        found.append((status, [json.loads(one)['GOOD'] for one in said.splitlines()], line))
+        wanted.append((0, [7.0], 'the measurement BAD is not read: ' + why))
+    return found, wanted
+
+
+TRIALS: List[Callable[[], Found]] = [by_document, by_dbc, wrong_documents, drawn, by_columns, wrong_columns, by_setup,
+                                     forms_of_numbers, minor_frames, not_told]
