@@ -247,6 +247,64 @@ def fibre_channel() -> Found:
         ['channel 1 is not named', 'channel 12 is named CANIN, and has packets of type 79, 7a'])
 
 
+# ---- ARINC 429 (11.2.8)
+
+def arinc_words() -> Found:
+    """Each word is its gap after the one before it, the first one after the packet's counter; with bus, label, SDI, data, SSM and
+    the errors of its header."""
+    word_ = 2 << 29 | 0x55AA << 10 | 3 << 8 | 0o310
+    even = word_ | (bin(word_).count('1') % 2) << 31
+    data = b''.join(opened() + [packet(8, 0x38, 2000, made.arinc([(5, 3, even), (0xFFFFF, 200, even ^ 1 << 31)], 0b101)),
+                                packet(8, 0x38, 3000000, made.arinc([(0, 0, even ^ 1 << 31)]), 1, 1)])
+    common = ('310', '3', str(0x55AA), '2')
+    return cells(['--kind', 'arinc'], data, 'count', 'bus', 'errors', 'high', 'label', 'sdi', 'data', 'ssm'), [
+        ('2005', '3', 'format error+even parity', '1', *common), (str(2005 + 0xFFFFF), '200', 'format error', '1', *common),
+        ('3000000', '0', '', '0', *common)]
+
+
+def arinc_words_cut() -> Found:
+    """Less than its words is a fault of the packet alone; a packet of no words is none."""
+    whole, found = made.arinc([(0, 1, 5), (1, 1, 6)]), []
+    for body, is_bad in ((whole[:-1], 1), (word(3, 4) + whole[4:], 1), (made.arinc([]), 0)):
+        data = b''.join(opened() + [packet(8, 0x38, 2000, body), packet(8, 0x38, 3000, whole, 1)])
+        found.append((run(['csv', '--keep-going'], data)[0] - is_bad, cells(['--keep-going', '--kind', 'arinc'], data, 'count')))
+    return found, [(0, [('3000',), ('3001',)])] * 3
+
+
+# ---- setup record and events (11.2.7, formats 1 and 2)
+
+def events_of_a_crew() -> Found:
+    """Number and occurrence of each event, with a header of 8 bytes in each and without."""
+    some = [(2001, 4095, 65535), (2002, 0, 0)]
+    data = b''.join(opened() + [packet(2, 0x02, 2001, made.events(some)),
+                                packet(2, 0x02, 3001, made.events([(3001, 7, 9)], b'12345678'), 1, 3)])
+    return cells(['--kind', 'event'], data, 'count', 'number', 'occurrence'), [
+        ('2001', '4095', '65535'), ('2002', '0', '0'), ('3001', '7', '9')]
+
+
+def events_cut() -> Found:
+    """Less than its events is a fault; where they would fit without the headers that the word says they are not read, and said."""
+    whole = made.events([(2001, 1, 1), (2002, 2, 2)])
+    found = []
+    for body in (whole[:-1], word(3, 4) + whole[4:]):
+        data = b''.join(opened() + [packet(2, 0x02, 2000, body), packet(2, 0x02, 2003, whole, 1)])
+        found.append((run(['csv', '--keep-going'], data)[0], len(cells(['--keep-going', '--kind', 'event'], data, 'count'))))
+    data = b''.join(opened() + [packet(2, 0x02, 2000, word(1 << 31 | 2, 4) + whole[4:])])
+    return (found, run(['csv'], data)[::2]), ([(1, 2)] * 2, (1, 'channel 2, event: 1 packet not read: another form of its type'))
+
+
+def setup_texts() -> Found:
+    """The text byte for byte, of several packets one after the other; as a tree; and one in XML, which names no channel."""
+    first, more = b'G\\106:17;R-1\\TK1-1:5;R-1\\DSI-1:RADIO;', b'R-1\\N:1;'
+    entry = packet(5, 0x50, 2000, made.uart([(2000, b'x')]))
+    two = b''.join(opened(first) + [packet(0, 0x01, 1500, made.setup(more, changed=True), 1), entry])
+    xml = packet(0, 0x01, 1000, made.setup(b'<Tmats R-1\\TK1-1:5;R-1\\DSI-1:RADIO;/>', xml=True)) + entry
+    tree = run(['setup', '--tree'], two)[1].decode().splitlines()
+    return (run(['setup'], two), '    DSI-1: RADIO' in tree, cells(['--channel', '5'], two, 'name'),
+            run(['setup'], xml)[1][:6], cells(['--channel', '5'], xml, 'name'), summary_rows(two)[0, 'setup']['packets']), (
+        (0, first + more, ''), True, [('RADIO',)], b'<Tmats', [('',)], 2)
+
+
 # ---- what the buses carried, drawn
 
 def heat_map_of_1553() -> Found:
@@ -273,4 +331,5 @@ def heat_map_of_1553() -> Found:
 TRIALS: List[Callable[[], Found]] = [heat_map_of_1553, stamps_of_second_headers, stamps_of_no_header,
                                      can_frames, can_frames_cut, fibre_channel,
                                      uart_without_stamps, uart_without_stamps_cut, second_headers, second_headers_damaged,
-                                     discretes_at_the_top, discretes_at_the_top_in_a_database]
+                                     discretes_at_the_top, discretes_at_the_top_in_a_database, arinc_words, arinc_words_cut,
+                                     events_of_a_crew, events_cut, setup_texts]

@@ -193,11 +193,13 @@ def by_columns() -> Found:
         path = os.path.join(folder, 'flight.db')
         status = asked(['sqlite', '--out', path], flight())[0]
         stored = stored_columns(path, ('bus1553', 'arinc', 'discrete', 'can', 'uart'), names)
-    return (found, keys, stored, status, titles, [row[:wide] for row in rows] == list(csv.reader(plain)), bare == [
+    return (found, keys, stored, status, titles, {len(row) - wide for row in rows}, [row[:wide] for row in rows] == list(
+        csv.reader(plain)), bare == [
         json.loads(line) for line in run(['json'], flight())[1].splitlines()], many == lines,
             [line.split(',')[-1] for line in one], len(one[0].split(',')) - len(alone[0].split(','))), (
         COLUMNS, COLUMNS, COLUMNS, 0, ['HEADING [deg]', 'BEARING [deg]', 'LATITUDE [deg]', 'ALTITUDE [ft]', 'SPEED [kt]', 'GEAR',
-                                       'TORQUE [Nm, at the shaft]', 'AFTER'], True, True, True, ['quality'] + ['locked'] * 5, 4)
+                                       'TORQUE [Nm, at the shaft]', 'AFTER'],
+        {8}, True, True, True, ['quality'] + ['locked'] * 5, 4)
 
 
 def wrong_columns() -> Found:
@@ -319,7 +321,8 @@ FRAME = b'R-1\\TK1-1:20;R-1\\CDT-1:PCMIN;R-1\\CDLN-1:TLM;' + group(
 PLACES = group('D-1', DLN='TLM', MN_1_1='SPEED', LT_1_1='MFWD', MF_1_1=2, MN_1_2='MODE', LT_1_2='WDFR', WP_1_2_1_1=3,
                WFM_1_2_1_1='0' * 8 + '1110', FP_1_2_1_1=1, FI_1_2_1_1=1, MN_1_3='RARE', LT_1_3='WDFR', WP_1_3_1_1=5, FP_1_3_1_1=2,
                FI_1_3_1_1=2, MN_1_4='LONG', LT_1_4='WDFR', WP_1_4_1_1=4, WFP_1_4_1_1=2, FP_1_4_1_1=1,
-               FI_1_4_1_1=1, WP_1_4_1_2=3, WFP_1_4_1_2=1, FP_1_4_1_2=1, FI_1_4_1_2=1, MN_1_5='FAST', LT_1_5='WDFR', WP_1_5_1_1=2, WI_1_5_1_1=3, FP_1_5_1_1=1, FI_1_5_1_1=1)
+               FI_1_4_1_1=1, WP_1_4_1_2=3, WFP_1_4_1_2=1, FP_1_4_1_2=1, FI_1_4_1_2=1, MN_1_5='FAST', LT_1_5='WDFR', WP_1_5_1_1=2,
+               WI_1_5_1_1=3, FP_1_5_1_1=1, FI_1_5_1_1=1)
 SPEED = conversion(1, 'SPEED', MN3='kt', BFM='TWO', DCT='COE', CO_1='0.5')
 
 
