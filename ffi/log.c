@@ -98,6 +98,7 @@ static void end(uint64_t count) {
     r10_log_number(&line, "lost", account.lost);
     r10_log_number(&line, "after", LOST);
     r10_log_number(&line, "waiting", 0);
+    r10_log_number(&line, "carried", 0);
     r10_log_number(&line, "passed", 0);
     must("total", r10_log_offer(&recorder, LOG, count, &line));
 }

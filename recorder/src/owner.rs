@@ -708,7 +708,10 @@ mod tests {
         assert_eq!((it.counts(), it.entries(5), it.owner.lanes[0].came_in), ((600, 0, 0, 700), vec![600], 1300));
         let total = it.lines("total").pop().unwrap();
         // (a batch is taken whole)
-        assert!(total.ends_with("channel=5 kind=message came=1112 recorded=600 lost=0 after=0 waiting=0 passed=512"), "{total}");
+        assert!(
+            total.ends_with("channel=5 kind=message came=1112 recorded=600 lost=0 after=0 waiting=0 carried=0 passed=512"),
+            "{total}"
+        );
     }
 
     /// Where the time of a stop is over, what is still in the queues is lost, counted, and in the file's last lines; what came after the
@@ -727,7 +730,8 @@ mod tests {
         assert!(durable > 0 && left > 0, "{durable} {left}");
         assert_eq!((lost, durable + lost, waiting, passed), (left, 3_000, 0, 100));
         assert_eq!(it.entries(5).iter().sum::<usize>() as u64, durable);
-        let wanted = format!("channel=5 kind=message came=3100 recorded={durable} lost={lost} after={lost} waiting=0 passed=100");
+        let wanted =
+            format!("channel=5 kind=message came=3100 recorded={durable} lost={lost} after={lost} waiting=0 carried=0 passed=100");
         let total = it.lines("total").pop().unwrap();
         assert!(total.ends_with(&wanted), "{total}, wanted {wanted}");
         assert_eq!(it.lines("lost"), [format!("channel=5 all={lost} system=0 queue=0 line=0 disk={lost}")]);
@@ -744,12 +748,85 @@ mod tests {
         it.feed.lost(0, Cause::Line, 2);
         it.feed.flush();
         assert_eq!((it.ask(".STOP"), it.counts()), (String::new(), (10, 9, 0, 0)));
-        assert!(it.lines("total")[0].ends_with("channel=5 kind=message came=19 recorded=10 lost=9 after=9 waiting=0 passed=0"));
+        assert!(
+            it.lines("total")[0]
+                .ends_with("channel=5 kind=message came=19 recorded=10 lost=9 after=9 waiting=0 carried=0 passed=0")
+        );
         assert_eq!(it.lines("lost"), ["channel=5 all=9 system=7 queue=0 line=2 disk=0"]);
         assert_eq!(it.ask(".RECORD"), "");
         it.comes(1);
         assert_eq!((it.ask(".STOP"), it.lines("before")), (String::new(), vec!["channel=5 waiting=0 lost=9 told=9".to_string()]));
-        assert!(it.lines("total")[1].ends_with("channel=5 kind=message came=1 recorded=1 lost=0 after=0 waiting=0 passed=0"));
+        assert!(
+            it.lines("total")[1].ends_with("channel=5 kind=message came=1 recorded=1 lost=0 after=0 waiting=0 carried=0 passed=0")
+        );
+    }
+
+    /// What was not committed when the disk failed is looked for: what is there counts as recorded in the totals of that file, and the
+    /// rest as lost after its last message.
+    #[test]
+    fn what_is_found_after_a_failure_is_in_the_totals() {
+        let mut it = Alone::recording("found", 3000, 64);
+        it.comes(10);
+        it.takes_in();
+        it.owner.pump(0).unwrap();
+        it.owner.recorder().unwrap().commit().unwrap();
+        it.owner.settle().unwrap();
+        it.comes(5);
+        it.takes_in();
+        it.owner.fail("it was made to");
+        it.owner.retry();
+        it.comes(3);
+        assert_eq!((it.ask(".STOP"), it.counts(), it.entries(5)), (String::new(), (13, 5, 0, 0), vec![10, 3]));
+        let (totals, before) = (it.lines("total"), it.lines("before"));
+        assert!(totals[0].starts_with("file=1 ") && totals[1].starts_with("file=2 "), "{totals:?}");
+        assert!(totals[0].ends_with("came=15 recorded=10 lost=5 after=5 waiting=0 carried=0 passed=0"), "{totals:?}");
+        assert!(totals[1].ends_with("came=3 recorded=3 lost=0 after=0 waiting=0 carried=0 passed=0"), "{totals:?}");
+        assert_eq!(before, ["channel=5 waiting=0 lost=5 told=5"]);
+        let states: Vec<_> = it.lines("disk").iter().map(|it| it.split(' ').next().unwrap().to_string()).collect();
+        assert_eq!(states, ["state=failed", "state=well"]);
+    }
+
+    /// Lines of the log are nothing for which a file is begun or ended.
+    #[test]
+    fn lines_are_no_messages() {
+        let mut it = Alone::recording("lines", 3000, 64);
+        let place = it.owner.notes.as_ref().unwrap().place;
+        it.owner.lanes[place].waiting = 3;
+        it.owner.lanes[place].durable_in_file = 3;
+        assert_eq!((it.owner.waiting(), it.owner.has_taken()), (0, false));
+        it.owner.lanes[0].waiting = 2;
+        it.owner.lanes[0].durable_in_file = 1;
+        assert_eq!((it.owner.waiting(), it.owner.has_taken()), (2, true));
+        it.owner.lanes[0].waiting = 0;
+        it.owner.lanes[place].waiting = 0;
+    }
+
+    /// A file that is full has the totals of its channels all the same.
+    #[test]
+    fn a_full_file_has_its_totals() {
+        let mut it = Alone::recording("totals", 1500, 5_000);
+        it.comes(30_000);
+        assert_eq!(it.ask(".STOP"), "");
+        let found = it.entries(5);
+        assert!(found.len() > 3, "{found:?}");
+        let id = it.owner.settings.log.id().unwrap();
+        let recorder = it.owner.recorder().unwrap();
+        // (the last one of a full medium may have room for nothing)
+        for (file, entries) in found[..found.len() - 1].iter().copied().enumerate() {
+            let cursor = recorder.cursor(file, &[id], ALL_COUNTS).unwrap();
+            recorder.advance(cursor).unwrap();
+            let mut last = String::new();
+            while let Some(entry) = recorder.next(cursor).unwrap() {
+                if let r10::Content::Message { bytes, .. } = entry.content {
+                    last = String::from_utf8(bytes.to_vec()).unwrap();
+                }
+            }
+            recorder.close_cursor(cursor).unwrap();
+            assert!(last.contains(" total at=") && last.contains(&format!(" file={} ", file + 1)), "{file}: {last}");
+            // (its end may have room for some messages more, of which the next file tells)
+            let number = |key: &str| last.split(key).nth(1).unwrap().split(' ').next().unwrap().parse::<usize>().unwrap();
+            assert!((entries.saturating_sub(50)..=entries).contains(&number(" recorded=")), "{entries}: {last}");
+        }
     }
 
     /// A note of the crew, and who gave a command, are in the recording. A line alone begins no file.

@@ -19,6 +19,11 @@ const OPERATIONS: usize = 8192;
 /// Blocks that are read plainly at a time before they are written: a mapped one that cannot be read would end the process.
 const AHEAD: u64 = 8 << 11;
 
+/// What an entry may need in a file beside its bytes, at most.
+const ENTRY: u64 = 128;
+/// Bytes that are kept in a file for the totals of a channel, and for what else its end has to say.
+const TOTAL: u64 = 512;
+
 /// Why a file ends, or is to.
 #[derive(Clone, Copy, Debug, PartialEq, Eq)]
 pub enum Ended {
@@ -52,8 +57,14 @@ impl Owner {
     pub(crate) fn pump(&mut self, place: usize) -> Result<(), Trouble> {
         while self.lanes[place].waiting > 0 {
             self.read_ahead()?;
-            let lane = &mut self.lanes[place];
-            let most = (PUMPED / (lane.longest + 64)).max(1);
+            let (free, kept) = (self.recorder()?.status()?.free, self.kept_for_lines(place));
+            let lane = &self.lanes[place];
+            // (a message that has no room is refused by the recorder; what is kept for lines it does not know)
+            let room = free.saturating_sub(kept) / (lane.longest as u64 + ENTRY);
+            if kept > 0 && room == 0 {
+                return Err(Trouble::Full(Error::MEDIUM_FULL));
+            }
+            let most = (PUMPED / (lane.longest + 64)).max(1).min(if kept > 0 { room as usize } else { usize::MAX });
             let id = lane.channel.id;
             let moved = self.recorder()?.pump(id, most)?;
             if moved == 0 {
@@ -70,6 +81,14 @@ impl Owner {
     fn read_plainly(&self, blocks: Range<u64>) -> Result<(), Trouble> {
         let Some(recorder) = &self.recorder else { return Ok(()) };
         self.medium.read_plainly(recorder, blocks).map_err(|it| Trouble::Failed(it.text().to_string()))
+    }
+
+    /// How many bytes the messages of a channel leave in a file, so that its end has room in the log channel.
+    fn kept_for_lines(&self, place: usize) -> u64 {
+        match &self.notes {
+            Some(it) if it.place != place => TOTAL * (self.listed().len() as u64 + 8),
+            _ => 0,
+        }
     }
 
     /// Reads plainly what the next step of a pump may write: it has to be within three quarters of [`AHEAD`].

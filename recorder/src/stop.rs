@@ -36,8 +36,10 @@ struct Total {
     came: u64,
     recorded: u64,
     lost: u64,
-    /// of these, those after its last message in the file
+    /// those after its last message that was taken
     after: u64,
+    /// those before messages that wait: they are in gaps of the next file
+    carried: u64,
     /// messages that wait for the next file
     waiting: u64,
     passed: u64,
@@ -55,7 +57,8 @@ impl Lane {
             came: self.came_in - self.base.came,
             recorded: self.durable_in_file + written as u64,
             lost: self.lost - self.base.lost,
-            after: self.untold + self.told + self.pending.iter().skip(written).map(|it| it.lost).sum::<u64>(),
+            after: self.untold + self.told,
+            carried: self.pending.iter().skip(written).map(|it| it.lost).sum(),
             waiting: self.waiting as u64,
             passed: self.passed - self.base.passed,
         }
@@ -282,7 +285,8 @@ impl Owner {
                 .with("recorded", it.recorded)
                 .with("lost", it.lost)
                 .with("after", it.after);
-            self.log_for_sure(line.with("waiting", it.waiting).with("passed", it.passed));
+            let line = line.with("waiting", it.waiting).with("carried", it.carried);
+            self.log_for_sure(line.with("passed", it.passed));
         }
     }
 }

@@ -91,10 +91,8 @@ def sums(image: bytes, channels: list[int]) -> dict[int, Sums]:
             must(total, f'file {file} has no total of channel {number}')
             must(total.keys['name'] == files(image)[file][0], f'{total}: another name')
             must(total.number('recorded') == len(of_channel), f'file {file}: {len(of_channel)} entries, {total}')
-            # (where no message came, the losses before it are still those of the next file)
-            stood = earlier if of_channel else 0
             must(
-                total.number('lost') == gaps - stood + total.number('after') - (earlier - stood),
+                earlier + total.number('lost') == gaps + total.number('after') + total.number('carried'),
                 f'file {file} channel {number}: gaps {gaps}, {before}, {total}',
             )
             must(
@@ -219,7 +217,7 @@ def a_stop_with_a_backlog(room: Room, count: int = 30_000, slow: int = 600_000) 
     recorded, lost = (sum(getattr(it, key) for it in found.values()) for key in ('recorded', 'lost'))
     passed = sum(it[7] for it in system_totals(service).values())
     must((recorded + lost, passed) == (sent, 0), f'{sent} sent, {found}, {passed} passed:\n{service.log()}')
-    must(lost == sum(it[3] for it in system_totals(service).values()), f'{found}: {service.log()}')
+    must(lost == sum(it[2] for it in system_totals(service).values()), f'{found}: {service.log()}')
     must(service.log().count('channel 6: came ') == 2, f'the log has no totals: {service.log()}')
     return f'{sent} sent, {recorded} recorded, {lost} lost; the stops took {took[0]:.1f} and {took[1]:.1f} s'
 

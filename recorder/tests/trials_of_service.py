@@ -373,7 +373,7 @@ def the_end_and_the_manager(room: Room, limit: float = LONG) -> str:
                 seen += it.recv(4096).decode().split()
         except BlockingIOError:
             pass
-    must('READY=1' in seen and 'STOPPING=1' in seen, f'{seen}')
+    must('READY=1' in seen and 'STOPPING=1' in seen and 'EXTEND_TIMEOUT_USEC=60000000' in seen, f'{seen}')
     must(took < limit, f'the end took {took:.2f} s')
     must(files((room.folder / 'medium').read_bytes())[0][3] == '1', 'the file is not closed')
     service = Service(room)
