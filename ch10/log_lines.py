@@ -111,7 +111,7 @@ class Log:
     def clock(self) -> List[str]:
         """What clock the time packets had: a line, and one for each change."""
         said: List[str] = []
-        for line in self.own():
+        for line in self.since():
             if line.word in ('file', 'clock') and 'sync' in line.keys:
                 text = clock_text(line)
                 if not said or said[-1].partition(' of its times: ')[2] != text:

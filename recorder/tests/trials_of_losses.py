@@ -276,7 +276,8 @@ def a_stop_that_is_over(room: Room, drag: int = 60_000) -> str:
 
 @trial
 def a_disk_that_fails_and_sums(room: Room, failures: int = 3) -> str:
-    """Where the disk fails, the next file has the totals of the one before: what was lost adds up, and each failure has its lines."""
+    """Where the disk fails, the next file has the totals of the one before: what was lost adds up, and each failure has its
+    lines."""
     ports = room.ports(2)
     text = settings(udp_channels(ports), blocks=1 << 16, directory=63, commit_ms=10, tries=100)
     service = Service(room, text, disk={'next': room.folder / 'next'})
@@ -390,6 +391,11 @@ def what_the_log_channel_has(room: Room) -> str:
     must(notes == [('it is "cold" here', own), ('from afar', '127.0.0.1')], f'{notes}')
     must(of['clock'][0]['sync'] in ('yes', 'no', 'unknown') and of['file'][0]['sync'] == of['clock'][-1]['sync'], f"{of['clock']}")
     # without a channel of its own nothing of this is there, and a note is refused
+    many = settings(''.join(channel(10 + n, 'discrete', 'lines = "pipe"') for n in range(64)), start='wait', medium='many')
+    service = Service(room, many)
+    service.wait_for('64 channels leave no room for the log channel: it is left out')
+    must(service.ask('.NOTE x')[0].startswith('E 02') and service.ask('.RECORD', '.STOP') == [], 'with 64 channels')
+    service.end()
     service = Service(room, text.replace('start =', 'log = 0\nstart ='))
     must(service.ask('.NOTE x')[0].startswith('E 02') and service.figures()['log'] is None, 'a note is taken')
     service.end()

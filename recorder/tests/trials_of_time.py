@@ -4,6 +4,7 @@ from __future__ import annotations
 import calendar
 import os
 import pathlib
+import re
 import shutil
 import socket
 import struct
@@ -14,6 +15,7 @@ import time
 from typing import NamedTuple, Optional
 
 from kinds import KINDS
+from trials_of_losses import filtered, log_lines, sums
 from trying import (
     HOST,
     LONG,
@@ -483,7 +485,15 @@ def programs_that_set_the_clock(room: Room) -> str:
         wanted = f'r10_clock_{wanted}'
         must(f'\n{wanted}' in metrics, f'{wanted} is not among the metrics: {metrics}')
     until(lambda: said()['PPS'] == 'none', 'a pulse that ends is still there')
+    service.ask('.RECORD', '.STOP')
     service.end()
+    # each change stands in the log channel, though no file was recorded then
+    states = [(it.keys['sync'], it.keys['source'].split(',')[0].split(' ')[0], it.keys['error_ns'] != 'unknown')
+              for it in log_lines((room.folder / 'medium').read_bytes(), 0) if it.word in ('clock', 'file')]
+    must(('no', 'ntpd', False) in states and states.index(('yes', 'chrony', True)) > states.index(('no', 'ntpd', False)), f'{states}')
+    must(states[-1] == ('yes', 'chrony', True), f'{states}')
+    must(re.search('^clock of its times: the system.s, in sync, off by at most 0[.][0-9]{3} ms, says chrony, set by 192.168.1.1$',
+                   filtered(room, 'summary'), re.MULTILINE), filtered(room, 'summary'))
     for wanted in ('is not in sync, says ntpd', 'is in sync, says chrony', 'the pulse is +0.750 ms off', 'no pulse comes'):
         must(wanted in service.log(), f'{wanted!r} is not in the log: {service.log()}')
     return 'three programs and a pulse'
@@ -524,8 +534,12 @@ def waiting_for_time(room: Room) -> str:
         must(f'waits until the clock is in sync, {wait} s at most' in log, log)
         must(('the clock is in sync: the recording begins' in log) == in_sync, log)
         must(('the wait for it is over: the recording begins' in log) != in_sync, log)
-        found = [it for it in entries((room.folder / 'medium').read_bytes(), 0) if it.channel == 5]
+        image = (room.folder / 'medium').read_bytes()
+        found = [it for it in entries(image, 0) if it.channel == 5]
         must([(it.gap, it.words[-1]) for it in found] == [('5', '42')], f'{found}')
+        texts = [it.keys['text'] for it in log_lines(image, 0) if it.word in ('info', 'warning')]
+        must(len(texts) == 2 and 'waits until' in texts[0] and 'the recording begins' in texts[1], f'{texts}')
+        must(sums(image, [5])[5] == (1, 5, 0, 0), f'{sums(image, [5])}')
     return 'in sync, and over'
 
 
