@@ -2,7 +2,8 @@
 # The recorder as a service, r10d and r10ctl (docs/RECORDER.md): builds it, and tries it.
 #
 #     scripts/recorder.sh build [--quick]             # builds both over the library, and prints the folder that they are in
-#     scripts/recorder.sh ready                       # whether they can be built here; if not, a line says why, and the status is 1
+#     scripts/recorder.sh ready                       # whether they can be built here; if not, a line says why and what to do, and
+#                                                     # the status is 1; and how long a build takes
 #     scripts/recorder.sh install PREFIX [DESTDIR]    # over the library below DESTDIR/PREFIX: puts both there, the unit for
 #                                                     # systemd, its user, and an example of settings; or says in a line why not
 #                                                     # (install.sh calls it)
@@ -30,8 +31,9 @@ give_up() {
     exit 1
 }
 
-# The crate r10 wants this Rust, 1.89.
+# The crate r10 wants this Rust, 1.89; Debian 12 has 1.63 (its cargo says 0.66).
 readonly OLDEST=89
+readonly CARGO="Debian 12 has an older one; https://rustup.rs installs one beside it, for this user, in a minute with a network"
 
 is_new() {
     [[ $(cargo --version) =~ ^cargo\ 1\.([0-9]+) ]] && [ "${BASH_REMATCH[1]}" -ge "$OLDEST" ]
@@ -76,15 +78,16 @@ library() {
     echo "$kept"
 }
 
-# Whether both can be built here; if not, why.
+# Whether both can be built here; if not, why, and what to do.
 ready() {
     if ! command -v cargo >/dev/null; then
-        echo "there is no cargo of 1.$OLDEST or later: rustup installs one"
+        echo "there is no cargo of 1.$OLDEST or later: $CARGO"
     elif ! is_new; then
-        echo "the cargo that is there is older than 1.$OLDEST: $(cargo --version)"
+        echo "the cargo that is there is older than 1.$OLDEST: $(cargo --version); $CARGO"
     # cargo says whether all crates are there, without building one
     elif ! library=/nonexistent from_kept metadata --format-version 1 >/dev/null 2>&1; then
-        echo "the crates of r10d are not there: apt-get install $PACKAGES; or, with a network, scripts/recorder.sh build"
+        echo "the crates of r10d are not there: apt-get update && apt-get install -y $PACKAGES; or, with a network," \
+            "scripts/recorder.sh build"
     else
         return 0
     fi
@@ -106,7 +109,13 @@ build() {
 
 case ${1:-} in
 ready)
-    ready || exit 1
+    why=$(ready)
+    found=$?
+    [ -z "$why" ] || echo "$why"
+    # (as measured on four processors with nothing else to do; a machine with other work takes a multiple of it)
+    echo "a build takes some 3 minutes, and its first one 3 more for the library; on a machine with other work up to three" \
+        "times that"
+    exit "$found"
     ;;
 install)
     [[ ${2:-} = /* ]] || give_up "below which folder? scripts/recorder.sh install /PREFIX [DESTDIR]"
@@ -122,13 +131,14 @@ install)
         install -m 755 "$made/r10d" "$made/r10ctl" "$to/bin" &&
         sed "s|/usr/local/bin/|$bin/|" "$top/recorder/r10d.service" >"$to/lib/systemd/system/r10d.service" &&
         install -m 644 "$top/recorder/sysusers.conf" "$to/lib/sysusers.d/r10.conf" &&
-        install -m 644 "$top/recorder/recorder.toml" "$to/share/doc/r10/examples" || give_up "not all could be written below $to"
+        install -m 644 "$top/recorder/recorder.toml" "$top/recorder/demo.toml" "$top/recorder/r10.rules.yml" \
+            "$to/share/doc/r10/examples" || give_up "not all could be written below $to"
     ;;
 build)
-    command -v cargo >/dev/null && is_new || give_up "there is no cargo of 1.$OLDEST or later: rustup installs one"
+    command -v cargo >/dev/null && is_new || give_up "there is no cargo of 1.$OLDEST or later: $CARGO"
     # (the crates are looked for before the library is made, which takes minutes)
     library=/nonexistent build_by metadata --format-version 1 >/dev/null ||
-        give_up "the crates of r10d are not there; without a network they come from Debian: apt-get install $PACKAGES"
+        give_up "the crates of r10d are not there; without a network: apt-get update && apt-get install -y $PACKAGES"
     library=$(library ${2:+"$2"}) || give_up "there is no library: scripts/ffi.sh build says why"
     build || give_up "r10d was not built"
     echo "$top/out/recorder/target/release"
@@ -146,6 +156,11 @@ check)
     build || give_up "r10d was not built"
     if [ "$#" = 1 ]; then
         cargo fmt --check --manifest-path "$top/recorder/Cargo.toml" >/dev/null || give_up "run cargo fmt in recorder/"
+        if cargo clippy --version >/dev/null 2>&1; then
+            build_by clippy --quiet --all-targets -j 2 -- -D warnings || give_up "clippy has hints (recorder/Cargo.toml has its list)"
+        else
+            echo "recorder: NOT TRIED: clippy is not there"
+        fi
         build_by test --release --quiet --lib --bins -j 2 || give_up "a test of its parts failed"
     fi
     "$top/recorder/tests/check.py" "$top/out/recorder/target/release" "${@:2}" || give_up "a recording through the service failed"

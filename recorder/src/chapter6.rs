@@ -31,6 +31,13 @@ fn is_text(text: &str) -> bool {
     text.len() <= LONGEST && !text.contains(char::is_control)
 }
 
+impl Noted {
+    /// Number, time and text.
+    pub fn shown(&self) -> (u16, String, String) {
+        (self.number, self.civil.clone(), self.text.clone())
+    }
+}
+
 impl Owner {
     /// `.EVENT`: lists the events of the file, or records one.
     pub(crate) fn event(&mut self, words: &[&str]) -> Answer {
@@ -145,7 +152,7 @@ impl Owner {
         self.medium.keep(false);
         self.wish.wants = false;
         self.wish.waits = None;
-        self.readers.clear();
+        self.end_readers("the medium was dismounted");
         self.recorder()?.dismount()?;
         self.settle()?;
         self.recorder = None;
@@ -188,39 +195,6 @@ impl Owner {
             }
             _ => Err(No::Parameter("give a feature and a mask, a feature, or nothing".to_string())),
         }
-    }
-
-    /// `.BIT`: tries what can be tried without touching what is recorded.
-    pub(crate) fn bit(&mut self) -> Result<String, Trouble> {
-        let mut found: Vec<(bool, String)> = Vec::new();
-        let directory = 1 + self.settings.directory as u64;
-        let read = self.recorder.as_ref().map(|it| self.medium.read_plainly(it, 0..directory));
-        found.push(match read {
-            Some(Ok(())) => (true, "medium: its directory can be read".to_string()),
-            Some(Err(refusal)) => (false, format!("medium: {}", refusal.text())),
-            None => (false, format!("medium: {}", self.failures.why)),
-        });
-        let is_there = self.recorder.is_some() && self.medium.is_at_its_path();
-        found.push((is_there, "medium: what is recorded on has its path".to_string()));
-        let free = match &mut self.recorder {
-            Some(it) => it.status()?.free,
-            None => 0,
-        };
-        found.push((free > 0, format!("medium: {free} bytes are left for the next file, or in this one")));
-        let is_right = self.clock.known.is_synchronised() == Some(true);
-        found.push((is_right, format!("clock: {}", self.clock.known.line())));
-        for lane in self.listed() {
-            let bits = self.silence(lane) | crate::words::health_of(lane);
-            let id = lane.channel.id;
-            found.push((bits == 0, format!("channel {id}: {}", crate::words::in_words(bits))));
-        }
-        let failed = found.iter().filter(|it| !it.0).count();
-        let mut text = String::new();
-        for (number, (is_right, what)) in found.iter().enumerate() {
-            let _ = writeln!(text, "BIT {number} {} {what}", if *is_right { "ok" } else { "FAILED" });
-        }
-        let _ = writeln!(text, "BIT {} of {} failed", failed, found.len());
-        Ok(text)
     }
 
     /// `.VERSION`: of the service, and of the library below it.

@@ -1,31 +1,37 @@
 //! Control over a UNIX socket, and over TCP where the settings say so: lines in, answers out. What the words mean is in `words`.
 use std::io::{self, BufRead, BufReader, ErrorKind, Read, Write};
-use std::net::{IpAddr, SocketAddr, TcpListener, TcpStream};
+use std::net::{IpAddr, Shutdown, SocketAddr, TcpListener, TcpStream};
 use std::os::fd::AsRawFd;
 use std::os::unix::fs::FileTypeExt;
 use std::os::unix::net::{UnixListener, UnixStream};
 use std::path::Path;
-use std::sync::Arc;
 use std::sync::atomic::{AtomicUsize, Ordering::Relaxed};
 use std::sync::mpsc::{Receiver, RecvTimeoutError, Sender, channel};
+use std::sync::{Arc, Mutex, MutexGuard, PoisonError};
 use std::thread::{self, Thread};
-use std::time::Duration;
+use std::time::{Duration, Instant};
 
 use nix::sys::socket::{getsockopt, setsockopt, sockopt};
 use nix::sys::stat::{Mode, umask};
 
 use crate::clock::Counter;
+use crate::http::are_one;
 use crate::inputs::{AGAIN, Seldom};
 use crate::losses::Moment;
 use crate::settings::Settings;
-use crate::{info, udp};
+use crate::standing::Shared;
+use crate::{info, udp, warning};
 
 /// Where a command came from: some are for the socket alone.
 #[derive(Clone, Copy, Debug, PartialEq, Eq)]
 pub enum Origin {
     Socket,
-    Tcp,
-    Metrics,
+    /// over TCP, and whether the token was given there
+    Tcp {
+        has_token: bool,
+    },
+    /// a page, which gives the token with each command
+    Page,
 }
 
 pub struct Command {
@@ -52,18 +58,20 @@ pub struct Asking {
     owner: Thread,
     counter: Counter,
     moment: Moment,
+    shared: Arc<Shared>,
 }
 
 impl Asking {
-    pub fn new(to: Sender<Command>, owner: Thread, counter: Counter, moment: Moment) -> Asking {
-        Asking { to, owner, counter, moment }
+    pub fn new(to: Sender<Command>, owner: Thread, counter: Counter, moment: Moment, shared: Arc<Shared>) -> Asking {
+        Asking { to, owner, counter, moment, shared }
     }
 
     pub fn ask(&self, line: &str, origin: Origin, by: &str) -> Option<Reply> {
         let ((reply, answer), count) = (channel(), self.counter.count());
         // the recorder's thread may be busy with the disk: what comes meanwhile is after the stop
         let word = line.split_whitespace().next().unwrap_or("");
-        if word.eq_ignore_ascii_case(".STOP") || word.eq_ignore_ascii_case(".SHUTDOWN") && origin == Origin::Socket {
+        let may_stop = origin != (Origin::Tcp { has_token: false });
+        if word.eq_ignore_ascii_case(".STOP") && may_stop || word.eq_ignore_ascii_case(".SHUTDOWN") && origin == Origin::Socket {
             self.moment.set(count);
         }
         self.to.send(Command { line: line.to_string(), origin, by: by.to_string(), count, reply }).ok()?;
@@ -79,6 +87,12 @@ impl Asking {
 
 /// How many may be connected at a time to the socket, and as many over TCP: so these cannot shut out those.
 const MOST: usize = 32;
+/// Who follows nothing and gave no whole line for so long gives its place to the next one, where all are taken.
+const SILENT: Duration = Duration::from_secs(10);
+/// How many may follow or replay on one of them: one place is always left for a command.
+const FOLLOWERS: usize = MOST - 1;
+/// Who gives a wrong token waits so long.
+const WRONG: Duration = Duration::from_millis(500);
 /// After so many seconds of silence the other side of a TCP connection is asked whether it is still there.
 const KEEPALIVE: u32 = 60;
 /// Until it answers it is asked again after so many seconds, and so many times in all. Then the connection fails.
@@ -89,6 +103,8 @@ const LONGEST: u64 = 4096;
 trait Connection: Read + Write + Send + Sized + 'static {
     fn copy(&self) -> io::Result<Self>;
     fn limit(&self, read: Option<Duration>, write: Option<Duration>) -> io::Result<()>;
+    /// Ends it, whoever reads or writes.
+    fn end(&self);
     /// Who is at the other side: a process of this machine, or an address.
     fn who(&self) -> String;
 }
@@ -100,6 +116,9 @@ impl Connection for UnixStream {
     fn limit(&self, read: Option<Duration>, write: Option<Duration>) -> io::Result<()> {
         self.set_read_timeout(read)?;
         self.set_write_timeout(write)
+    }
+    fn end(&self) {
+        let _ = self.shutdown(Shutdown::Both);
     }
     fn who(&self) -> String {
         match getsockopt(self.as_raw_fd(), sockopt::PeerCredentials) {
@@ -116,6 +135,9 @@ impl Connection for TcpStream {
     fn limit(&self, read: Option<Duration>, write: Option<Duration>) -> io::Result<()> {
         self.set_read_timeout(read)?;
         self.set_write_timeout(write)
+    }
+    fn end(&self) {
+        let _ = self.shutdown(Shutdown::Both);
     }
     fn who(&self) -> String {
         self.peer_addr().map_or_else(|it| format!("nobody knows: {it}"), |it| it.to_string())
@@ -166,21 +188,21 @@ pub fn start(settings: &Settings, asking: &Asking) -> io::Result<()> {
     let listener = bind(path).map_err(failed)?;
     let asking_here = asking.clone();
     thread::Builder::new().name("control".to_string()).spawn(move || {
-        let open = Arc::new(AtomicUsize::new(0));
+        let places = Places::default();
         for stream in connected(listener.incoming()) {
-            connect(stream, Origin::Socket, &asking_here, &open);
+            connect(stream, Origin::Socket, &asking_here, &places, None);
         }
     })?;
     let Some(address) = settings.tcp else { return Ok(()) };
-    let (asking, peers) = (asking.clone(), settings.peers.clone());
+    let (asking, peers, token) = (asking.clone(), settings.peers.clone(), settings.token.clone());
     listen("control tcp", &format!("control.tcp = \"{address}\""), address, move |listener| {
         info!("control: listens on TCP {address}");
-        let (open, mut strangers) = (Arc::new(AtomicUsize::new(0)), Seldom::default());
+        let (places, mut strangers) = (Places::default(), Seldom::default());
         for stream in connected(listener.incoming()) {
             match stream.peer_addr() {
                 Ok(peer) if is_welcome(peer.ip(), &peers) => {
                     let _ = ask_in_silence(&stream);
-                    connect(stream, Origin::Tcp, &asking, &open);
+                    connect(stream, Origin::Tcp { has_token: false }, &asking, &places, token.as_ref());
                 }
                 Ok(peer) => strangers.warn(|| format!("control: {peer} is not one of control.peers, and is not heard")),
                 Err(_) => (),
@@ -204,30 +226,96 @@ pub fn listen(name: &str, what: &str, address: SocketAddr, serve: impl FnOnce(Tc
     Ok(())
 }
 
-fn is_welcome(peer: IpAddr, peers: &[IpAddr]) -> bool {
+/// Whether an address is heard: one of the list, or of this machine where there is none.
+pub fn is_welcome(peer: IpAddr, peers: &[IpAddr]) -> bool {
     let peer = peer.to_canonical();
     if peers.is_empty() { peer.is_loopback() } else { peers.contains(&peer) }
 }
 
-fn connect<S: Connection>(stream: S, origin: Origin, asking: &Asking, open: &Arc<AtomicUsize>) {
-    if open.fetch_add(1, Relaxed) >= MOST {
-        open.fetch_sub(1, Relaxed);
-        let mut stream = stream;
-        let _ = stream.write_all(b"E 05 COMMAND FAILED: too many are connected; close another connection first\n*\n");
-        return;
+/// A client's place.
+struct Place {
+    number: u64,
+    /// when its last whole line came, or it connected
+    line: Instant,
+    /// whether it follows or replays
+    follows: bool,
+    end: Box<dyn Fn() + Send>,
+}
+
+/// The places of one way in.
+#[derive(Clone, Default)]
+struct Places(Arc<Mutex<(u64, Vec<Place>)>>);
+
+impl Places {
+    fn held(&self) -> MutexGuard<'_, (u64, Vec<Place>)> {
+        self.0.lock().unwrap_or_else(PoisonError::into_inner)
     }
-    let (asking, counted) = (asking.clone(), open.clone());
-    let started = thread::Builder::new().name("client".to_string()).spawn(move || {
-        let _ = serve(stream, origin, &asking);
-        counted.fetch_sub(1, Relaxed);
-    });
-    if started.is_err() {
-        open.fetch_sub(1, Relaxed);
+
+    /// A place for one that comes, where there is one: its number. One that is silent has to give up its own, the oldest first.
+    fn take(&self, end: impl Fn() + Send + 'static, silent: Duration) -> Option<u64> {
+        let mut held = self.held();
+        if held.1.len() >= MOST {
+            let is_silent = |it: &&Place| !it.follows && it.line.elapsed() >= silent;
+            let number = held.1.iter().filter(is_silent).min_by_key(|it| it.line)?.number;
+            let at = held.1.iter().position(|it| it.number == number)?;
+            let gone = held.1.swap_remove(at);
+            (gone.end)();
+        }
+        held.0 += 1;
+        let number = held.0;
+        held.1.push(Place { number, line: Instant::now(), follows: false, end: Box::new(end) });
+        Some(number)
+    }
+
+    fn leave(&self, number: u64) {
+        self.held().1.retain(|it| it.number != number);
+    }
+
+    /// A whole line came.
+    fn heard(&self, number: u64) {
+        self.held().1.iter_mut().filter(|it| it.number == number).for_each(|it| it.line = Instant::now());
+    }
+
+    /// It begins to follow, or ends. False where too many follow.
+    fn follows(&self, number: u64, follows: bool) -> bool {
+        let mut held = self.held();
+        if follows && held.1.iter().filter(|it| it.follows).count() >= FOLLOWERS {
+            return false;
+        }
+        held.1.iter_mut().filter(|it| it.number == number).for_each(|it| (it.follows, it.line) = (follows, Instant::now()));
+        true
     }
 }
 
+fn connect<S: Connection>(stream: S, origin: Origin, asking: &Asking, places: &Places, token: Option<&String>) {
+    let number = match stream.copy() {
+        Ok(copy) => places.take(move || copy.end(), SILENT),
+        Err(_) => return,
+    };
+    let Some(number) = number else {
+        let mut stream = stream;
+        let _ = stream.write_all(b"E 05 COMMAND FAILED: too many are connected; close another connection first\n*\n");
+        return;
+    };
+    let (asking, kept, token) = (asking.clone(), places.clone(), token.cloned());
+    let started = thread::Builder::new().name("client".to_string()).spawn(move || {
+        let at = At { places: &kept, number };
+        let _ = serve(stream, origin, &asking, &at, token.as_deref());
+        kept.leave(number);
+    });
+    if started.is_err() {
+        places.leave(number);
+    }
+}
+
+/// A client's place among the others.
+struct At<'a> {
+    places: &'a Places,
+    number: u64,
+}
+
 /// Answers a client's lines until it goes.
-fn serve<S: Connection>(mut to: S, origin: Origin, asking: &Asking) -> io::Result<()> {
+fn serve<S: Connection>(mut to: S, mut origin: Origin, asking: &Asking, at: &At, token: Option<&str>) -> io::Result<()> {
     let slow = Some(Duration::from_mins(1));
     to.limit(None, slow)?;
     let (mut from, by) = (BufReader::new(to.copy()?), to.who());
@@ -244,16 +332,57 @@ fn serve<S: Connection>(mut to: S, origin: Origin, asking: &Asking) -> io::Resul
         let text = String::from_utf8_lossy(&line);
         let text = text.trim();
         // a page in a browser of this machine can send what begins otherwise, with commands in the lines after it
-        if origin == Origin::Tcp && !text.is_empty() && !text.starts_with('.') {
+        at.places.heard(at.number);
+        if matches!(origin, Origin::Tcp { .. }) && !text.is_empty() && !text.starts_with('.') {
             to.write_all(b"E 00 INVALID COMMAND: over TCP a command begins with a dot; the connection ends\n*\n")?;
             return Ok(());
         }
-        match asking.ask(text, origin, &by) {
+        let word = text.split_whitespace().next().unwrap_or("").to_ascii_uppercase();
+        if word == ".TOKEN" {
+            let given = text.get(word.len()..).unwrap_or("").trim();
+            match token {
+                // (the socket's mode says who may use it)
+                _ if origin == Origin::Socket => {
+                    to.write_all(
+                        b"E 02 INVALID MODE: over the socket no token is wanted: its file's mode says who may use it\n*\n",
+                    )?;
+                }
+                Some(it) if are_one(it, given) => {
+                    origin = Origin::Tcp { has_token: true };
+                    to.write_all(b"*\n")?;
+                }
+                _ => {
+                    warning!("control: {by} gave a wrong token");
+                    thread::sleep(WRONG);
+                    to.write_all(
+                        b"E 01 INVALID PARAMETER: that is not the token: it is in the file that control.token names\n*\n",
+                    )?;
+                }
+            }
+            continue;
+        }
+        // (who looks on does not wait for the disk)
+        if word == ".STANDING" && text.len() == word.len() {
+            let mut value = asking.shared.value();
+            value["log"] = crate::log::last(20).into();
+            to.write_all(format!("{value}\n*\n").as_bytes())?;
+            continue;
+        }
+        if matches!(word.as_str(), ".FOLLOW" | ".REPLAY") && !at.places.follows(at.number, true) {
+            to.write_all(b"E 05 COMMAND FAILED: too many follow or replay; one place is left for commands\n*\n")?;
+            continue;
+        }
+        let answer = asking.ask(text, origin, &by);
+        if !matches!(answer, Some(Reply::Stream(..))) {
+            at.places.follows(at.number, false);
+        }
+        match answer {
             None => return Ok(()),
             Some(Reply::Text(text)) => to.write_all(format!("{text}*\n").as_bytes())?,
             Some(Reply::Stream(chunks, queued)) => {
                 to.limit(Some(Duration::from_millis(1)), slow)?;
                 stream(&mut to, &mut from, &chunks, &queued, asking)?;
+                at.places.follows(at.number, false);
                 to.limit(None, slow)?;
                 to.write_all(b"*\n")?;
             }
@@ -312,6 +441,36 @@ mod tests {
         assert_eq!(getsockopt(fd, sockopt::TcpKeepIdle).unwrap(), 60);
         assert_eq!(getsockopt(fd, sockopt::TcpKeepInterval).unwrap(), 10);
         assert_eq!(getsockopt(fd, sockopt::TcpKeepCount).unwrap(), 6);
+    }
+
+    /// Where all places are taken, one that was silent for long gives up its own, and one that follows does not.
+    #[test]
+    fn places_go_from_the_silent_to_the_next() {
+        let (places, gone) = (Places::default(), Arc::new(AtomicUsize::new(0)));
+        let end = || {
+            let gone = gone.clone();
+            move || {
+                gone.fetch_add(1, Relaxed);
+            }
+        };
+        let taken: Vec<_> = (0..MOST).map(|_| places.take(end(), SILENT).unwrap()).collect();
+        assert_eq!((places.take(end(), SILENT), gone.load(Relaxed)), (None, 0));
+        thread::sleep(Duration::from_millis(20));
+        for it in &taken[1..] {
+            places.heard(*it);
+        }
+        assert!(places.take(end(), Duration::from_millis(20)).is_some());
+        assert_eq!((gone.load(Relaxed), places.held().1.len()), (1, MOST));
+        // those who follow stay, and one of all places is never theirs
+        for it in &taken[1..] {
+            assert!(places.follows(*it, true));
+        }
+        assert!(!places.follows(taken[0] + 100, true));
+        thread::sleep(Duration::from_millis(20));
+        let last = places.take(end(), Duration::from_millis(20)).unwrap();
+        assert_eq!(gone.load(Relaxed), 2);
+        places.leave(last);
+        assert!(places.take(end(), SILENT).is_some());
     }
 
     #[test]

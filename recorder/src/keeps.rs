@@ -57,6 +57,12 @@ impl Current {
         self.noted.push_back(event);
     }
 
+    /// Number, time and text of the last ones.
+    pub fn last_events(&self, count: usize) -> Vec<(u16, String, String)> {
+        let from = self.noted.len().saturating_sub(count);
+        self.noted.iter().skip(from).map(Noted::shown).collect()
+    }
+
     pub fn last_event(&mut self) -> Option<&mut Noted> {
         self.noted.back_mut()
     }

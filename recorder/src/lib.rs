@@ -5,9 +5,12 @@
 #![forbid(unsafe_code)]
 
 pub mod acknowledge;
+pub mod alarms;
+pub mod bit;
 pub mod bodies;
 pub mod chapter10;
 pub mod chapter6;
+pub mod client;
 pub mod clock;
 pub mod clock_programs;
 pub mod clock_state;
@@ -16,7 +19,9 @@ pub mod dates;
 pub mod entries;
 pub mod feed;
 pub mod figures;
+pub mod group;
 pub mod header;
+pub mod http;
 pub mod inputs;
 pub mod keeps;
 pub mod kinds;
@@ -27,6 +32,7 @@ pub mod medium;
 pub mod metrics;
 pub mod notes;
 pub mod owner;
+pub mod page;
 pub mod pipe;
 pub mod readers;
 pub mod recording;
@@ -35,6 +41,7 @@ pub mod serial;
 pub mod settings;
 pub mod setup_text;
 pub mod stamps;
+pub mod standing;
 pub mod stop;
 pub mod udp;
 pub mod watchdog;

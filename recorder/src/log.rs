@@ -2,10 +2,11 @@
 //!
 //! A thread of its own writes the lines: a terminal that is held, or a program that does not read them, holds up nothing else. What
 //! does not fit the queue is left out, and counted.
+use std::collections::VecDeque;
 use std::io::Write;
-use std::sync::OnceLock;
 use std::sync::atomic::{AtomicU64, Ordering::SeqCst};
 use std::sync::mpsc::{Receiver, SyncSender, sync_channel};
+use std::sync::{Mutex, OnceLock, PoisonError};
 use std::time::{Duration, Instant};
 
 use nix::sys::stat::fstat;
@@ -20,6 +21,29 @@ const PATIENCE: Duration = Duration::from_millis(500);
 /// Lines that wait, and lines that had no place.
 static WAITING: AtomicU64 = AtomicU64::new(0);
 static LEFT_OUT: AtomicU64 = AtomicU64::new(0);
+
+/// The last lines, for a page.
+static LAST: Mutex<VecDeque<String>> = Mutex::new(VecDeque::new());
+const KEPT: usize = 100;
+
+/// The last lines of the log, so many of them, the last one last.
+pub fn last(count: usize) -> Vec<String> {
+    let lines = LAST.lock().unwrap_or_else(PoisonError::into_inner);
+    lines.iter().skip(lines.len().saturating_sub(count)).cloned().collect()
+}
+
+/// How many lines nobody took, and that are not made known yet.
+pub fn left_out() -> u64 {
+    LEFT_OUT.load(SeqCst)
+}
+
+fn keep(line: String) {
+    let mut lines = LAST.lock().unwrap_or_else(PoisonError::into_inner);
+    if lines.len() >= KEPT {
+        lines.pop_front();
+    }
+    lines.push_back(line);
+}
 
 #[derive(Clone, Copy, Debug, PartialEq, Eq)]
 pub enum Level {
@@ -48,11 +72,9 @@ pub fn write(level: Level, text: &str) {
     };
     // a line has no ends of lines in it
     let text: String = text.chars().map(|it| if it.is_control() { ' ' } else { it }).collect();
-    let line = if is_journal() {
-        format!("<{number}>{text}\n")
-    } else {
-        format!("{}Z {name}: {text}\n", clock::text(&clock::civil(time::OffsetDateTime::now_utc())))
-    };
+    let plain = format!("{}Z {name}: {text}", clock::text(&clock::civil(time::OffsetDateTime::now_utc())));
+    let line = if is_journal() { format!("<{number}>{text}\n") } else { format!("{plain}\n") };
+    keep(plain);
     WAITING.fetch_add(1, SeqCst);
     if queue().is_none_or(|it| it.try_send(line).is_err()) {
         WAITING.fetch_sub(1, SeqCst);

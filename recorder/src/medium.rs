@@ -3,10 +3,13 @@
 use std::fs::{self, File, OpenOptions};
 use std::io;
 use std::ops::Range;
+use std::os::fd::AsRawFd;
 use std::os::unix::fs::{FileExt, FileTypeExt, MetadataExt};
 use std::path::{Path, PathBuf};
 use std::time::{Duration, Instant};
 
+use nix::errno::Errno;
+use nix::fcntl::PosixFadviseAdvice;
 use nix::sys::stat::{major, minor};
 use r10::{Disk, Error, Recorder, Region};
 
@@ -122,6 +125,10 @@ impl Medium {
             )),
             io::ErrorKind::InvalidData => Refusal::Wrong(format!(
                 "the medium {0} cannot be made: it is made under the name {0}.new, and there is another file of that name; move it away",
+                self.name()
+            )),
+            _ if error.raw_os_error() == Some(Errno::ELOOP as i32) => Refusal::Wrong(format!(
+                "the medium {0} cannot be made: it is made under the name {0}.new, and that is a link; take it away",
                 self.name()
             )),
             _ => Refusal::Wrong(format!(
@@ -241,21 +248,54 @@ impl Medium {
         ))
     }
 
+    /// The bytes of a sector of the disk, where the system knows them.
+    pub fn sector(&self) -> Option<u32> {
+        self.of_disk("physical_block_size")?.parse().ok()
+    }
+
+    /// What the system says of the disk's queue.
+    fn of_disk(&self, key: &str) -> Option<String> {
+        let found = fs::metadata(&self.path).ok()?;
+        let device = if found.file_type().is_block_device() { found.rdev() } else { found.dev() };
+        ["", "../"]
+            .iter()
+            .find_map(|up| fs::read_to_string(format!("/sys/dev/block/{}:{}/{up}queue/{key}", major(device), minor(device))).ok())
+            .map(|it| it.trim().to_string())
+    }
+
+    /// Writes other bytes to the last whole sector from a byte on, syncs, reads them, and writes back what was there: where it is, and
+    /// how long the slower sync took. None where no whole sector is free. Only for a medium on which nothing is recorded.
+    pub fn try_last_sector(&self, from: u64, sector: u64) -> io::Result<Option<(u64, Duration)>> {
+        let end = self.blocks as u64 * 512;
+        let Some(at) = (end / sector * sector).checked_sub(sector).filter(|at| *at >= from && *at >= 512) else { return Ok(None) };
+        let file = OpenOptions::new().read(true).write(true).open(&self.path)?;
+        let mut before = vec![0; sector as usize];
+        file.read_exact_at(&mut before, at)?;
+        let other: Vec<u8> = before.iter().map(|it| !it).collect();
+        let mut longest = Duration::ZERO;
+        let mut write = |bytes: &[u8]| -> io::Result<()> {
+            file.write_all_at(bytes, at)?;
+            let start = Instant::now();
+            file.sync_data()?;
+            longest = longest.max(start.elapsed());
+            // (what was read before is not what the disk has)
+            let _ = nix::fcntl::posix_fadvise(file.as_raw_fd(), at as i64, sector as i64, PosixFadviseAdvice::POSIX_FADV_DONTNEED);
+            let mut found = vec![0; bytes.len()];
+            file.read_exact_at(&mut found, at)?;
+            if found == bytes { Ok(()) } else { Err(io::Error::other("it reads otherwise than it was written")) }
+        };
+        let tried = write(&other);
+        // what was there comes back, also where that failed
+        let back = write(&before);
+        tried.and(back).map(|()| Some((at, longest)))
+    }
+
     /// Says what the disk is like: the size of its sectors, its cache, its free room.
     pub fn describe(&self) {
         let Ok(found) = fs::metadata(&self.path) else { return };
         let is_device = found.file_type().is_block_device();
-        let device = if is_device { found.rdev() } else { found.dev() };
-        let of_disk = |key: &str| {
-            ["", "../"]
-                .iter()
-                .find_map(|up| {
-                    fs::read_to_string(format!("/sys/dev/block/{}:{}/{up}queue/{key}", major(device), minor(device))).ok()
-                })
-                .map(|it| it.trim().to_string())
-        };
-        let sector = of_disk("physical_block_size").and_then(|it| it.parse::<u32>().ok());
-        let cache = of_disk("write_cache").unwrap_or_else(|| "not known".to_string());
+        let sector = self.sector();
+        let cache = self.of_disk("write_cache").unwrap_or_else(|| "not known".to_string());
         let room = nix::sys::statvfs::statvfs(&self.path).map(|it| (it.blocks_available() * it.fragment_size()) >> 20);
         info!(
             "medium {}: {} of {} MiB, sectors of {}, the disk's cache is {cache}{}",

@@ -1,68 +1,48 @@
-//! Metrics in the text form that Prometheus reads, at a local port.
-use std::fmt::Write as _;
-use std::io::{self, Read, Write};
-use std::net::{SocketAddr, TcpStream};
+//! Metrics in the text form that Prometheus reads, at a port: made by the crate `prometheus` out of what the recorder's thread put up,
+//! so that who asks does not wait for the disk.
+use std::io;
+use std::net::{IpAddr, SocketAddr};
 use std::sync::Arc;
-use std::sync::atomic::{AtomicUsize, Ordering::Relaxed};
-use std::thread;
-use std::time::Duration;
 
+use prometheus::core::Collector;
+use prometheus::{CounterVec, GaugeVec, Opts, Registry, TEXT_FORMAT, TextEncoder};
 use serde_json::Value;
 
-use crate::control::{self, Asking, Origin, Reply, connected};
-use crate::info;
+use crate::alarms::Kind;
+use crate::standing::Shared;
+use crate::{figures, http};
 
-/// How many may ask at a time: one that connects and asks nothing has a place for two seconds.
+/// How many may ask at a time.
 const MOST: usize = 16;
 
-pub fn start(address: SocketAddr, asking: Asking) -> io::Result<()> {
-    control::listen("metrics", &format!("metrics = \"{address}\""), address, move |listener| {
-        info!("metrics: at http://{address}/metrics");
-        let open = Arc::new(AtomicUsize::new(0));
-        for stream in connected(listener.incoming()) {
-            // (where there are too many, or no thread can be had, the connection ends)
-            if open.fetch_add(1, Relaxed) >= MOST {
-                open.fetch_sub(1, Relaxed);
-                continue;
-            }
-            let (asking, counted) = (asking.clone(), open.clone());
-            let started = thread::Builder::new().name("metrics client".to_string()).spawn(move || {
-                let _ = answer(stream, &asking);
-                counted.fetch_sub(1, Relaxed);
-            });
-            if started.is_err() {
-                open.fetch_sub(1, Relaxed);
-            }
+pub fn start(address: SocketAddr, peers: &[IpAddr], shared: Arc<Shared>) -> io::Result<()> {
+    http::serve("metrics", address, peers, MOST, move |_, to| {
+        let mut value = shared.value();
+        value["memory_kib"] = figures::own_memory().into();
+        match of(&value) {
+            Ok(text) => http::answer(to, "200 OK", TEXT_FORMAT, "", &text),
+            Err(error) => http::say(to, "500 Internal Server Error", &error.to_string()),
         }
     })
 }
 
-/// Whatever is asked, the answer is the same: so the request is read, as far as it comes at once and fits, and not looked at.
-fn answer(mut stream: TcpStream, asking: &Asking) -> io::Result<()> {
-    let wait = Some(Duration::from_secs(2));
-    stream.set_read_timeout(wait)?;
-    stream.set_write_timeout(wait)?;
-    if stream.read(&mut [0; 4096])? == 0 {
-        return Ok(());
-    }
-    let text = match asking.ask(".FIGURES", Origin::Metrics, "metrics") {
-        Some(Reply::Text(text)) => serde_json::from_str(&text).map(|it| of(&it)).unwrap_or_default(),
-        _ => String::new(),
-    };
-    let head = format!("HTTP/1.0 200 OK\r\nContent-Type: text/plain; version=0.0.4\r\nContent-Length: {}\r\n\r\n", text.len());
-    stream.write_all(format!("{head}{text}").as_bytes())
+/// Whether a metric only grows.
+#[derive(Clone, Copy, PartialEq, Eq)]
+enum Is {
+    Counter,
+    Gauge,
 }
 
-const WHOLE: [(&str, &str, &str, &str); 9] = [
-    ("files", "files", "gauge", "Files on the medium."),
-    ("free", "free_bytes", "gauge", "Bytes of the medium that no file has."),
-    ("commits", "commits_total", "counter", "Commits."),
-    ("failures", "disk_failures_total", "counter", "Failures of the disk."),
-    ("clock_steps", "clock_steps_total", "counter", "Steps of the system's clock."),
-    ("queued_bytes", "queued_bytes", "gauge", "Bytes that wait between inputs and recorder."),
-    ("datagrams_out", "datagrams_out_total", "counter", "Datagrams sent live."),
-    ("datagrams_dropped", "datagrams_dropped_total", "counter", "Live datagrams that the system did not take."),
-    ("memory_kib", "memory_kibibytes", "gauge", "Memory of the service's own."),
+const WHOLE: [(&str, &str, Is, &str); 9] = [
+    ("files", "files", Is::Gauge, "Files on the medium."),
+    ("free", "free_bytes", Is::Gauge, "Bytes of the medium that no file has, or that are left for the one that is recorded."),
+    ("commits", "commits_total", Is::Counter, "Commits."),
+    ("failures", "disk_failures_total", Is::Counter, "Failures of the disk."),
+    ("clock_steps", "clock_steps_total", Is::Counter, "Steps of the system's clock."),
+    ("queued_bytes", "queued_bytes", Is::Gauge, "Bytes that wait between inputs and recorder."),
+    ("datagrams_out", "datagrams_out_total", Is::Counter, "Datagrams sent live."),
+    ("datagrams_dropped", "datagrams_dropped_total", Is::Counter, "Live datagrams that the system did not take."),
+    ("memory_kib", "memory_kibibytes", Is::Gauge, "Memory of the service's own."),
 ];
 
 const OF_CHANNELS: [(&str, &str, &str); 11] = [
@@ -79,51 +59,108 @@ const OF_CHANNELS: [(&str, &str, &str); 11] = [
     ("late", "late_total", "Messages that came after a later one of their source."),
 ];
 
-/// The metrics of the figures.
-fn of(figures: &Value) -> String {
-    let mut out = String::new();
-    let recording = u8::from(figures["state"] == "recording");
-    let _ =
-        writeln!(out, "# HELP r10_recording Whether a file is recorded.\n# TYPE r10_recording gauge\nr10_recording {recording}");
-    for (key, name, kind, help) in WHOLE {
-        let _ =
-            writeln!(out, "# HELP r10_{name} {help}\n# TYPE r10_{name} {kind}\nr10_{name} {}", figures[key].as_u64().unwrap_or(0));
+/// Registers a metric with its values, each with its labels.
+fn add(
+    registry: &Registry,
+    name: &str,
+    help: &str,
+    is: Is,
+    labels: &[&str],
+    values: &[(Vec<String>, f64)],
+) -> prometheus::Result<()> {
+    let opts = Opts::new(format!("r10_{name}"), help);
+    let of = |it: &[String]| it.to_vec();
+    let metric: Box<dyn Collector> = match is {
+        Is::Counter => {
+            let metric = CounterVec::new(opts, labels)?;
+            for (with, value) in values {
+                let with = of(with);
+                metric.get_metric_with_label_values(&with.iter().map(String::as_str).collect::<Vec<_>>())?.inc_by(*value);
+            }
+            Box::new(metric)
+        }
+        Is::Gauge => {
+            let metric = GaugeVec::new(opts, labels)?;
+            for (with, value) in values {
+                let with = of(with);
+                metric.get_metric_with_label_values(&with.iter().map(String::as_str).collect::<Vec<_>>())?.set(*value);
+            }
+            Box::new(metric)
+        }
+    };
+    registry.register(metric)
+}
+
+/// The metrics of how the recorder stands.
+fn of(value: &Value) -> prometheus::Result<String> {
+    let registry = Registry::new();
+    let one = |name: &str, help: &str, is: Is, value: f64| add(&registry, name, help, is, &[], &[(Vec::new(), value)]);
+    let number = |it: &Value| it.as_f64().unwrap_or(0.0);
+    one("recording", "Whether a file is recorded.", Is::Gauge, f64::from(u8::from(value["state"] == "recording")))?;
+    for (key, name, is, help) in WHOLE {
+        one(name, help, is, number(&value[key]))?;
     }
-    out += &of_clock(&figures["clock"]);
-    for (key, name, help) in OF_CHANNELS {
-        let _ = writeln!(out, "# HELP r10_{name} {help}\n# TYPE r10_{name} counter");
-        for channel in figures["channels"].as_array().map_or(&[][..], Vec::as_slice) {
-            // a name is the settings' own text, so what would end it is taken out
-            let label: String =
-                channel["name"].as_str().unwrap_or("").chars().filter(|it| !it.is_control() && !"\"\\".contains(*it)).collect();
-            let _ = writeln!(
-                out,
-                "r10_{name}{{channel=\"{}\",name=\"{label}\"}} {}",
-                channel["id"],
-                channel[key].as_u64().unwrap_or(0)
-            );
+    one("commit_age_seconds", "How long ago the last commit was.", Is::Gauge, number(&value["commit_age_ms"]) / 1e3)?;
+    one(
+        "standing_age_seconds",
+        "How old these figures are: the disk holds them up.",
+        Is::Gauge,
+        number(&value["standing_age_ms"]) / 1e3,
+    )?;
+    for (name, help, found) in of_clock(&value["clock"]) {
+        if let Some(found) = found {
+            one(name, help, Is::Gauge, found)?;
         }
     }
-    out
+    let channels = value["channels"].as_array().map_or(&[][..], Vec::as_slice);
+    let labels = |it: &Value| vec![it["id"].to_string(), it["name"].as_str().unwrap_or("").to_string()];
+    for (key, name, help) in OF_CHANNELS {
+        let values: Vec<_> = channels.iter().map(|it| (labels(it), number(&it[key]))).collect();
+        add(&registry, name, help, Is::Counter, &["channel", "name"], &values)?;
+    }
+    let ages = channels.iter().filter_map(|it| Some((labels(it), it["last"]["age_ms"].as_f64()? / 1e3)));
+    let help = "How long ago the last message came.";
+    add(&registry, "last_message_age_seconds", help, Is::Gauge, &["channel", "name"], &ages.collect::<Vec<_>>())?;
+    let mut causes = Vec::new();
+    for it in channels {
+        for (cause, count) in it["lost_by"].as_object().into_iter().flatten() {
+            causes.push(([labels(it), vec![cause.clone()]].concat(), number(count)));
+        }
+    }
+    let help = "Messages that were lost, by cause.";
+    add(&registry, "lost_by_cause_total", help, Is::Counter, &["channel", "name", "cause"], &causes)?;
+    let help = "Whether an alarm is on: of a channel, or of the recorder, which has none.";
+    add(&registry, "alarm", help, Is::Gauge, &["alarm", "channel"], &alarms(value, channels))?;
+    TextEncoder::new().encode_to_string(&registry.gather())
+}
+
+/// Each alarm that there can be, and whether it is on.
+fn alarms(value: &Value, channels: &[Value]) -> Vec<(Vec<String>, f64)> {
+    let on = value["alarms"].as_array().map_or(&[][..], Vec::as_slice);
+    let mut values = Vec::new();
+    for kind in Kind::ALL {
+        let ids: Vec<Value> =
+            if kind.is_of_channel() { channels.iter().map(|it| it["id"].clone()).collect() } else { vec![Value::Null] };
+        for id in ids {
+            let is_on = on.iter().any(|it| it["alarm"] == kind.name() && it["channel"] == id);
+            let id = if id.is_null() { String::new() } else { id.to_string() };
+            values.push((vec![kind.name().to_string(), id], f64::from(u8::from(is_on))));
+        }
+    }
+    values
 }
 
 /// Of the clock. What is not known has no line.
-fn of_clock(clock: &Value) -> String {
-    let synchronised = clock["synchronised"].as_bool().map(|it| f64::from(u8::from(it)));
-    let mut out = String::new();
-    for (name, help, value) in [
-        ("clock_synchronised", "Whether the system's clock is in sync.", synchronised),
+fn of_clock(clock: &Value) -> [(&'static str, &'static str, Option<f64>); 6] {
+    let flag = |it: &Value| it.as_bool().map(|it| f64::from(u8::from(it)));
+    [
+        ("clock_synchronised", "Whether the system's clock is in sync.", flag(&clock["synchronised"])),
         ("clock_error_seconds", "The most that it is off.", clock["error_ns"].as_f64().map(|it| it / 1e9)),
         ("clock_drift_ppm", "How fast it is steered, in millionths.", clock["drift_ppm"].as_f64()),
         ("clock_last_step_seconds", "Its last step.", clock["last_step_s"].as_f64()),
-        ("clock_pps", "Whether a pulse comes each second.", clock["pps"].as_bool().map(|it| f64::from(u8::from(it)))),
+        ("clock_pps", "Whether a pulse comes each second.", flag(&clock["pps"])),
         ("clock_pps_offset_seconds", "How far the pulse is off.", clock["pps_offset_ns"].as_f64().map(|it| it / 1e9)),
-    ] {
-        if let Some(value) = value {
-            let _ = writeln!(out, "# HELP r10_{name} {help}\n# TYPE r10_{name} gauge\nr10_{name} {value}");
-        }
-    }
-    out
+    ]
 }
 
 #[cfg(test)]
@@ -132,20 +169,27 @@ mod tests {
 
     #[test]
     fn figures_become_lines() {
-        let figures = serde_json::json!({ "state": "recording", "free": 512, "clock": { "synchronised": true,
-        "error_ns": 1500 }, "channels": [{ "id": 5, "name": "GPS \"1\"",
-        "came": 7, "lost": 2 }] });
-        let text = of(&figures);
+        let value = serde_json::json!({ "state": "recording", "free": 512, "commit_age_ms": 1500,
+            "clock": { "synchronised": true, "error_ns": 1500 },
+            "alarms": [{ "alarm": "silent", "channel": 5, "text": "x" }],
+            "channels": [{ "id": 5, "name": "GPS \"1\"\n", "came": 7, "lost": 2, "lost_by": { "disk": 2 }, "last": { "age_ms": 2000 } }] });
+        let text = of(&value).unwrap();
         for line in [
             "r10_recording 1",
             "r10_free_bytes 512",
+            "r10_commit_age_seconds 1.5",
             "r10_clock_synchronised 1",
             "r10_clock_error_seconds 0.0000015",
-            "r10_messages_total{channel=\"5\",name=\"GPS 1\"} 7",
-            "r10_lost_total{channel=\"5\",name=\"GPS 1\"} 2",
+            "r10_messages_total{channel=\"5\",name=\"GPS \\\"1\\\"\\n\"} 7",
+            "r10_lost_total{channel=\"5\",name=\"GPS \\\"1\\\"\\n\"} 2",
+            "r10_lost_by_cause_total{cause=\"disk\",channel=\"5\",name=\"GPS \\\"1\\\"\\n\"} 2",
+            "r10_last_message_age_seconds{channel=\"5\",name=\"GPS \\\"1\\\"\\n\"} 2",
+            "r10_alarm{alarm=\"silent\",channel=\"5\"} 1",
+            "r10_alarm{alarm=\"loss\",channel=\"5\"} 0",
+            "r10_alarm{alarm=\"disk\",channel=\"\"} 0",
         ] {
             assert!(text.lines().any(|it| it == line), "{line} in\n{text}");
         }
-        assert_eq!(text.lines().filter(|it| it.starts_with("# TYPE")).count(), 1 + 2 + WHOLE.len() + OF_CHANNELS.len());
+        assert_eq!(text.lines().filter(|it| it.starts_with("# TYPE")).count(), 1 + 2 + 2 + WHOLE.len() + OF_CHANNELS.len() + 3);
     }
 }

@@ -25,6 +25,7 @@ use crate::notes::{self, Board, Line, Notes};
 use crate::readers::Reader;
 use crate::recording::Ended;
 use crate::settings::{self, Begin, Log, Settings};
+use crate::standing::Shared;
 use crate::stop::{Base, End};
 use crate::words::Point;
 use crate::{warning, watchdog};
@@ -58,6 +59,20 @@ impl fmt::Display for Trouble {
             Trouble::Full(error) => write!(f, "{error}"),
             Trouble::Refused(error) => write!(f, "the recorder refused a call: {error} ({})", error.number()),
             Trouble::Failed(why) => f.write_str(why),
+        }
+    }
+}
+
+impl State {
+    /// In a word.
+    pub fn word(self) -> &'static str {
+        match self {
+            State::Idle => "idle",
+            State::Recording => "recording",
+            State::Full => "full",
+            State::Failed(Some(_)) => "retrying",
+            State::Failed(None) => "failed",
+            State::Dismounted => "dismounted",
         }
     }
 }
@@ -152,7 +167,7 @@ impl Lane {
 /// The log channel, as one of the settings would be.
 fn log_channel(id: u16) -> settings::Channel {
     let (kind, name) = (Kind::Message, notes::NAME.to_string());
-    settings::Channel { id, kind, name, capacity: settings::LOG_CAPACITY, input: None, queue: 0, sub: 0, source: id }
+    settings::Channel { id, kind, name, capacity: settings::LOG_CAPACITY, input: None, queue: 0, sub: 0, source: id, silent: None }
 }
 
 pub struct Owner {
@@ -190,6 +205,17 @@ pub struct Owner {
     pub clock: Keeper,
     pub failures: Failures,
     pub commits: Commits,
+    pub(crate) shared: Arc<Shared>,
+}
+
+/// What ties the recorder's thread to the others.
+pub struct Ties {
+    pub commands: Receiver<Command>,
+    /// the service is to end
+    pub ending: Arc<AtomicBool>,
+    pub board: Board,
+    pub moment: Moment,
+    pub shared: Arc<Shared>,
 }
 
 /// How long batches are taken in before something else has its turn.
@@ -202,15 +228,8 @@ fn is_old(age: Duration, file_for: Duration, has_messages: bool) -> bool {
 }
 
 impl Owner {
-    pub fn new(
-        settings: Settings,
-        counter: Counter,
-        came: Vec<Arc<Came>>,
-        commands: Receiver<Command>,
-        ending: Arc<AtomicBool>,
-        board: Board,
-        moment: Moment,
-    ) -> std::io::Result<Owner> {
+    pub fn new(settings: Settings, counter: Counter, came: Vec<Arc<Came>>, ties: Ties) -> std::io::Result<Owner> {
+        let Ties { commands, ending, board, moment, shared } = ties;
         let mut lanes: Vec<Lane> = settings.channels.iter().zip(came).map(|(it, came)| Lane::new(it.clone(), came)).collect();
         let notes = settings.log.id().map(|id| {
             lanes.push(Lane::new(log_channel(id), Arc::default()));
@@ -228,7 +247,10 @@ impl Owner {
             lanes,
             notes,
             live: Live::new(settings.publish)?,
-            acknowledge: settings.acknowledge.as_deref().map(Acknowledge::open).transpose()?,
+            acknowledge: {
+                let most = settings.acknowledge_most;
+                settings.acknowledge.as_deref().map(|it| Acknowledge::open(it, most)).transpose()?
+            },
             settings,
             counter,
             recorder: None,
@@ -250,6 +272,7 @@ impl Owner {
             wish: Wish::default(),
             failures: Failures::default(),
             commits: Commits::default(),
+            shared,
         })
     }
 
@@ -289,6 +312,7 @@ impl Owner {
         loop {
             let done = self.turn();
             self.mind(done);
+            self.put_up();
             if self.ending.load(Relaxed) {
                 return self.end();
             }
@@ -577,16 +601,10 @@ mod tests {
             );
             let (counter, came) = (Counter::new(), Arc::new(Came::default()));
             let settings = settings::read(&text, &folder).unwrap();
-            let mut owner = Owner::new(
-                settings,
-                counter,
-                vec![came.clone()],
-                channel().1,
-                Arc::default(),
-                Board::new(counter),
-                Moment::default(),
-            )
-            .unwrap();
+            let shared = Shared::new(&settings, std::slice::from_ref(&came));
+            let (commands, board, moment) = (channel().1, Board::new(counter), Moment::default());
+            let ties = Ties { commands, ending: Arc::default(), board, moment, shared };
+            let mut owner = Owner::new(settings, counter, vec![came.clone()], ties).unwrap();
             assert!(!owner.begin().unwrap());
             let (feed, outlet) = feed(std::thread::current(), counter, 1 << 26, &[(0, came)]);
             owner.intake.outlets = vec![outlet];
@@ -624,7 +642,7 @@ mod tests {
                 recorder.advance(cursor).unwrap();
                 while let Some(entry) = recorder.next(cursor).unwrap() {
                     if let r10::Content::Message { bytes, .. } = entry.content {
-                        let text = String::from_utf8(bytes.to_vec()).unwrap();
+                        let text = String::from_utf8(bytes.clone()).unwrap();
                         let words: Vec<&str> = text.splitn(4, ' ').collect();
                         found.extend((words[1] == word).then(|| words[3].to_string()));
                     }

@@ -1,15 +1,14 @@
 //! `r10ctl`: asks and controls a recorder that `r10d` runs. See docs/RECORDER.md.
 #![forbid(unsafe_code)]
-use std::fmt::{self, Write as _};
-use std::io::{self, BufRead, BufReader, IsTerminal, Read, Write};
-use std::net::{TcpStream, ToSocketAddrs};
-use std::os::unix::net::UnixStream;
-use std::path::PathBuf;
+use std::fmt::Write as _;
+use std::io::{self, IsTerminal, Write};
+use std::path::{Path, PathBuf};
 use std::process::ExitCode;
 use std::time::{Duration, Instant};
 
 use clap::Parser;
-use r10_recorder::control::ask_in_silence;
+use r10_recorder::client::{Client, Place, Why};
+use r10_recorder::group::{self, Member};
 use r10_recorder::kinds::Kind;
 use r10_recorder::words::{PATIENCE, WORDS};
 use serde_json::{Value, json};
@@ -22,13 +21,19 @@ use serde_json::{Value, json};
     after_help = words_in_lines()
 )]
 #[command(disable_help_subcommand = true)]
-struct Words {
+struct Given {
     /// The recorder's socket
     #[arg(long, env = "R10_SOCKET", default_value = "/run/r10/control")]
     socket: PathBuf,
     /// An address and a port, for a recorder that listens on TCP: in place of the socket
     #[arg(long)]
     tcp: Option<String>,
+    /// A file with the token that a change over TCP wants
+    #[arg(long, env = "R10_TOKEN_FILE")]
+    token: Option<PathBuf>,
+    /// A file that names the recorders of a group: the word goes to all of them at once
+    #[arg(long, conflicts_with_all = ["tcp", "token"])]
+    all: Option<PathBuf>,
     /// Answers in JSON, one value a line
     #[arg(long)]
     json: bool,
@@ -41,139 +46,17 @@ struct Words {
 fn words_in_lines() -> String {
     let mut out = "Words:\n".to_string();
     let watch = ("watch", "", "draws rates, losses, free room and last messages once a second");
-    for (word, more, text) in WORDS.into_iter().chain([watch]) {
+    let check =
+        ("check", "[SECONDS]", "tries all before a flight, as .BIT does, and draws a table; status 1 where something is not well");
+    for (word, more, text) in WORDS.into_iter().chain([watch, check]) {
         let head = format!("{} {more}", word.trim_start_matches('.').to_ascii_lowercase());
         let _ = writeln!(out, "  {:40}  {text}", head.trim_end());
     }
     out
 }
 
-trait Line: Read + Write {}
-impl Line for UnixStream {}
-impl Line for TcpStream {}
-
-/// How long a machine has to take a connection.
-const CONNECTS: Duration = Duration::from_secs(10);
-
-/// A connection to the first of an address's machines that takes one.
-fn connect_tcp(address: &str) -> io::Result<TcpStream> {
-    let mut last = io::Error::new(io::ErrorKind::InvalidInput, "it names no machine");
-    for it in address.to_socket_addrs()? {
-        match TcpStream::connect_timeout(&it, CONNECTS) {
-            Ok(stream) => {
-                ask_in_silence(&stream)?;
-                return Ok(stream);
-            }
-            Err(error) => last = error,
-        }
-    }
-    Err(last)
-}
-
-/// Why a word got no answer.
-#[derive(Debug, PartialEq, Eq)]
-enum Why {
-    /// the recorder refuses it: its line
-    Refused(String),
-    /// no answer came for so long
-    Silent,
-    /// the recorder went away, or this program cannot go on
-    Ended(String),
-}
-
-impl Why {
-    /// The number of a refusal, as the standard has it.
-    fn number(&self) -> Option<u8> {
-        match self {
-            Why::Refused(line) => line.strip_prefix("E ")?.get(..2)?.parse().ok(),
-            _ => None,
-        }
-    }
-}
-
-impl From<String> for Why {
-    fn from(text: String) -> Why {
-        Why::Ended(text)
-    }
-}
-
-impl fmt::Display for Why {
-    fn fmt(&self, f: &mut fmt::Formatter) -> fmt::Result {
-        match self {
-            Why::Refused(text) | Why::Ended(text) => f.write_str(text),
-            Why::Silent => write!(f, "the recorder did not answer for {} s; see its log", PATIENCE.as_secs()),
-        }
-    }
-}
-
-struct Recorder {
-    line: BufReader<Box<dyn Line>>,
-    /// What came of a line whose end has not come yet.
-    begun: Vec<u8>,
-}
-
-impl Recorder {
-    fn connect(words: &Words) -> Result<Recorder, String> {
-        let line: Box<dyn Line> = if let Some(address) = &words.tcp {
-            let it = connect_tcp(address).map_err(|it| {
-                format!("no recorder at {address}: {it}; is control.tcp set to it, and this machine one of control.peers?")
-            })?;
-            it.set_read_timeout(Some(PATIENCE)).map_err(|it| it.to_string())?;
-            Box::new(it)
-        } else {
-            let path = &words.socket;
-            let it = UnixStream::connect(path).map_err(|it| match it.kind() {
-                io::ErrorKind::PermissionDenied => {
-                    format!("no access to {}: be root, or of the group of the service", path.display())
-                }
-                _ => format!("no recorder at {}: {it}; start r10d, or give --socket", path.display()),
-            })?;
-            it.set_read_timeout(Some(PATIENCE)).map_err(|it| it.to_string())?;
-            Box::new(it)
-        };
-        Ok(Recorder { line: BufReader::new(line), begun: Vec::new() })
-    }
-
-    fn send(&mut self, command: &str) -> Result<(), String> {
-        match self.line.get_mut().write_all(format!("{command}\n").as_bytes()) {
-            // one that has closed the connection may have said why
-            Err(error) if error.kind() == io::ErrorKind::BrokenPipe => Ok(()),
-            other => other.map_err(|it| format!("the recorder went away: {it}; see its log")),
-        }
-    }
-
-    /// The next line of an answer, or none at its end. After an answer that it did not come yet it can be asked for again.
-    fn next(&mut self) -> Result<Option<String>, Why> {
-        match self.line.read_until(b'\n', &mut self.begun) {
-            Ok(_) if !self.begun.ends_with(b"\n") => Err(Why::Ended("the recorder went away; see its log".to_string())),
-            Ok(_) => {
-                let text = String::from_utf8_lossy(&std::mem::take(&mut self.begun)).trim_end_matches('\n').to_string();
-                Ok(if text == "*" { None } else { Some(text) })
-            }
-            Err(error) if error.kind() == io::ErrorKind::WouldBlock => Err(Why::Silent),
-            // (of a connection over TCP whose other side no longer answers the system)
-            Err(error) if error.kind() == io::ErrorKind::TimedOut => {
-                Err(Why::Ended("the recorder's machine no longer answers; has it power, and is its cable in?".to_string()))
-            }
-            Err(error) => Err(Why::Ended(format!("the recorder went away: {error}; see its log"))),
-        }
-    }
-
-    fn ask(&mut self, command: &str) -> Result<Vec<String>, Why> {
-        self.send(command)?;
-        let mut lines = Vec::new();
-        while let Some(line) = self.next()? {
-            lines.push(line);
-        }
-        match lines.first() {
-            Some(line) if line.starts_with("E ") => Err(Why::Refused(line.clone())),
-            _ => Ok(lines),
-        }
-    }
-}
-
 fn main() -> ExitCode {
-    let words = Words::parse();
+    let words = Given::parse();
     match run(&words) {
         Ok(()) => ExitCode::SUCCESS,
         Err(why) => {
@@ -187,16 +70,114 @@ fn main() -> ExitCode {
     }
 }
 
-fn run(words: &Words) -> Result<(), Why> {
+/// The text of a file with a token.
+fn token(path: &Path) -> Result<String, Why> {
+    let text = std::fs::read_to_string(path).map_err(|it| Why::Ended(format!("the token {}: {it}", path.display())))?;
+    Ok(text.trim().to_string())
+}
+
+fn connect(words: &Given) -> Result<Client, Why> {
+    let place = words.tcp.clone().map_or_else(|| Place::Socket(words.socket.clone()), Place::Tcp);
+    let token = words.token.as_deref().map(token).transpose()?;
+    Client::connect(&place, token.as_deref(), PATIENCE)
+}
+
+/// Gives a word to all recorders of a group at once: each is connected first, and then all get it. It ends well where each did it.
+fn all(path: &Path, word: &str, command: &str, as_json: bool) -> Result<(), Why> {
+    if matches!(word, "watch" | "follow" | "replay") {
+        return Err(Why::Ended(format!("{word} is for one recorder; the page of one that has `group` shows all of a group")));
+    }
+    let members = group::read(path)?;
+    let mut failed = Vec::new();
+    for (Member { name, .. }, done) in members.iter().zip(group::ask_all(&members, command, PATIENCE)) {
+        match done {
+            Ok(lines) if as_json => {
+                let values: Vec<Value> = lines.iter().map(|it| of_line(word, it)).collect();
+                print(&format!("{}\n", json!({ "recorder": name, "answer": values })))?;
+            }
+            Ok(lines) if lines.is_empty() => print(&format!("{name}: done\n"))?,
+            Ok(lines) => lines.iter().try_for_each(|it| print(&format!("{name}: {it}\n")))?,
+            Err(why) => {
+                if as_json {
+                    print(&format!("{}\n", json!({ "recorder": name, "error": why.to_string(), "number": why.number() })))?;
+                } else {
+                    let _ = writeln!(io::stderr(), "r10ctl: {name}: {why}");
+                }
+                failed.push(name.as_str());
+            }
+        }
+    }
+    if failed.is_empty() {
+        return Ok(());
+    }
+    Err(Why::Ended(format!("{} of {} recorders did not do it: {}", failed.len(), members.len(), failed.join(", "))))
+}
+
+/// How long channels are waited for before a flight, unless the word says so.
+const HEARD: u64 = 3;
+
+/// Tries a recorder before a flight, and draws a table: what is not well ends it with status 1. Each channel with an input has to be
+/// heard within so many seconds.
+fn check(recorder: &mut Client, rest: &str, as_json: bool) -> Result<(), Why> {
+    let wrong = || Why::Ended(format!("{rest:?} is no time: give seconds, 1 to 3600, or nothing for {HEARD}"));
+    let seconds = if rest.is_empty() { Some(HEARD) } else { rest.parse().ok().filter(|it| (1..=3600).contains(it)) };
+    let seconds = seconds.ok_or_else(wrong)?;
+    let came = |recorder: &mut Client| -> Result<Vec<(u64, bool, u64)>, Why> {
+        let lines = recorder.ask(".FIGURES")?;
+        let value: Value =
+            serde_json::from_str(lines.first().map_or("", String::as_str)).map_err(|it| Why::Ended(it.to_string()))?;
+        let of = |it: &Value| (it["id"].as_u64().unwrap_or(0), it["input"] != "", it["came"].as_u64().unwrap_or(0));
+        Ok(value["channels"].as_array().map_or(&[][..], Vec::as_slice).iter().map(of).collect())
+    };
+    let (before, end) = (came(recorder)?, Instant::now() + Duration::from_secs(seconds));
+    let silent = loop {
+        let now = came(recorder)?;
+        let silent: Vec<u64> = before.iter().zip(&now).filter(|(old, new)| old.1 && old.2 == new.2).map(|it| it.0.0).collect();
+        if silent.is_empty() || Instant::now() >= end {
+            break silent;
+        }
+        std::thread::sleep(Duration::from_millis(100));
+    };
+    let (mut failed, mut text) = (0, String::new());
+    for line in recorder.ask(".BIT")? {
+        let parts: Vec<&str> = line.splitn(4, ' ').collect();
+        let ["BIT", number, is @ ("ok" | "FAILED"), what] = parts.as_slice() else { continue };
+        // what came in this time counts, and not what came before
+        let name = what.split_once(": ").map_or("", |it| it.0);
+        let id = name.strip_prefix("channel ").and_then(|it| it.split(' ').next()?.parse::<u64>().ok());
+        let is_silent = id.is_some_and(|it| silent.contains(&it));
+        let what = if is_silent {
+            format!("{name}: nothing came within {seconds} s; look at its source, its cable and its input in the settings")
+        } else {
+            (*what).to_string()
+        };
+        let is_well = *is == "ok" && !is_silent;
+        failed += usize::from(!is_well);
+        if as_json {
+            let number: u64 = number.parse().unwrap_or(0);
+            let _ = writeln!(text, "{}", json!({ "test": number, "ok": is_well, "text": what }));
+        } else {
+            let _ = writeln!(text, "{:6} {what}", if is_well { "ok" } else { "WRONG" });
+        }
+    }
+    print(&text)?;
+    if failed == 0 { Ok(()) } else { Err(Why::Ended(format!("{failed} of what was tried is not well"))) }
+}
+
+fn run(words: &Given) -> Result<(), Why> {
     // a line is a command: so an end of a line in a word would be a second one
     if let Some(word) = words.words.iter().find(|it| it.contains(char::is_control)) {
         return Err(Why::Ended(format!("{word:?} is no word: it has a control character")));
     }
-    let mut recorder = Recorder::connect(words)?;
     let word = words.words[0].trim_start_matches('.').to_ascii_lowercase();
     let rest = words.words[1..].join(" ");
     let command = format!(".{} {rest}", word.to_ascii_uppercase());
+    if let Some(path) = &words.all {
+        return all(path, &word, command.trim(), words.json);
+    }
+    let mut recorder = connect(words)?;
     match word.as_str() {
+        "check" => return check(&mut recorder, &rest, words.json),
         "watch" => return watch(&mut recorder, words.json),
         "follow" | "replay" => return stream(&mut recorder, command.trim(), words.json),
         _ => (),
@@ -307,14 +288,14 @@ fn of_entry(line: &str) -> Value {
     }
 }
 
-fn stream(recorder: &mut Recorder, command: &str, as_json: bool) -> Result<(), Why> {
+fn stream(recorder: &mut Client, command: &str, as_json: bool) -> Result<(), Why> {
     recorder.send(command)?;
     loop {
-        let line = match recorder.next() {
+        let line = match recorder.line() {
             Ok(Some(line)) => line,
             Ok(None) => return Ok(()),
             // a channel may be silent for long
-            Err(Why::Silent) if command.starts_with(".FOLLOW") => continue,
+            Err(Why::Silent(_)) if command.starts_with(".FOLLOW") => continue,
             Err(why) => return Err(why),
         };
         if line.starts_with("E ") {
@@ -325,7 +306,7 @@ fn stream(recorder: &mut Recorder, command: &str, as_json: bool) -> Result<(), W
 }
 
 /// Draws rates, losses, free room and last messages once a second.
-fn watch(recorder: &mut Recorder, as_json: bool) -> Result<(), Why> {
+fn watch(recorder: &mut Client, as_json: bool) -> Result<(), Why> {
     let mut last: Option<(Instant, Value)> = None;
     loop {
         let lines = recorder.ask(".FIGURES")?;
@@ -442,26 +423,6 @@ mod tests {
         );
         assert_eq!(of_entry("entry 1 7 0 time 2026-11-28 07:14:05.40")["civil"], "2026-11-28 07:14:05.40");
         assert_eq!(of_entry("skipped: x"), json!({ "text": "skipped: x" }));
-    }
-
-    #[test]
-    fn a_line_in_two_parts_is_one() {
-        let (here, mut there) = UnixStream::pair().unwrap();
-        here.set_read_timeout(Some(Duration::from_millis(20))).unwrap();
-        let mut recorder = Recorder { line: BufReader::new(Box::new(here)), begun: Vec::new() };
-        there.write_all(b"entry 5").unwrap();
-        assert_eq!(recorder.next(), Err(Why::Silent));
-        there.write_all(b" 7\n*\nentr").unwrap();
-        assert_eq!(recorder.next(), Ok(Some("entry 5 7".to_string())));
-        assert_eq!(recorder.next(), Ok(None));
-        drop(there);
-        assert!(recorder.next().unwrap_err().to_string().contains("went away"));
-    }
-
-    #[test]
-    fn a_machine_that_is_not_there_is_named() {
-        assert!(connect_tcp("127.0.0.1:1").is_err());
-        assert!(connect_tcp("127.0.0.1").is_err());
     }
 
     #[test]

@@ -1,12 +1,16 @@
 //! `r10d`: the recorder as a service. See docs/RECORDER.md.
 #![forbid(unsafe_code)]
 use std::io::{self, Write};
-use std::path::{Path, PathBuf};
+use std::path::PathBuf;
 use std::process::ExitCode;
 use std::sync::Arc;
-use std::sync::atomic::{AtomicBool, Ordering::Relaxed};
+use std::sync::atomic::{
+    AtomicBool,
+    Ordering::{Relaxed, SeqCst},
+};
 use std::sync::mpsc::channel;
 use std::thread;
+use std::time::Duration;
 
 use clap::Parser;
 use nix::sys::signal::{SigSet, Signal};
@@ -16,10 +20,11 @@ use r10_recorder::feed::Came;
 use r10_recorder::losses::Moment;
 use r10_recorder::medium::{Medium, Refusal};
 use r10_recorder::notes::Board;
-use r10_recorder::owner::Owner;
+use r10_recorder::owner::{Owner, Ties};
 use r10_recorder::settings::{self, Settings};
+use r10_recorder::standing::Shared;
 use r10_recorder::stop::End;
-use r10_recorder::{error, info, inputs, log, metrics, watchdog};
+use r10_recorder::{alarms, error, info, inputs, log, metrics, page, warning, watchdog};
 use signal_hook::consts::signal::{SIGHUP, SIGINT, SIGTERM, SIGXFSZ};
 use signal_hook::iterator::Signals;
 
@@ -28,7 +33,8 @@ use signal_hook::iterator::Signals;
     name = "r10d",
     version,
     about = "Records live inputs as IRIG 106 chapter 10 files on a disk, and can be watched and controlled meanwhile (r10ctl).",
-    after_help = "SIGTERM, SIGINT and SIGHUP end the file, and then the service.
+    after_help = "SIGTERM and SIGINT end the file, and then the service. SIGHUP reads the settings anew: names of channels and alarms are taken,
+and the log says what wants a restart.
 
 Statuses: 0 all went well; 2 the settings are wrong; 3 it cannot start. With 4 it ended while recording was down, or with a
 file that is not closed. With 5 messages came before its end that are in no file."
@@ -51,14 +57,6 @@ const NO_START: u8 = 3;
 const NOT_CLOSED: u8 = 4;
 const LOST: u8 = 5;
 
-fn read(path: &Path) -> Result<Settings, Vec<String>> {
-    let text =
-        std::fs::read_to_string(path).map_err(|it| vec![format!("{}: {it}; give the file with the settings", path.display())])?;
-    let folder = path.parent().map(Path::to_path_buf).unwrap_or_default();
-    let folder = std::path::absolute(if folder.as_os_str().is_empty() { Path::new(".") } else { &folder }).unwrap_or(folder);
-    settings::read(&text, &folder).map_err(|faults| faults.iter().map(|it| format!("{}: {it}", path.display())).collect())
-}
-
 /// Says a line on standard error, if that takes one.
 fn complain(line: &str) {
     let _ = writeln!(io::stderr(), "{line}");
@@ -66,7 +64,7 @@ fn complain(line: &str) {
 
 fn main() -> ExitCode {
     let words = Words::parse();
-    let settings = match read(&words.settings) {
+    let settings = match settings::of_file(&words.settings) {
         Ok(it) => it,
         Err(faults) => {
             faults.iter().for_each(|it| complain(it));
@@ -105,11 +103,36 @@ fn main() -> ExitCode {
     status
 }
 
-/// Whether whoever started the service has it ignore that its terminal goes, as nohup does.
-fn ignores_hangups() -> bool {
-    let status = std::fs::read_to_string("/proc/self/status").unwrap_or_default();
-    let ignored = status.lines().find_map(|it| u64::from_str_radix(it.strip_prefix("SigIgn:")?.trim(), 16).ok());
-    ignored.is_some_and(|it| it >> (SIGHUP - 1) & 1 == 1)
+/// How often it is looked whether the settings are to be read anew.
+const LOOKS: Duration = Duration::from_millis(100);
+
+/// Reads the settings anew at each SIGHUP. Names of channels and alarms are taken at once; of the rest it says what waits for a restart.
+fn read_anew(first: &Settings, asked: &AtomicBool, shared: &Shared) {
+    let path = &first.file;
+    loop {
+        std::thread::sleep(LOOKS);
+        if !asked.swap(false, SeqCst) {
+            continue;
+        }
+        match settings::of_file(path) {
+            Err(faults) => {
+                faults.iter().for_each(|it| error!("{it}"));
+                warning!("the settings stay as they were: the file is wrong");
+            }
+            Ok(settings) => {
+                let waits = first.differ_for_good(&settings);
+                if settings.channels.len() == first.channels.len() && !waits.contains(&"[[channel]]") {
+                    shared.rename(&settings);
+                    info!("the settings were read anew: names of channels and alarms are taken");
+                } else {
+                    warning!("the settings were read anew, and none is taken: the channels are others, which wants a restart");
+                }
+                if !waits.is_empty() {
+                    warning!("these settings are other ones, and want a restart of the service: {}", waits.join("; "));
+                }
+            }
+        }
+    }
 }
 
 fn serve(settings: Settings) -> Result<End, String> {
@@ -121,8 +144,10 @@ fn serve(settings: Settings) -> Result<End, String> {
     of_terminal.add(Signal::SIGTTOU);
     of_terminal.thread_block().map_err(|it| it.to_string())?;
     let ending = Arc::new(AtomicBool::new(false));
-    let hangup = Some(SIGHUP).filter(|_| !ignores_hangups());
-    let mut signals = Signals::new([SIGTERM, SIGINT].into_iter().chain(hangup)).map_err(|it| it.to_string())?;
+    let mut signals = Signals::new([SIGTERM, SIGINT]).map_err(|it| it.to_string())?;
+    // a terminal that goes ends no recording
+    let asked = Arc::new(AtomicBool::new(false));
+    signal_hook::flag::register(SIGHUP, asked.clone()).map_err(|it| it.to_string())?;
     // where a file may grow no more (`acknowledge`) its write fails, and the service goes on
     signal_hook::flag::register(SIGXFSZ, Arc::default()).map_err(|it| it.to_string())?;
     let counter = Counter::new();
@@ -141,16 +166,24 @@ fn serve(settings: Settings) -> Result<End, String> {
             }
         })
         .map_err(|it| it.to_string())?;
-    let mut owner = Owner::new(settings.clone(), counter, came.clone(), commands, ending, board.clone(), moment.clone())
-        .map_err(|it| it.to_string())?;
+    let shared = Shared::new(&settings, &came);
+    let ties = Ties { commands, ending, board: board.clone(), moment: moment.clone(), shared: shared.clone() };
+    let mut owner = Owner::new(settings.clone(), counter, came.clone(), ties).map_err(|it| it.to_string())?;
     let records = owner.begin().map_err(|it: Refusal| it.text().to_string())?;
     let thread = thread::current();
-    let asking = Asking::new(to, thread.clone(), counter, moment.clone());
+    let asking = Asking::new(to, thread.clone(), counter, moment.clone(), shared.clone());
     let outlets = inputs::start(&settings, counter, &came, &thread, &board, &moment).map_err(|it| it.to_string())?;
     control::start(&settings, &asking).map_err(|it| it.to_string())?;
     if let Some(address) = settings.metrics {
-        metrics::start(address, asking).map_err(|it| it.to_string())?;
+        metrics::start(address, &settings.peers, shared.clone()).map_err(|it| it.to_string())?;
     }
+    page::start(&settings, &shared, &asking).map_err(|it| it.to_string())?;
+    alarms::start(&shared, board.clone()).map_err(|it| it.to_string())?;
+    let first = settings.clone();
+    thread::Builder::new()
+        .name("settings".to_string())
+        .spawn(move || read_anew(&first, &asked, &shared))
+        .map_err(|it| it.to_string())?;
     info!(
         "r10d {} is ready: {} channels, control at {}",
         env!("CARGO_PKG_VERSION"),

@@ -130,6 +130,32 @@ impl Owner {
         Ok(false)
     }
 
+    /// The disk failed: who follows goes on with the next file, and hears so; a replay ends.
+    pub(crate) fn interrupt_readers(&mut self) {
+        self.readers.retain_mut(|it| match &mut it.what {
+            What::Follow { cursor, .. } => {
+                // (the recorder is gone, and its cursors with it)
+                *cursor = None;
+                it.give(
+                    "skipped: the disk failed; what became durable meanwhile is in the files, and the next one follows\n"
+                        .to_string(),
+                )
+            }
+            What::Replay { .. } => {
+                it.give(words::No::Failed("the disk failed; give .FIND and .REPLAY again".to_string()).line());
+                false
+            }
+        });
+    }
+
+    /// All who read hear why that ends.
+    pub(crate) fn end_readers(&mut self, why: &str) {
+        for it in std::mem::take(&mut self.readers) {
+            it.give(words::No::Mode(why.to_string()).line());
+            self.drop_reader(&it);
+        }
+    }
+
     /// Gives up the readers whose clients are gone.
     pub fn drop_gone(&mut self) {
         let (gone, here) = std::mem::take(&mut self.readers).into_iter().partition::<Vec<_>, _>(Reader::is_gone);

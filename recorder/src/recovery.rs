@@ -143,7 +143,7 @@ impl Owner {
         error!("{why}; what was not committed may be lost; the medium is opened again (try {} of {})", tries, self.settings.tries);
         self.log_disk("failed", why);
         self.recorder = None;
-        self.readers.clear();
+        self.interrupt_readers();
         self.state = State::Failed((tries <= self.settings.tries).then(Instant::now));
         if tries > self.settings.tries {
             self.down(&Refusal::Failed(why.to_string()));

@@ -99,10 +99,27 @@ pub struct Channel {
     pub sub: u16,
     /// its channel in packets of chapter 10 that come
     pub source: u16,
+    /// after how long it is silent, once it was heard; none is that of [`Alarms`], and zero never
+    pub silent: Option<Duration>,
+}
+
+/// When an alarm begins.
+#[derive(Clone, Debug, PartialEq, Eq)]
+pub struct Alarms {
+    /// a channel that was heard is silent for so long
+    pub silent: Option<Duration>,
+    /// it ends where no message was lost for so long
+    pub loss: Duration,
+    /// the medium is full in so long
+    pub full: Duration,
+    /// nothing became durable for so long
+    pub commit: Duration,
 }
 
 #[derive(Clone, Debug)]
 pub struct Settings {
+    /// the file that they are of
+    pub file: PathBuf,
     pub medium: PathBuf,
     pub blocks: usize,
     pub directory: usize,
@@ -128,7 +145,20 @@ pub struct Settings {
     pub socket: PathBuf,
     pub tcp: Option<SocketAddr>,
     pub peers: Vec<IpAddr>,
+    /// a text that a change over TCP or by a page wants
+    pub token: Option<String>,
     pub metrics: Option<SocketAddr>,
+    pub page: Option<SocketAddr>,
+    /// whether a page may give commands
+    pub page_control: bool,
+    /// a file that names the recorders of a group
+    pub group: Option<PathBuf>,
+    /// a command that gets each alarm, with its words
+    pub alarm: Vec<String>,
+    pub alarms: Alarms,
+    pub volume: String,
+    /// `acknowledge` is begun anew at so many bytes
+    pub acknowledge_most: u64,
     pub publish: Option<SocketAddr>,
     pub acknowledge: Option<PathBuf>,
     pub channels: Vec<Channel>,
@@ -155,6 +185,42 @@ impl Log {
 
 /// How many lines the log channel's lane has room for.
 pub const LOG_CAPACITY: usize = 1024;
+
+impl Settings {
+    /// The keys in which other settings differ that are taken at the start of the service alone. Names of channels and all about alarms
+    /// are taken at once.
+    pub fn differ_for_good(&self, other: &Settings) -> Vec<&'static str> {
+        let channel = |it: &Channel| (it.id, it.kind.name(), it.capacity, it.input.clone(), it.queue, it.sub, it.source);
+        let channels = |it: &Settings| it.channels.iter().map(channel).collect::<Vec<_>>();
+        [
+            ("medium", self.medium != other.medium),
+            ("blocks, directory, volume, nodes, time, event or a channel's form", self.script != other.script),
+            ("setup", self.setup != other.setup),
+            ("start", self.begin != other.begin),
+            ("prefix", self.prefix != other.prefix),
+            ("commit_ms", self.commit != other.commit),
+            ("file_minutes", self.file_for != other.file_for),
+            ("tries", self.tries != other.tries),
+            ("clock_event", self.clock_event != other.clock_event),
+            ("wait_for_time", self.wait_for_time != other.wait_for_time),
+            ("ask_for_time", self.ask_for_time != other.ask_for_time),
+            ("pps", self.pps != other.pps),
+            ("control.socket", self.socket != other.socket),
+            ("control.tcp", self.tcp != other.tcp),
+            ("control.peers", self.peers != other.peers),
+            ("control.token", self.token != other.token),
+            ("metrics", self.metrics != other.metrics),
+            ("page or page_control", (self.page, self.page_control) != (other.page, other.page_control)),
+            ("group", self.group != other.group),
+            ("publish", self.publish != other.publish),
+            ("acknowledge", (&self.acknowledge, self.acknowledge_most) != (&other.acknowledge, other.acknowledge_most)),
+            ("[[channel]]", channels(self) != channels(other)),
+        ]
+        .into_iter()
+        .filter_map(|(key, differs)| differs.then_some(key))
+        .collect()
+    }
+}
 
 /// What is wrong, and on which line.
 #[derive(Clone, Debug, PartialEq, Eq)]
@@ -191,8 +257,15 @@ struct Document {
     ask_for_time: Option<Vec<Spanned<String>>>,
     pps: Option<Spanned<PathBuf>>,
     acknowledge: Option<Spanned<PathBuf>>,
+    acknowledge_mib: Option<Spanned<u64>>,
     control: ControlTable,
     metrics: Option<Spanned<String>>,
+    page: Option<Spanned<String>>,
+    page_control: Option<Spanned<bool>>,
+    group: Option<Spanned<PathBuf>>,
+    alarm: Option<Spanned<Vec<String>>>,
+    #[serde(default)]
+    alarms: AlarmTable,
     publish: Option<Spanned<String>>,
     log: Option<Spanned<u64>>,
     channel: Vec<ChannelTable>,
@@ -205,6 +278,16 @@ struct ControlTable {
     tcp: Option<Spanned<String>>,
     #[serde(default)]
     peers: Vec<Spanned<String>>,
+    token: Option<Spanned<PathBuf>>,
+}
+
+#[derive(Default, Deserialize)]
+#[serde(deny_unknown_fields, expecting = "a table")]
+struct AlarmTable {
+    silent_s: Option<Spanned<u64>>,
+    loss_s: Option<Spanned<u64>>,
+    full_minutes: Option<Spanned<u64>>,
+    commit_s: Option<Spanned<u64>>,
 }
 
 #[derive(Deserialize)]
@@ -220,6 +303,7 @@ struct ChannelTable {
     bits: Option<Spanned<u64>>,
     queue_mib: Option<Spanned<u64>>,
     sub: Option<Spanned<u64>>,
+    silent_s: Option<Spanned<u64>>,
     input: Option<Spanned<InputTable>>,
 }
 
@@ -250,6 +334,17 @@ const LONGEST_SOCKET: usize = 107;
 /// The rates that a serial line may have.
 pub const RATES: [u32; 13] =
     [1200, 2400, 4800, 9600, 19_200, 38_400, 57_600, 115_200, 230_400, 460_800, 500_000, 921_600, 1_000_000];
+
+/// Reads a settings file, or says what is wrong with it, a line each.
+pub fn of_file(path: &Path) -> Result<Settings, Vec<String>> {
+    let text =
+        std::fs::read_to_string(path).map_err(|it| vec![format!("{}: {it}; give the file with the settings", path.display())])?;
+    let folder = path.parent().map(Path::to_path_buf).unwrap_or_default();
+    let folder = std::path::absolute(if folder.as_os_str().is_empty() { Path::new(".") } else { &folder }).unwrap_or(folder);
+    let settings =
+        read(&text, &folder).map_err(|faults| faults.iter().map(|it| format!("{}: {it}", path.display())).collect::<Vec<_>>())?;
+    Ok(Settings { file: path.to_path_buf(), ..settings })
+}
 
 /// Reads the text of a settings file. Paths that are not absolute are taken from the folder of the file.
 pub fn read(text: &str, folder: &Path) -> Result<Settings, Vec<Fault>> {
@@ -431,23 +526,35 @@ impl Reader<'_> {
         });
         let tcp = it.control.tcp.as_ref().and_then(|at| self.address("control.tcp", at));
         let peers: Vec<IpAddr> = it.control.peers.iter().filter_map(|at| self.host("control.peers", at)).collect();
-        if let (Some(address), Some(at)) = (tcp, &it.control.tcp)
-            && !address.ip().is_loopback()
-            && peers.is_empty()
-        {
-            self.fault(
-                at,
-                format!(
-                    "control.tcp = \"{address}\": beyond this machine it wants a list of peers; \
-                 give control.peers = [\"ADDRESS\", ..]"
-                ),
-            );
-        }
         let metrics = it.metrics.as_ref().and_then(|at| self.address("metrics", at));
-        if let (Some(one), Some(other), Some(at)) = (metrics, tcp, &it.metrics)
-            && are_one(one, other)
+        let page = it.page.as_ref().and_then(|at| self.address("page", at));
+        let listens = [("control.tcp", tcp, &it.control.tcp), ("metrics", metrics, &it.metrics), ("page", page, &it.page)];
+        for (number, (key, address, at)) in listens.iter().enumerate() {
+            let (Some(address), Some(at)) = (address, at) else { continue };
+            if !address.ip().is_loopback() && peers.is_empty() {
+                self.fault(
+                    at,
+                    format!(
+                        "{key} = \"{address}\": beyond this machine it wants a list of peers; \
+                         give control.peers = [\"ADDRESS\", ..]"
+                    ),
+                );
+            }
+            for (other, its, _) in &listens[..number] {
+                if its.is_some_and(|it| are_one(*address, it)) {
+                    self.fault(at, format!("{key} = \"{address}\": {other} has this port; give another one"));
+                }
+            }
+        }
+        let token = it.control.token.as_ref().and_then(|at| self.token(at));
+        let page_control = it.page_control.as_ref().is_some_and(|at| *at.get_ref());
+        if let (true, None, Some(at)) = (page_control, &it.control.token, &it.page_control) {
+            self.fault(at, "page_control = true: it wants control.token, a file with the text that a command needs".to_string());
+        }
+        if let Some(at) = &it.alarm
+            && at.get_ref().first().is_none_or(|it| !it.starts_with('/'))
         {
-            self.fault(at, format!("metrics = \"{one}\": control.tcp has this port; give another one"));
+            self.fault(at, "alarm: give the whole path of a command, and its words, as [\"/usr/bin/beep\"]".to_string());
         }
         let publish = it.publish.as_ref().and_then(|at| self.address("publish", at));
         if let (Some(to), Some(at)) = (publish, &it.publish)
@@ -456,6 +563,7 @@ impl Reader<'_> {
             self.fault(at, format!("publish = \"{to}\": channel {} listens there; give another address", channel.id));
         }
         Settings {
+            file: PathBuf::new(),
             medium: self.path(it.medium.get_ref()),
             blocks: blocks as usize,
             directory: directory as usize,
@@ -475,7 +583,15 @@ impl Reader<'_> {
             socket: self.path(it.control.socket.get_ref()),
             tcp,
             peers,
+            token,
             metrics,
+            page,
+            page_control,
+            group: it.group.as_ref().map(|it| self.path(it.get_ref())),
+            alarm: it.alarm.as_ref().map(|it| it.get_ref().clone()).unwrap_or_default(),
+            alarms: self.alarms(&it),
+            volume,
+            acknowledge_most: self.number_or("acknowledge_mib", &it.acknowledge_mib, 64, 1..=1_000_000) << 20,
             publish,
             acknowledge: it.acknowledge.as_ref().map(|it| self.path(it.get_ref())),
             channels,
@@ -511,6 +627,36 @@ impl Reader<'_> {
         Log::Channel(id as u16)
     }
 
+    /// When alarms begin. Nothing is late that has its time by `commit_ms`.
+    fn alarms(&mut self, it: &Document) -> Alarms {
+        let (all, second) = (&it.alarms, Duration::from_secs);
+        let commit = Duration::from_millis(it.commit_ms.as_ref().map_or(100, |at| *at.get_ref()));
+        Alarms {
+            silent: Some(second(self.number_or("alarms.silent_s", &all.silent_s, 10, 0..=86_400))),
+            loss: second(self.number_or("alarms.loss_s", &all.loss_s, 60, 1..=86_400)),
+            full: second(60 * self.number_or("alarms.full_minutes", &all.full_minutes, 10, 1..=1440)),
+            commit: second(self.number_or("alarms.commit_s", &all.commit_s, 2, 1..=3600)).max(commit + second(1)),
+        }
+    }
+
+    /// The text of a file that a change wants, over TCP or by a page.
+    fn token(&mut self, at: &Spanned<PathBuf>) -> Option<String> {
+        let path = self.path(at.get_ref());
+        let what = format!("control.token = {path:?}");
+        match std::fs::read_to_string(&path) {
+            Ok(text) if (16..=200).contains(&text.trim().len()) && text.trim().bytes().all(|it| it.is_ascii_graphic()) => {
+                return Some(text.trim().to_string());
+            }
+            Ok(_) => {
+                self.fault(at, format!("{what}: give 16 to 200 letters, digits and signs in one line, as `openssl rand -hex 16`"));
+            }
+            Err(error) => {
+                self.fault(at, format!("{what}: {error}; make it: `openssl rand -hex 16 > FILE`, for the service's user alone"));
+            }
+        }
+        None
+    }
+
     fn ask_for_time(&mut self, it: &Document) -> Vec<String> {
         let Some(names) = &it.ask_for_time else { return PROGRAMS.map(str::to_string).to_vec() };
         for at in names {
@@ -526,6 +672,8 @@ impl Reader<'_> {
         let mut named = vec![("medium", &it.medium), ("control.socket", &it.control.socket)];
         named.extend(it.setup.iter().map(|at| ("setup", at)));
         named.extend(it.acknowledge.iter().map(|at| ("acknowledge", at)));
+        named.extend(it.control.token.iter().map(|at| ("control.token", at)));
+        named.extend(it.group.iter().map(|at| ("group", at)));
         for input in it.channel.iter().filter_map(|it| it.input.as_ref()).map(Spanned::get_ref) {
             named.extend(input.serial.iter().map(|at| ("serial", at)));
             named.extend(input.lines.iter().filter(|at| at.get_ref() != Path::new("-")).map(|at| ("lines", at)));
@@ -650,6 +798,7 @@ impl Reader<'_> {
             queue: (queue_mib as usize) << 20,
             sub: sub as u16,
             source: it.input.as_ref().and_then(|it| it.get_ref().source.as_ref()).map_or(id, |it| *it.get_ref()) as u16,
+            silent: it.silent_s.as_ref().map(|at| Duration::from_secs(self.number("silent_s", at, 0..=86_400))),
         }
     }
 

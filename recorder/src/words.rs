@@ -9,7 +9,6 @@ use serde_json::json;
 
 use crate::clock::{self, COUNTS};
 use crate::control::{Command, Origin, Reply};
-use crate::figures::Times;
 use crate::keeps::Current;
 use crate::notes::Line;
 use crate::owner::{Lane, Owner, State, Trouble};
@@ -43,7 +42,7 @@ impl No {
 }
 
 /// The words, what follows them, and what they do: `.HELP` prints them.
-pub const WORDS: [(&str, &str, &str); 26] = [
+pub const WORDS: [(&str, &str, &str); 28] = [
     (".STATUS", "", "state, warnings, and how much of the medium is used"),
     (".RECORD", "[NAME]", "begins a file"),
     (".STOP", "", "ends the recording"),
@@ -63,22 +62,30 @@ pub const WORDS: [(&str, &str, &str); 26] = [
     (".MEDIA", "", "bytes of a block, blocks used, blocks left"),
     (".MOUNT", "", "takes the medium up again"),
     (".DISMOUNT", "", "gives the medium up, so that it can be taken away; over the UNIX socket alone"),
-    (".BIT", "", "tries medium, clock and channels, without touching what is recorded"),
+    (".BIT", "", "tries settings, medium, clock, channels and log, without touching what is recorded"),
     (".CRITICAL", "[FEATURE [MASK]]", "which bits of .HEALTH are critical, or sets that"),
     (".IRIG106", "", "the release of the standard"),
     (".VERSION", "", "of the service, and of the library below it"),
     (".MEDIUM", "", "what the medium is, and where"),
     (".SHUTDOWN", "", "ends the service; over the UNIX socket alone"),
+    (".STANDING", "", "how it stands, with alarms and the last lines of the log, in one line of JSON; it never waits for the disk"),
+    (".TOKEN", "TEXT", "over TCP: the token that a change wants, first on the connection"),
     (".HELP", "", "these lines"),
 ];
 
 /// Bits of `.HEALTH`.
-const BITS: [(u32, &str); 7] = [
+const BITS: [(u32, &str); 13] = [
     (1, "messages were lost"),
     (2, "messages were refused, or could not be read"),
     (4, "nothing came in the last ten seconds"),
     (8, "the system's clock stepped"),
     (0x10, "the system's clock is not in sync, or nobody can say"),
+    (0x100, "alarm: it was heard, and is silent"),
+    (0x200, "alarm: messages are lost"),
+    (0x400, "alarm: the disk failed, or is tried again"),
+    (0x800, "alarm: the medium is full, or soon will be"),
+    (0x1000, "alarm: the clock was in sync, and is not any more"),
+    (0x2000, "alarm: nothing becomes durable"),
     (0x4000_0000, "the medium is full"),
     (0x8000_0000, "the disk failed"),
 ];
@@ -137,6 +144,17 @@ impl From<Error> for Undone {
     }
 }
 
+/// Whether a word with these after it changes something.
+fn changes(word: &str, words: &[&str]) -> bool {
+    match word {
+        ".RECORD" | ".STOP" | ".ERASE" | ".MOUNT" | ".DISMOUNT" | ".SHUTDOWN" | ".NOTE" => true,
+        ".EVENT" | ".FIND" => !words.is_empty(),
+        ".PUBLISH" => words.first().is_some_and(|it| !it.eq_ignore_ascii_case("LIST")),
+        ".CRITICAL" => words.len() > 1,
+        _ => false,
+    }
+}
+
 impl Owner {
     /// Answers a command.
     pub fn answer(&mut self, command: Command) -> Result<(), Trouble> {
@@ -163,15 +181,12 @@ impl Owner {
 
     /// Puts a command into the log channel, if it changes something. Whether it does.
     fn log_command(&mut self, command: &Command) -> bool {
-        let words: Vec<String> = command.line.split_whitespace().map(str::to_ascii_uppercase).collect();
-        let is_order = match words.first().map_or("", String::as_str) {
-            ".RECORD" | ".STOP" | ".ERASE" | ".MOUNT" | ".DISMOUNT" | ".SHUTDOWN" => true,
-            ".EVENT" | ".FIND" => words.len() > 1,
-            ".PUBLISH" => words.get(1).is_some_and(|it| it != "LIST"),
-            ".CRITICAL" => words.len() > 2,
-            _ => false,
-        };
+        let words: Vec<&str> = command.line.split_whitespace().collect();
+        let word = words.first().map_or(String::new(), |it| it.to_ascii_uppercase());
+        // (a note has a line of its own, which says who gave it)
+        let is_order = word != ".NOTE" && changes(&word, words.get(1..).unwrap_or_default());
         if is_order {
+            info!("{} by {}", command.line.trim(), command.by);
             self.log(Line::new("command").with("by", &command.by).with("line", command.line.trim()));
         }
         is_order
@@ -192,13 +207,19 @@ impl Owner {
         if wanted.is_empty() && !words.is_empty() {
             return Err(No::Parameter(format!("{word} has nothing after it")).into());
         }
-        if origin == Origin::Tcp && matches!(word.as_str(), ".ERASE" | ".SHUTDOWN" | ".DISMOUNT") {
+        if origin != Origin::Socket && matches!(word.as_str(), ".ERASE" | ".SHUTDOWN" | ".DISMOUNT") {
             return Err(No::Mode(format!("{word} is for the UNIX socket of the recorder's own machine")).into());
+        }
+        if origin == (Origin::Tcp { has_token: false }) && changes(&word, &words) {
+            return Err(No::Mode(format!(
+                "over TCP {word} wants the token first: `.TOKEN TEXT`, of the file that control.token names"
+            ))
+            .into());
         }
         let text = match word.as_str() {
             ".STATUS" => self.status_line(),
             ".HEALTH" => self.health(&words)?,
-            ".FIGURES" => self.figures(origin)?,
+            ".FIGURES" => self.figures()?,
             ".HELP" => WORDS.iter().fold(String::new(), |mut out, it| {
                 let _ = writeln!(out, "{:36} {}", format!("{} {}", it.0, it.1), it.2);
                 out
@@ -250,7 +271,7 @@ impl Owner {
             }
             ".ERASE" => {
                 self.medium.keep(false);
-                self.readers.clear();
+                self.end_readers("the medium was erased");
                 self.recorder()?.erase()?;
                 self.settle()?;
                 self.state = State::Idle;
@@ -265,7 +286,9 @@ impl Owner {
             ".DISMOUNT" => return self.dismount(),
             ".FIND" => return self.find(&words),
             ".REPLAY" => return self.replay(&words),
-            _ => return self.follow(&words),
+            ".FOLLOW" => return self.follow(&words),
+            // (`control` answers the others before they come here)
+            _ => return Err(No::Mode(format!("{word} is for a connection over the socket or TCP")).into()),
         };
         Ok(Reply::Text(text))
     }
@@ -328,7 +351,13 @@ impl Owner {
         whole |= if self.state == State::Full { 0x4000_0000 } else { 0 };
         whole |= if self.failures.count() > 0 || matches!(self.state, State::Failed(_)) { 0x8000_0000 } else { 0 };
         let of = |it: &Lane| (self.silence(it) | health_of(it), it.channel.name.clone());
-        std::iter::once((whole, "RECORDER".to_string())).chain(self.listed().iter().map(of)).collect()
+        let mut all: Vec<_> = std::iter::once((whole, "RECORDER".to_string())).chain(self.listed().iter().map(of)).collect();
+        for alarm in self.shared.alarms() {
+            if let Some(it) = all.get_mut(alarm.place.map_or(0, |it| it + 1)) {
+                it.0 |= alarm.kind.bit();
+            }
+        }
+        all
     }
 
     fn health(&mut self, words: &[&str]) -> Result<String, No> {
@@ -480,19 +509,12 @@ impl Owner {
         }
     }
 
-    /// All figures, as `r10ctl watch` and the metrics take them.
-    fn figures(&mut self, origin: Origin) -> Result<String, Trouble> {
+    /// All figures, as `r10ctl watch` takes them.
+    fn figures(&mut self) -> Result<String, Trouble> {
         let files = self.recorder.as_mut().map_or(Ok(Vec::new()), r10::Recorder::files)?;
         let left = self.recorder.as_mut().map(r10::Recorder::status).transpose()?.map_or(0, |it| it.free);
         let free = (self.settings.blocks as u64).saturating_sub(self.medium.first_block(&files)) * 512;
-        let state = match self.state {
-            State::Idle => "idle",
-            State::Recording => "recording",
-            State::Full => "full",
-            State::Failed(Some(_)) => "retrying",
-            State::Failed(None) => "failed",
-            State::Dismounted => "dismounted",
-        };
+        let state = self.state.word();
         self.drop_gone();
         let mut channels = Vec::new();
         for (place, lane) in self.lanes.iter().enumerate().take(self.settings.channels.len()) {
@@ -526,8 +548,8 @@ impl Owner {
             let lane = &self.lanes[it.place];
             json!({ "id": lane.channel.id, "durable": lane.durable, "waiting": it.waiting(), "left_out": lane.lost })
         });
-        // times are those since the last question; the metrics have none, and leave them to who has
-        let times = if origin == Origin::Metrics { Times::default() } else { std::mem::take(&mut self.commits.times) };
+        // times are those since the last question
+        let times = std::mem::take(&mut self.commits.times);
         let file = self
             .file
             .as_ref()

@@ -10,9 +10,12 @@ import sys
 import time
 from typing import Optional
 
+import trials_of_alarms
+import trials_of_control
 import trials_of_disks
 import trials_of_inputs
 import trials_of_losses
+import trials_of_page
 import trials_of_service
 import trials_of_time
 from trying import R10, NotTried, Room, fault, must, report, tidy_up_at_signals
@@ -21,7 +24,10 @@ from trying import R10, NotTried, Room, fault, must, report, tidy_up_at_signals
 # the trials stand in these modules, each under its name
 TRIALS = {
     name.replace('_', '-'): function
-    for module in (trials_of_inputs, trials_of_disks, trials_of_service, trials_of_time, trials_of_losses)
+    for module in (
+        trials_of_inputs, trials_of_disks, trials_of_service, trials_of_time, trials_of_losses, trials_of_alarms, trials_of_control,
+        trials_of_page,
+    )
     for name, function in vars(module).items()
     if getattr(function, 'is_trial', False)
 }

@@ -367,12 +367,13 @@ def what_the_log_channel_has(room: Room) -> str:
     text = settings(
         channel(5, 'message', 'serial = "nowhere", end = 10') + channel(13, 'discrete', 'lines = "table"'),
         start='wait',
-        control=f'tcp = "127.0.0.1:{port}"',
+        control=f'tcp = "127.0.0.1:{port}"\ntoken = "token"',
     )
+    (room.folder / 'token').write_text('0123456789abcdef\n')
     service = Service(room, text)
     service.wait_for('table has ended')
     service.ask('.RECORD/', '.RECORD FLT1', '.EVENT 7 first contact', '.STATUS', '.NOTE it is "cold" here')
-    service.ask('.NOTE from afar', path=('127.0.0.1', port))
+    service.ask('.TOKEN 0123456789abcdef', '.NOTE from afar', path=('127.0.0.1', port))
     service.ask('.STOP')
     service.end()
     lines = log_lines((room.folder / 'medium').read_bytes(), 0)

@@ -128,7 +128,7 @@ def clients_that_go(room: Room) -> str:
 
     there = [until(place, 'those who are gone have their places still') for _ in range(32)]
     words = [str(room.programs / 'r10ctl'), '--socket', str(room.folder / 'control'), 'status']
-    for _ in range(50):
+    for _ in range(20):
         ran = subprocess.run(words, capture_output=True, text=True)
         must(ran.returncode == 1 and 'too many are connected' in ran.stderr, f'one too many: {ran}')
     for it in there:
@@ -378,9 +378,13 @@ def the_end_and_the_manager(room: Room, limit: float = LONG) -> str:
     must(files((room.folder / 'medium').read_bytes())[0][3] == '1', 'the file is not closed')
     service = Service(room)
     service.wait_for(': recording')
-    service.end(signal.SIGHUP)
+    # (where its terminal goes it records on: SIGHUP reads the settings anew)
+    service.child.send_signal(signal.SIGHUP)
+    service.wait_for('the settings were read anew')
+    must(service.ask('.STATUS')[0].startswith('S 05'), 'where its terminal goes it does not record on')
+    service.end(signal.SIGINT)
     closed = [it[3] for it in files((room.folder / 'medium').read_bytes())]
-    must(closed == ['1', '1'], f'where its terminal goes the file is not closed: {closed}')
+    must(closed == ['1', '1'], f'at SIGINT the file is not closed: {closed}')
     return f'ended in {took:.2f} s'
 
 
@@ -497,7 +501,7 @@ def idle_peers_of_the_metrics(room: Room) -> str:
         begin = time.monotonic()
         with socket.create_connection((HOST, port), LONG) as it:
             it.sendall(b'GET /metrics HTTP/1.0\r\n\r\n')
-            must(it.makefile('rb').read().startswith(b'HTTP/1.0 200 OK'), 'no answer')
+            must(it.makefile('rb').read().startswith(b'HTTP/1.1 200 OK'), 'no answer')
         longest = max(longest, time.monotonic() - begin)
     # (ten one after another would be twenty seconds)
     must(time.monotonic() - start < 15, f'five answers took {time.monotonic() - start:.1f} s')

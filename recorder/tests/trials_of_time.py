@@ -478,12 +478,16 @@ def programs_that_set_the_clock(room: Room) -> str:
 
     until(beat, 'the pulse is not seen')
     must(int(said()['ERROR_NS']) >= 750_000, 'the clock is held to be better than its pulse')
-    with socket.create_connection((HOST, port)) as it:
-        it.sendall(b'GET /metrics HTTP/1.0\r\n\r\n')
-        metrics = b''.join(iter(lambda: it.recv(65536), b'')).decode()
+
+    def scraped() -> str:
+        beat()
+        with socket.create_connection((HOST, port)) as it:
+            it.sendall(b'GET /metrics HTTP/1.0\r\n\r\n')
+            return b''.join(iter(lambda: it.recv(65536), b'')).decode()
+
+    # (they are what the recorder's thread put up last, a quarter of a second ago at most)
     for wanted in ('synchronised 1', 'pps 1', 'pps_offset_seconds 0.00075', 'error_seconds 0.00'):
-        wanted = f'r10_clock_{wanted}'
-        must(f'\n{wanted}' in metrics, f'{wanted} is not among the metrics: {metrics}')
+        until(lambda: f'\nr10_clock_{wanted}' in scraped(), f'{wanted} is not among the metrics: {scraped()}')
     until(lambda: said()['PPS'] == 'none', 'a pulse that ends is still there')
     service.ask('.RECORD', '.STOP')
     service.end()

@@ -15,6 +15,7 @@ const MAP_NORESERVE: c_int = 0x4000;
 const MADV_DONTNEED: c_int = 4;
 const POSIX_FADV_DONTNEED: c_int = 4;
 const O_EXCL: c_int = 0o200;
+const O_NOFOLLOW: c_int = 0o400_000;
 
 unsafe extern "C" {
     fn mmap(at: *mut c_void, length: usize, access: c_int, how: c_int, file: c_int, offset: i64) -> *mut c_void;
@@ -74,7 +75,7 @@ impl Disk {
 
     /// Makes a file of so many blocks, allocated whole and formatted by the script, under another name, and gives it its own only then. What is there already
     /// stays: `AlreadyExists`; so does what another program makes just now: `WouldBlock`. A file of the other name, with `.new` at its end, stays too, unless a make
-    /// that was ended left it: `InvalidData`. A call that failed leaves no file.
+    /// that was ended left it: `InvalidData`. A link of that name is not followed. A call that failed leaves no file.
     pub fn make(path: impl AsRef<Path>, blocks: usize, script: &str) -> io::Result<()> {
         let path = path.as_ref();
         if path.symlink_metadata().is_ok() {
@@ -82,7 +83,7 @@ impl Disk {
         }
         let mut fresh = path.as_os_str().to_owned();
         fresh.push(".new");
-        let file = OpenOptions::new().read(true).write(true).create(true).truncate(false).open(&fresh)?;
+        let file = OpenOptions::new().read(true).write(true).create(true).truncate(false).custom_flags(O_NOFOLLOW).open(&fresh)?;
         lock(&file)?;
         let is_ours = is_at(&file, Path::new(&fresh));
         if is_ours && !is_left_by_make(&file)? {
