@@ -228,6 +228,8 @@ mod tests {
     fn texts_of_times_are_read_back() {
         let at = OffsetDateTime::from_unix_timestamp(1_709_210_096).unwrap() + time::Duration::milliseconds(789);
         assert_eq!(text(&civil(at)), "2024-02-29 12:34:56.78");
+        assert_eq!(of_civil(&civil(at)), Some(1_709_210_096_780_000_000));
+        assert_eq!(of_civil(&r10::Civil { month: 13, ..civil(at) }), None);
         for text_of_it in ["2024-02-29 12:34:56.78", "2024-02-29T12:34:56.78"] {
             assert_eq!(parse(text_of_it).map(|it| text(&it)), Some("2024-02-29 12:34:56.78".to_string()));
         }

@@ -69,9 +69,8 @@ impl Asking {
     pub fn ask(&self, line: &str, origin: Origin, by: &str) -> Option<Reply> {
         let ((reply, answer), count) = (channel(), self.counter.count());
         // the recorder's thread may be busy with the disk: what comes meanwhile is after the stop
-        let word = line.split_whitespace().next().unwrap_or("");
         let may_stop = origin != (Origin::Tcp { has_token: false });
-        if word.eq_ignore_ascii_case(".STOP") && may_stop || word.eq_ignore_ascii_case(".SHUTDOWN") && origin == Origin::Socket {
+        if is_stop(line) && may_stop {
             self.moment.set(count);
         }
         self.to.send(Command { line: line.to_string(), origin, by: by.to_string(), count, reply }).ok()?;
@@ -83,6 +82,12 @@ impl Asking {
     fn wake(&self) {
         self.owner.unpark();
     }
+}
+
+/// Whether a command is one to stop.
+pub fn is_stop(line: &str) -> bool {
+    let word = line.split_whitespace().next().unwrap_or("");
+    word.eq_ignore_ascii_case(".STOP") || word.eq_ignore_ascii_case(".SHUTDOWN")
 }
 
 /// How many may be connected at a time to the socket, and as many over TCP: so these cannot shut out those.

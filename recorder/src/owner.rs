@@ -582,6 +582,8 @@ mod tests {
     use crate::kinds::Head;
     use crate::losses::Cause;
 
+    const HEAD: Head = Head::Message { data_error: false, format: false, sub: 0 };
+
     /// A recorder's thread without a thread: it does what a test asks of it, and nothing else. Its medium is a file.
     struct Alone {
         owner: Owner,
@@ -616,7 +618,7 @@ mod tests {
         /// So many messages come, and are not taken in yet.
         fn comes(&mut self, count: usize) {
             for _ in 0..count {
-                self.feed.message(0, 0, Head::Message { data_error: false, format: false, sub: 0 }, &[7; 60]);
+                self.feed.message(0, 0, HEAD, &[7; 60]);
             }
             self.feed.flush();
         }
@@ -777,6 +779,20 @@ mod tests {
         assert!(
             it.lines("total")[1].ends_with("channel=5 kind=message came=1 recorded=1 lost=0 after=0 waiting=0 carried=0 passed=0")
         );
+    }
+
+    /// The recorder was given the number of the lost, and the message that was to carry it is refused: they are all after the last one.
+    #[test]
+    fn losses_before_a_message_that_is_refused_are_told() {
+        let mut it = Alone::recording("refused", 3000, 64);
+        it.comes(2);
+        it.feed.lost(0, Cause::System, 4);
+        it.feed.message(0, 0, HEAD, &[7; 5000]);
+        it.feed.flush();
+        assert_eq!((it.ask(".STOP"), it.counts(), it.entries(5)), (String::new(), (2, 5, 0, 0), vec![2]));
+        let total = it.lines("total").pop().unwrap();
+        assert!(total.ends_with("came=7 recorded=2 lost=5 after=5 waiting=0 carried=0 passed=0"), "{total}");
+        assert_eq!(it.lines("lost"), ["channel=5 all=5 system=4 queue=0 line=1 disk=0"]);
     }
 
     /// What was not committed when the disk failed is looked for: what is there counts as recorded in the totals of that file, and the

@@ -23,7 +23,7 @@ use r10_recorder::notes::Board;
 use r10_recorder::owner::{Owner, Ties};
 use r10_recorder::settings::{self, Settings};
 use r10_recorder::standing::Shared;
-use r10_recorder::stop::End;
+use r10_recorder::stop::{self, End};
 use r10_recorder::{alarms, error, info, inputs, log, metrics, page, warning, watchdog};
 use signal_hook::consts::signal::{SIGHUP, SIGINT, SIGTERM, SIGXFSZ};
 use signal_hook::iterator::Signals;
@@ -154,7 +154,7 @@ fn serve(settings: Settings) -> Result<End, String> {
     let came: Vec<Arc<Came>> = settings.channels.iter().map(|_| Arc::default()).collect();
     let (to, commands) = channel();
     let (board, moment) = (Board::new(counter), Moment::default());
-    let (ended, at, owner_thread) = (ending.clone(), moment.clone(), thread::current());
+    let (ended, at, owner_thread, stop_for) = (ending.clone(), moment.clone(), thread::current(), settings.stop_for);
     thread::Builder::new()
         .name("signals".to_string())
         .spawn(move || {
@@ -162,6 +162,8 @@ fn serve(settings: Settings) -> Result<End, String> {
                 // (what comes from now on is after the end)
                 at.set(counter.count());
                 ended.store(true, Relaxed);
+                // (the thread of the recorder may wait for the disk just now)
+                stop::ask_for_time(stop_for);
                 owner_thread.unpark();
             }
         })

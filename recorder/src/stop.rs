@@ -45,6 +45,12 @@ struct Total {
     passed: u64,
 }
 
+/// Asks systemd for as long as a stop may take.
+pub fn ask_for_time(stop_for: Duration) {
+    let time = u32::try_from((stop_for + CLOSE).as_micros()).unwrap_or(u32::MAX);
+    let _ = sd_notify::notify(false, &[sd_notify::NotifyState::ExtendTimeoutUsec(time)]);
+}
+
 impl Lane {
     /// The losses that stand before the next message of a file that is begun now.
     fn before(&self) -> u64 {
@@ -77,7 +83,7 @@ impl Owner {
         let mut done = Ok(());
         while self.state == State::Recording {
             if why == Ended::WithService {
-                self.ask_for_time();
+                ask_for_time(self.settings.stop_for);
             }
             done = self.end_recording(why);
             let Err(Trouble::Failed(text)) = &done else { break };
@@ -179,7 +185,7 @@ impl Owner {
     pub(crate) fn end(&mut self) -> End {
         let moment = self.moment.get().unwrap_or_else(|| self.count());
         let _ = sd_notify::notify(false, &[sd_notify::NotifyState::Stopping]);
-        self.ask_for_time();
+        ask_for_time(self.settings.stop_for);
         if self.state == State::Dismounted {
             self.say_totals();
             info!("the service has ended; the medium was dismounted before");
@@ -217,12 +223,6 @@ impl Owner {
     fn close(&mut self) -> Result<(), Trouble> {
         self.recorder()?.dismount()?;
         self.settle()
-    }
-
-    /// Asks systemd for as long as a stop may take.
-    fn ask_for_time(&self) {
-        let time = u32::try_from((self.settings.stop_for + CLOSE).as_micros()).unwrap_or(u32::MAX);
-        let _ = sd_notify::notify(false, &[sd_notify::NotifyState::ExtendTimeoutUsec(time)]);
     }
 
     /// Of each channel, in the system's log, what became of what came since the start of the service.

@@ -8,7 +8,7 @@ use r10::Error;
 use serde_json::json;
 
 use crate::clock::{self, COUNTS};
-use crate::control::{Command, Origin, Reply};
+use crate::control::{self, Command, Origin, Reply};
 use crate::keeps::Current;
 use crate::notes::Line;
 use crate::owner::{Lane, Owner, State, Trouble};
@@ -171,7 +171,7 @@ impl Owner {
             self.log(Line::new("refused").with("line", &command.line).with("answer", text.trim_end()));
         }
         // (a stop that was refused is none for the inputs)
-        if !self.ending.load(Relaxed) {
+        if control::is_stop(&command.line) && !self.ending.load(Relaxed) {
             self.moment.clear();
         }
         // who is gone wants no answer
