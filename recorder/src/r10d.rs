@@ -19,7 +19,7 @@ use r10_recorder::control::{self, Asking};
 use r10_recorder::feed::Came;
 use r10_recorder::losses::Moment;
 use r10_recorder::medium::{Medium, Refusal};
-use r10_recorder::notes::Board;
+use r10_recorder::notes::{Board, Line};
 use r10_recorder::owner::{Owner, Ties};
 use r10_recorder::settings::{self, Settings};
 use r10_recorder::standing::Shared;
@@ -107,7 +107,7 @@ fn main() -> ExitCode {
 const LOOKS: Duration = Duration::from_millis(100);
 
 /// Reads the settings anew at each SIGHUP. Names of channels and alarms are taken at once; of the rest it says what waits for a restart.
-fn read_anew(first: &Settings, asked: &AtomicBool, shared: &Shared) {
+fn read_anew(first: &Settings, asked: &AtomicBool, shared: &Shared, board: &Board) {
     let path = &first.file;
     loop {
         std::thread::sleep(LOOKS);
@@ -123,6 +123,7 @@ fn read_anew(first: &Settings, asked: &AtomicBool, shared: &Shared) {
                 let waits = first.differ_for_good(&settings);
                 if settings.channels.len() == first.channels.len() && !waits.contains(&"[[channel]]") {
                     shared.rename(&settings);
+                    board.put(Line::new("settings").with("settings", &settings.sum));
                     info!("the settings were read anew: names of channels and alarms are taken");
                 } else {
                     warning!("the settings were read anew, and none is taken: the channels are others, which wants a restart");
@@ -181,10 +182,10 @@ fn serve(settings: Settings) -> Result<End, String> {
     }
     page::start(&settings, &shared, &asking).map_err(|it| it.to_string())?;
     alarms::start(&shared, board.clone()).map_err(|it| it.to_string())?;
-    let first = settings.clone();
+    let (first, told) = (settings.clone(), board.clone());
     thread::Builder::new()
         .name("settings".to_string())
-        .spawn(move || read_anew(&first, &asked, &shared))
+        .spawn(move || read_anew(&first, &asked, &shared, &told))
         .map_err(|it| it.to_string())?;
     info!(
         "r10d {} is ready: {} channels, control at {}",

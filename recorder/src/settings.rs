@@ -201,6 +201,8 @@ impl Settings {
             ("commit_ms", self.commit != other.commit),
             ("file_minutes", self.file_for != other.file_for),
             ("tries", self.tries != other.tries),
+            ("stop_seconds", self.stop_for != other.stop_for),
+            ("log", self.log != other.log),
             ("clock_event", self.clock_event != other.clock_event),
             ("wait_for_time", self.wait_for_time != other.wait_for_time),
             ("ask_for_time", self.ask_for_time != other.ask_for_time),

@@ -1,6 +1,7 @@
 """Trials of control that is safe: tokens over TCP, places of clients, settings read anew, a group, a follower over an error."""
 from __future__ import annotations
 
+import hashlib
 import json
 import os
 import re
@@ -10,6 +11,7 @@ import subprocess
 import time
 from typing import Any
 
+from trials_of_losses import log_lines
 from trying import HOST, LONG, NotTried, Room, Service, channel, must, settings, trial, until
 
 TOKEN = 'fedcba9876543210fedcba9876543210'
@@ -131,6 +133,8 @@ def settings_read_anew(room: Room) -> str:
         must(service.ask('.HEALTH')[1].endswith(' NEW'), 'names of other channels are taken')
     must(len(service.ask('.FILES')) == 1 and service.ask('.STATUS')[0].startswith('S 05'), 'the recording ended')
     service.end()
+    taken = [it.keys['settings'] for it in log_lines((room.folder / 'medium').read_bytes(), 0) if it.word == 'settings']
+    must(taken == [hashlib.sha256(changed.encode()).hexdigest()], f'the log channel has {taken}')
     return 'names and alarms'
 
 
