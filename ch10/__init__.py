@@ -27,7 +27,7 @@
     pcm          minor frames of PCM, and how the setup text says that they are made
     units        where measurements stand in messages, and how they are scaled
     setup_units, measured    the same by the setup text, and the measurements of a call
-    table, lines, picture, cuts, database, script, exports, values    the commands
+    table, lines, picture, cuts, index, database, script, exports, values    the commands
     command      the words of a call
 
 Over many recordings, beside the filters:

@@ -23,6 +23,7 @@ BITS = 48  # of a count; the bits above them are the session's number
 LEAST_BACK = 2 * SECOND  # a channel's packets come in order: a step back by more is no order of writing
 MOST_OVER = 600 * SECOND  # between the last count before 2^48 and the first one after it
 LAST_DAY = datetime.date.max.toordinal()
+HEADERS = -1  # in place of a channel: the times of secondary headers
 MOST_SESSIONS = 1 << 12  # more are none: the counter of such a recording tells nothing
 COUNTLESS = (LOSS, SETUP, INDEX, STREAMING)  # types of what a computer makes, whose counters need not go on
 
@@ -266,6 +267,7 @@ class Timing:
     def __init__(self) -> None:
         self.sessions = Sessions()
         self.lines: Dict[int, TimeLine] = {}
+        self.headers = TimeLine(HEADERS)
 
     def add(self, channel: int, instant: int, said: Time, offset: int, flags: int) -> None:
         """Takes note of a time packet."""
@@ -273,10 +275,20 @@ class Timing:
             self.lines[channel] = TimeLine(channel)
         self.lines[channel].add(instant, said, offset, flags)
 
+    def add_header(self, instant: int, said: Optional[Time], offset: int) -> None:
+        """Takes note of the time of a secondary header, of one each second."""
+        told = self.headers.told
+        if said is not None and (not told or not told[-1].instant <= instant < told[-1].instant + SECOND):
+            self.headers.add(instant, said, offset)
+
     def clock(self, asked: Asked, attributes: Mapping[str, str]) -> Optional[Clock]:
-        """The clock of the recording, or None where nothing tells a time. A Fault where the channel that is asked for tells
-        none."""
+        """The clock of the recording, or None where nothing tells a time: secondary headers do where no time packet does. A Fault
+        where the channel that is asked for tells none."""
         lines = sorted((line for line in self.lines.values() if line.told), key=rank, reverse=True)
+        if not lines and asked.channel is None and self.headers.told:
+            lines = [self.headers]
+            if self.headers.is_dated():
+                self.headers.settle(self.sessions)
         if asked.channel is not None:
             lines = [line for line in lines if line.channel == asked.channel]
             if not lines:
@@ -418,7 +430,8 @@ class Clock:
                 some = some[last_jump(line, some):]
             some = sorted(some, key=lambda told: told.instant)
             first.append(some[0].said.ticks)
-            self.told[session] = [(told.instant, told.offset) for told in some]
+            if line.channel != HEADERS:
+                self.told[session] = [(told.instant, told.offset) for told in some]
             self.pieces += pieces_of(line, some, session << BITS, '+guessed year' if year and year.is_guessed else '')
         self.channels = used
         self.channel, self.first = self.channels[0], first[0]

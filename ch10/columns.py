@@ -109,6 +109,11 @@ def second_of(flags: int, second: Optional[bytes]) -> Optional[Tuple[int, int]]:
     """Format and time of a secondary header whose format the packet's stamps have; None where they have that of the counter."""
     if not flags & 0x40 or second is None:
         return None
+    return told_by(flags, second)
+
+
+def told_by(flags: int, second: bytes) -> Tuple[int, int]:
+    """Format and time of a secondary header, in units of 100 ns."""
     form = flags >> 2 & 3
     return form, int(ticks_of(numpy.frombuffer(second, '<u8', 1), form)[0])
 

@@ -41,6 +41,7 @@ public standard alone.
   ch10 json < INPUT           the same as JSON lines
   ch10 svg < INPUT            a picture of rates and losses over time
   ch10 setup < INPUT          the setup text, or --tree
+  ch10 index < INPUT          the index, and whether it leads where it says
   ch10 range < INPUT          a range of time (--from, --to) as a recording
   ch10 file NAME < IMAGE      one file of an image, as a recording
   ch10 export --as FORM < INPUT   Ethernet, video, analog or PCM as a file
@@ -188,6 +189,7 @@ def parser_of() -> 'Parser':
     made.add_argument('--streaming', action='store_true', help='the configuration of a stream (computer-generated data, format 4)')
     made.add_argument('--tree', action='store_true', help='the attributes of chapter 9 as a tree, '
                       'and which channels of the recording they do not name or name otherwise')
+    with_clock(going_on(command('index', run_of('index', 'index'), 'Writes the entries of the index as CSV.', INDEX_MORE)))
     made = command('tmats', run_of('script', 'as_tmats'),
                    'Writes a setup text of chapter 9 for the channels of a script, or of settings of r10d.',
                    'As in: ch10 tmats --hex < SCRIPT, which is what setup = "..." takes.')
@@ -273,6 +275,10 @@ it would name other places.
 """
 
 
+INDEX_MORE = """A line for each entry: where its packet stands, whether it is a root or a node,
+count and time, channel and type, the place that it names, and whether a packet
+of that channel and type, of a root an index packet, begins there.
+"""
 VALUES_MORE = """Without --icd the setup text says where measurements stand: its groups C, B, D
 and P. DOCUMENT says of each measurement where it stands and what it is counted in. A
 CSV has a line for each, and names its columns in the first one:

@@ -3,6 +3,7 @@ from __future__ import annotations
 
 from typing import Any, Container, Iterator, List, NamedTuple, Optional
 
+from .clocks import HEADERS
 from .inputs import Output, unread_text
 from .kinds import KINDS
 from .standard import INDEX, LOSS, NETWORK_TIME, Fault
@@ -51,6 +52,8 @@ def doubts_of(survey: Any) -> List[str]:
         lines += ['times: session %d has none' % number for number in without[:MOST_SAID]]
         if len(without) > MOST_SAID:
             lines.append('times: %d sessions more have none' % (len(without) - MOST_SAID))
+    if clock and clock.channel == HEADERS:
+        lines.append('times: no time packet tells one; they are those of secondary headers')
     for line in survey.times:
         if line.invalid:
             lines.append('times: %d of %d time packets of channel %d say that they are invalid, and are not used' % (

@@ -18,7 +18,7 @@ from .packets import loss_of, packets
 from .segments import Segments
 from .standard import SETUP, Fault
 from .store import Store, StoreError, open_store, partition_of
-from .survey import name_of, said_in
+from .survey import name_of, said_in, time_of_header
 from .tmats import attributes
 from .workers import Pool, Task, processors
 
@@ -89,6 +89,8 @@ class Layout:
                 self.cuts.append((last, report, dict(states)))
             report = loss_of(packet)
             self.segments.note(packet)
+            if packet.second is not None:
+                timing.add_header(packet.counter + base, time_of_header(packet), packet.offset)
             told = said_in(packet)
             if told is not None:
                 timing.add(packet.channel, packet.counter + base, told, packet.offset, packet.flags)

@@ -8,13 +8,14 @@ from typing import Dict, Iterable, List, Optional, Sequence, Tuple
 from . import walk
 from .bodies import BODIES, counts
 from .clocks import BITS, COUNTLESS, NOTHING, Asked, Sessions, TimeLine, Timing
+from .columns import told_by
 from .data_types import family_of
 from .kinds import by_type
 from .log_lines import MESSAGE, Log, use
 from .packets import KNOWN, UNTOLD, Packet, Resync, Stretch, loss_of, lost_before, packet_at
 from .segments import WHY, Segments, is_segment
 from .standard import COUNT_BITS, INDEX, NETWORK_TIME, NONE_LATER, SETUP, SPAN, STREAMING, TIME, Damaged, Data, Fault, let_go
-from .times import Time, network_time, time
+from .times import Time, header_time, network_time, time
 from .tmats import Names
 
 STATES = by_type('last_state')
@@ -129,6 +130,14 @@ def said_in(packet: Packet) -> Optional[Time]:
     return network_time(packet.body) if packet.kind == NETWORK_TIME else None
 
 
+def time_of_header(packet: Packet) -> Optional[Time]:
+    """The time that a packet's secondary header tells, or None."""
+    if packet.second is None or packet.flags & 0x0C == 0x0C:
+        return None
+    form, ticks = told_by(packet.flags, packet.second)
+    return header_time(ticks, form)
+
+
 def why_unread(packet: Packet) -> str:
     """Why a packet is opaque."""
     if packet.flags & 0x40:
@@ -233,6 +242,8 @@ class Survey:
                 self.held.append((row, len(self.lows), packet.counter, is_jump))
             else:
                 row.at(last)
+            if packet.second is not None:
+                self.timing.add_header(last, time_of_header(packet), packet.offset)
             self.note(packet, found, said, row, base)
             whole = self.segments.note(packet)
             if whole:

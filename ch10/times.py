@@ -62,17 +62,36 @@ def network_time(body: bytes) -> Time:
     quality = LOCKED if word & 15 else INVALID
     if word >> 4 & 15 == 0:
         seconds += 0 if seconds >> 31 else 1 << 32  # which began anew in 2036
-        ticks, is_leap = date(1900, 1, 1).toordinal() * DAY + seconds * SECOND + part * SECOND // (1 << 32), False
-    else:
-        tai = date(1970, 1, 1).toordinal() * DAY + seconds * SECOND + part // 100
-        ahead = 10 + bisect_right(LEAPS, tai)
-        ticks = tai - ahead * SECOND
-        is_leap = ahead < 10 + len(LEAPS) and LEAPS[ahead - 10] - tai <= SECOND
+        return dated_time(date(1900, 1, 1).toordinal() * DAY + seconds * SECOND + part * SECOND // (1 << 32), False, quality)
+    return tai_time(seconds * SECOND + part // 100, quality)
+
+
+def tai_time(past: int, quality: int) -> Time:
+    """The time so many units of 100 ns after the begin of 1970 by TAI."""
+    tai = date(1970, 1, 1).toordinal() * DAY + past
+    ahead = 10 + bisect_right(LEAPS, tai)
+    return dated_time(tai - ahead * SECOND, ahead < 10 + len(LEAPS) and LEAPS[ahead - 10] - tai <= SECOND, quality)
+
+
+def dated_time(ticks: int, is_leap: bool, quality: int) -> Time:
+    """A time with a date, in a second 60 or in another."""
     said = civil(ticks - SECOND if is_leap else ticks, True)
     if said is None:
         return Time('', True, None, quality, True, True, False, False)
     said = '%s.%02d' % (said[:-2] + '60' if is_leap else said, ticks % SECOND // 100000)
     return Time(said, True, ticks, quality, True, True, False, is_leap)
+
+
+def header_time(ticks: int, form: int) -> Optional[Time]:
+    """The time of a secondary header in a format of its own, as `ch10.columns.ticks_of` has it: 0 is the time of chapter 4, since
+    the begin of the year, 1 is IEEE 1588, by TAI. None of the counter, and where the calendar has no such time."""
+    if form == 1:
+        said = tai_time(ticks, FREE)
+        return said if said.ticks is not None else None
+    if form or ticks >= 366 * DAY:
+        return None
+    text = '%s.%02d' % (civil(ticks + DAY, False), ticks % SECOND // 100000)
+    return Time(text, False, ticks + DAY, FREE, True, False, False, False)
 
 
 def leaps() -> List[int]:

@@ -227,7 +227,7 @@ def outputs_without_room() -> Tuple[object, object]:
         pathlib.Path(icd).write_text('name,kind,bits\nA,arinc,0\n')
         text = (TOP / 'examples' / 'first.toml').read_bytes()
         run(['catalogue', 'add', '--unjudged', '--jobs', '1', '--db', base, path], b'')
-        for words in (['summary'], ['csv'], ['json'], ['svg'], ['setup'], ['range'], ['tmats'], ['file', 'FLT1'],
+        for words in (['summary'], ['csv'], ['json'], ['svg'], ['setup'], ['index'], ['range'], ['tmats'], ['file', 'FLT1'],
                       ['catalogue', 'find', '--db', base], ['catalogue', 'add', '--unjudged', '--jobs', '1', '--db', base, path],
                       ['load', '--unjudged', '--jobs', '1', '--db', base, path], ['report', '--unjudged', path], ['--help'],
                       ['--version'], ['export', '--as', 'samples'], ['values', '--icd', icd], ['plot', 'A', '--icd', icd]):

@@ -153,6 +153,38 @@ def no_streaming_configuration() -> Found:
         (1, 'a body without its word at offset %d' % len(b''.join(opened()))))
 
 
+# ---- recording index (11.2.7, format 3)
+
+def recording_index() -> Found:
+    """Nodes and roots, with the size of the file and headers within and without: count, time, channel, type and place, and whether
+    a packet of that channel and type begins there."""
+    front = opened() + [packet(5, 0x50, 2000, made.uart([(2000, b'x')]))]
+    places = [0, len(front[0]), len(front[0]) + len(front[1])]
+    end, found = len(b''.join(front)), []
+    nodes = [(1000, 0, 0x01, 0), (1000, 1, 0x11, places[1]), (2000, 5, 0x50, places[2]), (2000, 6, 0x50, places[2]),
+             (2000, 5, 0x30, places[2]), (2000, 5, 0x50, places[2] + 4), (2000, 5, 0x50, 1 << 40)]
+    for size, header in ((None, b''), (1 << 33, b'12345678')):
+        data = b''.join(front + [packet(0, 0x03, 2000, made.index(nodes, True, size, header), 1),
+                                 packet(0, 0x03, 2000, made.index([(1000, end), (1000, 4), (1000, 0)], False, size, header), 2)])
+        status, said, line = run(['index'], data)
+        found.append((status, line, [row.split(',')[1:] for row in said.decode().splitlines()[1:]]))
+    names = {0x01: 'setup', 0x11: 'time', 0x50: 'uart', 0x30: 'message'}
+    front_of = {1000: ['1000', '2024-02-29 12:34:56.0000000'], 2000: ['2000', '2024-02-29 12:34:56.0001000']}
+    rows = [['node', *front_of[count], str(channel), names[kind], str(at), 'yes' if place < 3 else 'no']
+            for place, (count, channel, kind, at) in enumerate(nodes)]
+    rows += [['root', *front_of[1000], '', '', str(at), answer] for at, answer in ((end, 'yes'), (4, 'no'), (0, 'no'))]
+    return found, [(0, '', rows)] * 2
+
+
+def recording_index_cut() -> Found:
+    """A body with less than its entries is a fault, and so is a recording without an index."""
+    whole = made.index([(1000, 0, 0x01, 0), (1000, 1, 0x11, 40)], True, 9, b'12345678')
+    data = b''.join(opened() + [packet(0, 0x03, 2000, whole[:-1], 1), packet(0, 0x03, 2000, whole, 2)])
+    status, said, line = run(['index'], data)
+    return (status, line, len(said.splitlines()), run(['index'], b''.join(opened()))[::2]), (
+        1, '1 index packet not read: less than its entries in a body', 3, (1, 'the recording has no index packet'))
+
+
 # ---- messages in segments (11.2.9)
 
 def segments_of(whole: bytes, sizes: Sequence[int], first: int, count: int, sub: int = 3,
@@ -246,4 +278,5 @@ def time_tags_of_many() -> Found:
 
 TRIALS: List[Callable[[], Found]] = [
     weapons_bus, weapons_bus_cut, firewire, firewire_cut, firewire_physical, firewire_physical_cut, streaming_configuration,
-    no_streaming_configuration, joined_segments, broken_segments, time_tags, time_tags_of_many]
+    no_streaming_configuration, recording_index, recording_index_cut, joined_segments, broken_segments, time_tags,
+    time_tags_of_many]

@@ -448,6 +448,42 @@ def network_leap_second() -> Found:
         'time on channel 1: 4 packets, 0 jumps, 0 steps back, 0 seconds without one; drift not known')
 
 
+# ---- the times of secondary headers (11.2.1.2)
+
+def header_times() -> Found:
+    """Where no time packet tells a time those of secondary headers do: IEEE 1588 by TAI, and that of chapter 4, whose year --year
+    tells; by each command, and in a range of it. That is said."""
+    found = []
+    for form, start, words in ((made.IEEE_1588, (UNIX_2024 + 37) * SECOND, []),
+                               (made.CHAPTER_4, 137 * 24 * 3600 * SECOND + 9 * 3600 * SECOND, ['--year', '2024'])):
+        one = opened()
+        for place in range(6):
+            entry(one, place * SECOND // 2 + 100, str(place), flags=form << 2,
+                  secondary=made.time_of(form, start + place * SECOND // 2))
+        data = one.data()
+        ranged = run(['range', '--from', '09:00:01', '--to', '09:00:02', *words], data)[1]
+        found.append((times(words, data), times(words, ranged), notes(['csv', *words], data),
+                      [said for said, in rows(['--channel', '5', '--quality', *words], data, 'quality')][:1]))
+        if form == made.IEEE_1588:
+            ways = by_ways(data)
+    every = ['2024-05-17 09:00:0%d.%d000000' % (place // 2, place % 2 * 5) for place in range(6)]
+    said = (0, ['times: no time packet tells one; they are those of secondary headers'])
+    return (found, ways), ([(every, every[2:5], said, ['free'])] * 2,
+                           dict.fromkeys(('csv', 'raw', 'json', 'one', 'many'), list(zip(every, '012345'))))
+
+
+def header_times_come_last() -> Found:
+    """A time packet comes before them, and so does nothing at all before the extended counter, which tells no time."""
+    one = opened().add(1, 0x11, 0, made.time_f1('2024-05-17 09:00:00.00'))
+    entry(one, 5, 'a', secondary=made.time_of(made.IEEE_1588, 0), flags=made.IEEE_1588 << 2)
+    other = opened()
+    entry(other, 5, 'a', secondary=made.time_of(made.EXTENDED_COUNTER, 10 ** 15), flags=made.EXTENDED_COUNTER << 2)
+    late = opened()
+    entry(late, 5, 'a', secondary=made.time_of(made.CHAPTER_4, 400 * 24 * 3600 * SECOND), flags=made.CHAPTER_4 << 2)
+    return [(times([], data), notes(['csv'], data)) for data in (one.data(), other.data(), late.data())], [
+        (['2024-05-17 09:00:00.0000005'], (0, [])), ([''], (0, [])), ([''], (0, []))]
+
+
 # ---- the year of times that have none
 
 def year_given() -> Found:
@@ -599,5 +635,6 @@ TRIALS: List[Callable[[], Found]] = [
     counter_back_states, counter_to_and_fro,
     counter_full,
     order_of_writing, session_without_times, leap_second, leap_second_ranges, leap_second_of_a_day, new_year, invalid_format,
-    no_source, qualities, qualities_of_many, best_channel, unlocked_start, network_times, network_leap_second, year_given,
+    no_source, qualities, qualities_of_many, best_channel, unlocked_start, network_times, network_leap_second, header_times,
+    header_times_come_last, year_given,
     year_by_channel, year_guessed, left_out, no_setup, twice, wrong_sum, database_as_input, long_front]

@@ -165,6 +165,17 @@ def events(some: Iterable[Tuple[int, int, int]], header: Optional[bytes] = None)
         stamp(count) + inner + struct.pack('<I', number | occurrence << 12 | 1 << 28) for count, number, occurrence in some)
 
 
+def index(entries: Sequence[Tuple[int, ...]], is_node: bool, size: Optional[int] = None, header: bytes = b'') -> bytes:
+    """11.2.7, computer-generated data, format 3: nodes, each a count, channel, data type and place of a packet, or roots, each a
+    count and place of an index packet. Before them the size of the file where one is given (bit 30), within each a header of 8
+    bytes where one is given (bit 29)."""
+    made = word(len(entries) | int(is_node) << 31 | int(size is not None) << 30 | int(bool(header)) << 29, 4)
+    made += b'' if size is None else word(size, 8)
+    for entry in entries:
+        made += stamp(entry[0]) + header + (word(entry[1] | entry[2] << 16, 4) if is_node else b'') + word(entry[-1], 8)
+    return made
+
+
 # ---- channels
 
 def message_1553(count: int, words: Sequence[int], status: int = 0, gaps: int = 0) -> bytes:
