@@ -15,7 +15,7 @@ is_on channel one = one.channel == channel
 
 -- of a channel none was accepted yet
 abbrev pub not_yet : ChannelSpec → Accepted
-not_yet spec = record { channel = spec.id; messages = 0 }
+not_yet spec = record { channel = spec.id; messages = 0; handed = 0; handed_lost = 0; erased_lost = 0 }
 
 abbrev pub one_more : Accepted → Accepted
 one_more one = record one { messages = saturated (one.messages + 1) }

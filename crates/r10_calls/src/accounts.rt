@@ -15,11 +15,18 @@ use r10_machine::{ChannelStatus, Event, Reply};
 use r10_region::SteadyMedium;
 use std::alloc::{AllocError, Global};
 
-/// How many messages of a channel were accepted, up to `u64::MAX`.
+/// What is counted of a channel's messages beside what the recorder counts, each number up to `u64::MAX`.
 #[derive(Clone, Copy)]
 pub struct Accepted {
     pub channel: u16,
+    /// the messages that its lane accepted
     pub messages: u64,
+    /// those of them that were taken out of the lane to go elsewhere
+    pub handed: u64,
+    /// the losses that the gaps of these report
+    pub handed_lost: u64,
+    /// the losses that the gaps of erased messages reported
+    pub erased_lost: u64,
 }
 
 /// What became of the messages of a channel.
@@ -46,6 +53,9 @@ pub fn none_accepted(alloc: Global, channels: &[ChannelSpec]) -> Result<Vec<Acce
         accepted.push(Accepted {
             channel: spec.id,
             messages: 0,
+            handed: 0,
+            handed_lost: 0,
+            erased_lost: 0,
         })?;
     }
     Ok(accepted)

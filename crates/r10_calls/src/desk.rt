@@ -2,7 +2,7 @@
 
 ghost use Rattle.std.specs.Prelude.{◌≡◌};
 ghost use Rattle.r10_calls.specs.Faults.{fault_in};
-ghost use Rattle.r10_calls.specs.Told.{ShowsMedium, Stays, Told, number_of};
+ghost use Rattle.r10_calls.specs.Told.{ShowsMedium, Stays, StepsToReply, number_of};
 
 use crate::fault::{FaultOut, fault_in};
 use crate::place::WorldPlace;
@@ -35,13 +35,13 @@ impl<M: SteadyMedium + Drop> Drop for Desk<M> {
 impl<M: SteadyMedium + Drop> Desk<M> {
     /// Tells the recorder one event, gives its reply, and keeps what a refusal carries.
     pub(crate) fn tell(&mut self, event: Event) -> Reply
-        ensures told { Told M.disk self.old.world event result self.new.world }
+        ensures steps { StepsToReply M.disk self.old.world event result self.new.world }
         ensures config { self.new.world.recorder.kept.config ≡ self.old.world.recorder.kept.config }
         ensures fault { self.new.fault ≡ fault_in result self.old.fault }
         ensures hand { self.new.hand ≡ self.old.hand }
         ensures stays { Stays M.identity self.old self.new }
     {
-        let reply = self.world.run(self.alloc, event);
+        let reply = self.world.run(event);
         self.fault = fault_in(&reply, self.fault);
         reply
     }

@@ -33,6 +33,7 @@ pub mod Stops
 mod Leaves
 mod Moments
 mod StopPoints
+mod FirstsTaken
 mod Works
 mod Effecting
 mod Making

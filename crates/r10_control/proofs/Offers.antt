@@ -172,7 +172,7 @@ module _ (channel : ℕ) where
       by true rest = refl
       by false rest = rest
 
-  changed_in : (change : Lane → Lane) → ((l : Lane) → change (unerased l) ≡ unerased (change l)) → (lanes : List Lane) → change_first (is_channel channel) change (map unerased lanes) ≡ map unerased (change_first (is_channel channel) change lanes)
+  pub changed_in : (change : Lane → Lane) → ((l : Lane) → change (unerased l) ≡ unerased (change l)) → (lanes : List Lane) → change_first (is_channel channel) change (map unerased lanes) ≡ map unerased (change_first (is_channel channel) change lanes)
   changed_in change same [] = refl
   changed_in change same (l ∷ lanes) = by (is_channel channel l) (changed_in change same lanes)
     where

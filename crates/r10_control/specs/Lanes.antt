@@ -1,5 +1,5 @@
 -- The lanes of one thread, and the machine's.
-use Rattle.std.specs.Prelude.{◌≡◌, ℕ, ◌≤◌, List, [], ◌∷◌, map, find, Option, None, Some, Result, MatchResult, is_none, if◌then◌else◌}
+use Rattle.std.specs.Prelude.{◌≡◌, ℕ, ◌≤◌, List, [], ◌∷◌, map, find, Option, None, Some, Result, MatchResult, is_none, slice_get, if◌then◌else◌}
 use Rattle.r10_count.specs.Checks.{first_broken}
 use Rattle.r10_body.specs.declared.entry.Sample.{Sample}
 use Rattle.r10_body.specs.declared.message.Message.{Message}
@@ -7,7 +7,7 @@ use Rattle.r10_body.specs.declared.refusal.Refusal.{Refusal}
 use Rattle.r10_lane.specs.Lanes.{reached}
 use Rattle.r10_machine.specs.Calls.{accepted, losing, overflowed, without}
 use Rattle.r10_machine.specs.Checks.{channel_checks, offer_checks, offer_refusal}
-use Rattle.r10_machine.specs.Machine.{Lane, Machine, change_first, is_channel}
+use Rattle.r10_machine.specs.Machine.{Lane, Machine, change_first, is_channel, with_lane}
 use Rattle.r10_refinement.specs.Kept.{Kept}
 use Rattle.r10_refinement.specs.Means.{KeptStepsTo, KeptStandsFor}
 use Rattle.r10_medium.specs.Disk.{Image}
@@ -65,6 +65,26 @@ LosesOn channel old lost result new =
     MatchResult result
     (λ _. (first_broken (channel_checks lane) ≡ None) × (new ≡ change_first (is_channel channel) (losing lost) old))
     (λ r. (first_broken (channel_checks lane) ≡ Some r) × (new ≡ old))
+
+-- ---- what waits
+
+-- the first message that waits in a lane, where there is the lane
+abbrev pub first_waiting : Option Lane → Option Sample
+first_waiting None = None
+first_waiting (Some lane) = slice_get lane.waiting 0
+
+-- what a call answers that takes the first message that waits on a channel, and the lanes that it leaves
+abbrev pub TakesWaiting : ℕ → List Lane → Result (Option Sample) Refusal → List Lane → Type 0
+TakesWaiting channel old result new =
+    let lane = find (is_channel channel) old in
+    MatchResult result
+    (λ first. (first_broken (channel_checks lane) ≡ None) × (first ≡ first_waiting lane) × (new ≡ change_first (is_channel channel) (without 1) old))
+    (λ r. (first_broken (channel_checks lane) ≡ Some r) × (new ≡ old))
+
+-- Each machine that is represented and has these lanes: without the first message that waits on the channel it is represented, and has those.
+abbrev pub StandsWithout : ℕ → Kept → Image → ℕ → List Lane → List Lane → Type 0
+StandsWithout channel k image failures old new =
+    (m : Machine) → KeptStandsFor k image failures m → AreLanes old m → KeptStandsFor k image failures (with_lane channel (without 1) m) × AreLanes new (with_lane channel (without 1) m)
 
 -- lanes with the same settings, which have reached as much or more
 abbrev pub HaveRisen : List Lane → List Lane → Type 0

@@ -20,6 +20,7 @@ mod standing;
 mod starting;
 mod status;
 mod stopping;
+mod waiting;
 mod work;
 mod written_laws;
 

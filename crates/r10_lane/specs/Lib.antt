@@ -1,4 +1,5 @@
 pub mod Lanes
 pub mod Laws
+pub mod Losing
 pub mod Spending
 pub mod Vectors

@@ -3,9 +3,11 @@
 #![tactic(auto)]
 
 mod lane_out;
+mod losses;
 mod ring_lane;
 mod spent;
 
 pub use lane_out::LaneOut;
+pub use losses::Losses;
 pub use ring_lane::RingLane;
 pub use spent::Spent;

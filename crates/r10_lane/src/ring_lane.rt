@@ -1,13 +1,16 @@
 //! A lane of one thread.
 
-ghost use Rattle.std.specs.Prelude.{◌≡◌, ◌≤◌, IfOk, length, option_copied, slice_get};
+ghost use Rattle.std.specs.Prelude.{◌≡◌, ◌≤◌, IfOk, MatchResult, None, Some, length, option_copied, slice_get};
 ghost use Rattle.r10_count.specs.Count.{IsCount};
 ghost use Rattle.r10_machine.specs.Calls.{losing};
+ghost use Rattle.r10_machine.specs.Checks.{offer_refusal};
 ghost use Rattle.r10_machine.specs.Machine.{fresh_lane};
 ghost use Rattle.r10_machine.specs.SoundParts.{count_or_0};
 ghost use Rattle.r10_lane.specs.Lanes.{Offers, reached, Waits};
+ghost use Rattle.r10_lane.specs.Losing.{losses_of};
 
 use crate::lane_out::LaneOut;
+use crate::losses::{Losses, add_losses};
 use circular_buffer::HeapCircularBuffer;
 use r10_body::{ChannelSpec, Gap, Message, Refusal, Sample};
 use r10_count::Count;
@@ -96,6 +99,18 @@ impl RingLane {
         }
     }
 
+    /// What an offer of this message would be refused by, as `offer` has it. Nothing is offered, and no loss is counted.
+    pub fn would_take(&self, count: u64, message: &Message) -> Result<(), Refusal>
+        ensures { MatchResult result (λ _. offer_refusal (Some self.now) count message.now ≡ None)
+            (λ r. offer_refusal (Some self.now) count message.now ≡ Some r) }
+    {
+        match check_offer(&self.spec, self.last, count, message) {
+            Ok(_) if self.waiting.len() < self.spec.capacity => Ok(()),
+            Ok(_) => Err(Refusal::Overflow),
+            Err(refusal) => Err(refusal),
+        }
+    }
+
     /// The channel lost so many messages that were never offered: the next one that is accepted has them in its gap.
     pub fn lose(&mut self, lost: u64)
         ensures { self.new ≡ losing lost self.old }
@@ -132,6 +147,18 @@ impl RingLane {
         ensures { result ≡ self.now.lost }
     {
         self.lost
+    }
+
+    /// How many messages were lost in all, since the last one that was accepted, and before those that wait.
+    pub fn losses(&self) -> Losses
+        ensures { result ≡ losses_of self.now }
+    {
+        let (front, back) = self.waiting.as_slices();
+        Losses {
+            lost: self.lost,
+            missed: self.missed,
+            waiting: add_losses(add_losses(0, front), back),
+        }
     }
 }
 

@@ -5,3 +5,4 @@ pub mod Copies
 pub mod Joined
 pub mod Stopping
 pub mod Answering
+pub mod Waiting

@@ -12,3 +12,7 @@ pub record WorldState (M : Type 0) : Type 0 where
 -- the same over a medium
 abbrev pub with_medium : {M N : Type 0} → N → WorldState M → WorldState N
 with_medium medium w = record { recorder = record { kept = w.recorder.kept; lanes = w.recorder.lanes; medium = medium }; slots = w.slots }
+
+-- the same with these lanes
+abbrev pub with_lanes : {M : Type 0} → List Lane → WorldState M → WorldState M
+with_lanes lanes w = record { recorder = record { kept = w.recorder.kept; lanes = lanes; medium = w.recorder.medium }; slots = w.slots }

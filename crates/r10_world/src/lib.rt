@@ -16,6 +16,6 @@ pub use laws::{
 pub use r10_machine::{
     ChannelStatus, Event, FileInfo, Found, Mode, Reply, Settings, SettingsFault, Status, Stopped,
 };
-pub use running::run;
+pub use running::{run, run_one};
 pub use whole::{format_and_record, record_all, run_over_any_medium};
 pub use world::{LiftedWorld, World};

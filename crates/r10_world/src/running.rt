@@ -1,6 +1,6 @@
 //! Runs of a world.
 
-ghost use Rattle.std.specs.Prelude.{◌≡◌, ◌<◌, ◌≤◌, ◌+◌, Ok, Err, IfOk, OnErr, length, take, drop, vec_len};
+ghost use Rattle.std.specs.Prelude.{◌≡◌, ◌<◌, ◌≤◌, ◌+◌, [], ◌∷◌, Ok, Err, IfOk, OnErr, length, take, drop, vec_len};
 ghost use Rattle.r10_world.specs.Answering.{AnswersEach};
 ghost use Rattle.r10_world.specs.Copies.{IsCopy};
 ghost use Rattle.r10_world.specs.Stopping.{RunsSafely};
@@ -60,4 +60,16 @@ pub fn run<M: BlockMedium>(
         replies.push_reserved(reply);
     }
     Ok(events.len())
+}
+
+/// Does one event that is given away, as `run` does it, and gives its reply. An offer takes its message, so nothing is copied.
+pub fn run_one<M: BlockMedium>(world: &mut World<M>, event: Event) -> Reply
+    ensures run { WorldRuns M.disk world.old (event ∷ []) (result ∷ []) world.new }
+    ensures answers { AnswersEach M.disk world.old (event ∷ []) (result ∷ []) world.new }
+    ensures power_loss { RunsSafely M.disk world.old (event ∷ []) (result ∷ []) world.new }
+    ensures config { world.new.recorder.kept.config ≡ world.old.recorder.kept.config }
+{
+    // For the proof: one run after another is a run.
+    runs_join();
+    world.give(event)
 }

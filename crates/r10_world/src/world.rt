@@ -1,17 +1,22 @@
 //! A world: a recorder, and the cursors of its readers.
 
-ghost use Rattle.std.specs.Prelude.{◌≡◌, List, length, map, IfErr, IfOk};
-ghost use Rattle.r10_machine.specs.Machine.{File, fresh, fresh_lane};
+ghost use Rattle.std.specs.Prelude.{◌≡◌, List, None, Some, length, map, option_map, IfErr, IfOk, MatchResult};
+ghost use Rattle.r10_body.specs.declared.refusal.Refusal.TheVariants as refusals;
+ghost use Rattle.r10_lane.specs.Losing.{losses_of};
+ghost use Rattle.r10_machine.specs.Checks.{offer_refusal};
+ghost use Rattle.r10_machine.specs.Machine.{File, fresh, fresh_lane, lane_in};
 ghost use Rattle.r10_world.specs.Copies.{IsCopy};
 ghost use Rattle.r10_world.specs.Joined.{begun_world};
 ghost use Rattle.r10_medium.specs.Stop.{Settled};
 ghost use Rattle.r10_refinement.specs.Safe.{IsSafe};
 ghost use Rattle.r10_control.specs.Fronts.{Spares};
+ghost use Rattle.r10_control.specs.Lanes.{TakesWaiting};
 ghost use Rattle.r10_world.specs.Answering.{AnswersSo};
 ghost use Rattle.r10_world.specs.Stopping.{Recovers, Survives};
 ghost use Rattle.r10_world.specs.Telling.{WorldStandsFor, RecorderStepsTo};
 ghost use Rattle.r10_machine.specs.Says.{MediumHas, MediumSays};
-ghost use Rattle.r10_world.specs.State.{number_on, with_medium};
+ghost use Rattle.r10_world.specs.State.{number_on, with_lanes, with_medium};
+ghost use Rattle.r10_world.specs.Waiting.{StandsOn};
 
 use crate::a_new_recorder_stands;
 use crate::control::{
@@ -19,10 +24,10 @@ use crate::control::{
     status, stop, tick,
 };
 use crate::readers::{advance, close, next, open};
-use r10_body::{ChannelSpec, Message, Refusal};
+use r10_body::{ChannelSpec, Message, Refusal, Sample};
 use r10_control::{Lifted, Recorder};
 use r10_cursor::Cursor;
-use r10_lane::RingLane;
+use r10_lane::{Losses, RingLane};
 use r10_machine::{Event, Reply, Settings};
 use r10_medium::BlockMedium;
 use slab::Slab;
@@ -175,6 +180,34 @@ impl<M: BlockMedium> World<M> {
         self.recorder.erased(channel)
     }
 
+    /// What an offer of this message to a channel would be refused by. Nothing is offered, and no loss is counted.
+    pub fn would_take(&self, channel: u16, count: u64, message: &Message) -> Result<(), Refusal>
+        ensures { MatchResult result (λ _. offer_refusal (lane_in channel self.now.recorder.lanes) count message.now ≡ None)
+            (λ r. offer_refusal (lane_in channel self.now.recorder.lanes) count message.now ≡ Some r) }
+    {
+        self.recorder.would_take(channel, count, message)
+    }
+
+    /// Takes the first message that waits on a channel out of its lane, in any mode, with the loss before it. It is in no file of this
+    /// recorder then. `None` where none waits. Refused: NoSuchChannel.
+    pub fn take_waiting(&mut self, channel: u16) -> Result<Option<Sample>, Refusal>
+        ensures takes { TakesWaiting channel self.old.recorder.lanes result self.new.recorder.lanes }
+        ensures stands { IfOk result (λ _. StandsOn M.disk channel self.old self.new) }
+        ensures others { self.new ≡ with_lanes self.new.recorder.lanes self.old }
+    {
+        self.recorder.take_waiting(channel)
+    }
+
+    /// How many messages of a channel were lost in all, since the last one that was accepted, and before those that wait, each up to
+    /// `u64::MAX`. Refused: NoSuchChannel.
+    pub fn losses(&self, channel: u16) -> Result<Losses, Refusal>
+        ensures losses { IfOk result (λ losses. option_map losses_of (lane_in channel self.now.recorder.lanes) ≡ Some losses) }
+        ensures refused { IfErr result
+            (λ r. (r ≡ refusals.NoSuchChannel) × (lane_in channel self.now.recorder.lanes ≡ None)) }
+    {
+        self.recorder.losses(channel)
+    }
+
     /// Where memory comes from.
     pub(crate) fn alloc(&self) -> Global {
         self.alloc
@@ -197,6 +230,27 @@ impl<M: BlockMedium> World<M> {
             event,
             copy,
         )
+    }
+}
+
+impl<M: BlockMedium> World<M> {
+    /// One event that is given away: an offer takes its message.
+    pub(crate) fn give(&mut self, event: Event) -> Reply
+        ensures tells { RecorderStepsTo M.disk self.old.recorder self.old.slots event result self.new.recorder self.new.slots }
+        ensures answers { AnswersSo M.disk self.old.recorder self.old.slots event result self.new.recorder self.new.slots }
+        ensures power_loss { Survives M.disk self.old.recorder event result self.new.recorder }
+        ensures spares { Spares self.old.recorder.kept (M.disk self.old.recorder.medium) event
+            (M.disk self.new.recorder.medium) }
+        ensures config { self.new.recorder.kept.config ≡ self.old.recorder.kept.config }
+    {
+        match event {
+            Event::Offer {
+                channel,
+                count,
+                message,
+            } => offer(&mut self.recorder, channel, count, message),
+            event => self.step(&event, &mut None),
+        }
     }
 }
 
