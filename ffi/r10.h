@@ -3,8 +3,8 @@
  * Each call answers 0, or why it did not do its work: the number of a refusal, 1 to 30, or one of the library's own, from 40 on. A call that answers
  * another number than 0 has changed nothing, but for these two. R10_OVERFLOW is counted. After R10_MEDIUM what the call did may be in the region or not, and
  * messages that it took from lanes may be gone: the recorder is failed, and answers R10_FAILED from then on (r10_close, and r10_open again). Memory that
- * was lent for an answer is as it was then too. Which numbers a call may answer stands at the call; R10_CLOSED stands for all. r10_carry_one says at the
- * call what it may have changed.
+ * was lent for an answer is as it was then too. Which numbers a call may answer stands at the call; R10_CLOSED stands for all. A refused r10_carry_one may
+ * have taken a message from the port, which it keeps for the next call.
  *
  * The library calls nothing of the system but malloc, realloc and free. It reads and writes the region, and says what a disk has to do so that it holds the
  * same: after each call, r10_orders hands out the operations in their order, as runs of neighbouring blocks and as syncs. The program does a run before it
@@ -186,6 +186,16 @@ typedef struct r10_account_info {
     size_t waiting;    /* of those that were accepted, the ones in its lane */
     uint16_t channel;
 } r10_account_info;
+
+/* How many messages of a channel were lost, and which gaps report that. Each number up to 2^64 - 1. */
+typedef struct r10_losses_info {
+    uint64_t missed;       /* lost since the last message that was accepted: no gap reports them yet */
+    uint64_t waiting_lost; /* the losses that the gaps of the messages in its lane report */
+    uint64_t erased_lost;  /* those that the gaps of erased messages reported */
+    uint64_t handed;       /* messages that r10_take_waiting took */
+    uint64_t handed_lost;  /* the losses that their gaps report */
+    uint16_t channel;
+} r10_losses_info;
 
 /* The two ends of a channel's lane between two threads, or none where they are all zeros. Keep them, and do not read them. */
 typedef struct r10_port {
@@ -398,9 +408,9 @@ void r10_port_close(r10_port *port);
 void r10_outlet_close(r10_outlet *outlet);
 
 /* Carries the port's next message into its channel's lane, by the thread that owns the recorder, in every mode: `carried` says whether one was. R10_OK
- * and none where there is none yet, or the lane is full: then it stays in the port. R10_NO_MEMORY; R10_COUNT_BACK (the channel was offered a later
- * message by another way). Where the recorder was opened by another script: R10_NO_CHANNEL, R10_PLACE, or why its lane does not take the message.
- * A message that is refused stays, and is the next again. The loss before it may be counted by then, and is counted once. */
+ * and none where there is none yet, or the lane is full: then it stays in the port. R10_COUNT_BACK: the channel was offered a later message by
+ * another way. Where the recorder was opened by another script: R10_NO_CHANNEL, or why its lane does not take the message.
+ * A message that is refused stays, and is the next again, with the loss before it, which is not counted then. It takes no memory. */
 uint32_t r10_carry_one(r10 *recorder, r10_outlet *outlet, bool *carried);
 
 /* ---- files, and how the recorder is */
@@ -421,6 +431,21 @@ uint32_t r10_channel(r10 *recorder, size_t place, r10_channel_info *info);
 
 /* The account of the channel at this place of the settings, from 0, in every mode. R10_PLACE. */
 uint32_t r10_account(r10 *recorder, size_t place, r10_account_info *info);
+
+/* ---- losses, and messages that go on to another recorder */
+
+/* The losses of the channel at this place of the settings, from 0, in every mode. R10_PLACE. */
+uint32_t r10_losses(r10 *recorder, size_t place, r10_losses_info *info);
+
+/* Takes the first message that waits on a channel out of its lane, in every mode, a failed recorder's too: `there` says whether one waited. It
+ * comes into the recorder's hand, in place of what was there, and r10_taken copies its bytes or words. It is in no file of this recorder then:
+ * give the `lost` of its entry to the next recorder's r10_lost, and offer it there. R10_NO_CHANNEL: then nothing changed. */
+uint32_t r10_take_waiting(r10 *recorder, uint16_t channel, bool *there, r10_entry *entry);
+
+/* How many of a channel's messages, and of those that were lost before they were offered, stand in no file and in no gap: by its account and its
+ * losses, where `found` of its messages were found in the files that the recorder began, and `found_lost` losses in their gaps (r10_found). Messages
+ * that r10_take_waiting took are not counted. */
+uint64_t r10_untold(const r10_account_info *account, const r10_losses_info *losses, uint64_t found, uint64_t found_lost);
 
 /* ---- readers, of files that are recorded too */
 
@@ -592,6 +617,24 @@ static inline uint32_t r10_account_of(r10 *recorder, uint16_t id, r10_account_in
     }
 }
 
+/* The losses of the channel of this ID. R10_NO_CHANNEL. */
+static inline uint32_t r10_losses_of(r10 *recorder, uint16_t id, r10_losses_info *info) {
+    r10_losses_info found;
+    if (info == NULL)
+        return recorder == NULL ? R10_CLOSED : R10_ROOM;
+    for (size_t place = 0;; place++) {
+        uint32_t answer = r10_losses(recorder, place, &found);
+        if (answer == R10_PLACE)
+            return R10_NO_CHANNEL;
+        if (answer != R10_OK)
+            return answer;
+        if (found.channel == id) {
+            *info = found;
+            return R10_OK;
+        }
+    }
+}
+
 /* Carries at most so many messages of a port into its channel's lane, and says how many, also where it answers a refusal: none where a handle is not
  * open. Numbers as r10_carry_one. */
 static inline uint32_t r10_carry(r10 *recorder, r10_outlet *outlet, size_t most, size_t *carried) {
@@ -618,6 +661,9 @@ typedef struct r10_parts {
 
 /* The most counts that r10_part tries at once where it is given channels: ten seconds. */
 #define R10_PART_SPAN 100000000
+
+/* The greatest count: counts have 48 bits. */
+#define R10_LAST_COUNT 281474976710655
 
 /* The count of the first shown entry of these channels from this count on; UINT64_MAX where there is none. Numbers as r10_find. */
 static inline uint32_t r10_first_count(r10 *recorder, size_t file, const uint16_t *ids, size_t id_count, uint64_t from, uint64_t *first) {
@@ -693,6 +739,46 @@ static inline uint32_t r10_part(r10 *recorder, r10_parts *parts, size_t file, co
         *queued = count;
         return R10_OK;
     }
+}
+
+/* Counts the messages of a channel in the files from this number on, and the losses that their gaps report, for r10_untold: of a mounted recorder whose
+ * last file is closed. It reads each file in parts of at most 4,096 messages (r10_part). Numbers as r10_part and r10_files; where it does not answer R10_OK, the
+ * two counts are as they were. */
+static inline uint32_t r10_found(r10 *recorder, size_t first, uint16_t channel, uint64_t *found, uint64_t *found_lost) {
+    uint64_t messages = 0, lost = 0;
+    size_t files = 0;
+    if (recorder == NULL)
+        return R10_CLOSED;
+    if (found == NULL || found_lost == NULL)
+        return R10_ROOM;
+    uint32_t answer = r10_files(recorder, &files);
+    for (size_t file = first; answer == R10_OK && file < files; file++) {
+        r10_parts parts = {0, R10_LAST_COUNT, 0};
+        for (;;) {
+            size_t cursor, queued;
+            bool there;
+            r10_entry entry;
+            answer = r10_part(recorder, &parts, file, &channel, 1, 4096, &there, &cursor, &queued);
+            if (answer != R10_OK || !there)
+                break;
+            while (answer == R10_OK && there) {
+                answer = r10_take(recorder, cursor, &there, &entry);
+                if (answer == R10_OK && there) {
+                    messages++;
+                    lost += entry.lost;
+                }
+            }
+            uint32_t closed = r10_close_cursor(recorder, cursor);
+            answer = answer != R10_OK ? answer : closed;
+            if (answer != R10_OK)
+                break;
+        }
+    }
+    if (answer != R10_OK)
+        return answer;
+    *found = messages;
+    *found_lost = lost;
+    return R10_OK;
 }
 
 /* ---- a log channel: the lines that the service r10d writes into one, in a channel of kind message of a program's own
@@ -1109,6 +1195,26 @@ static inline uint32_t r10_checked_account(r10 *recorder, size_t place, r10_acco
     return r10_account(recorder, place, info);
 }
 
+static inline uint32_t r10_checked_losses(r10 *recorder, size_t place, r10_losses_info *info) {
+    if (recorder == NULL)
+        return R10_CLOSED;
+    if (info == NULL)
+        return R10_ROOM;
+    return r10_losses(recorder, place, info);
+}
+
+static inline uint32_t r10_checked_take_waiting(r10 *recorder, uint16_t channel, bool *there, r10_entry *entry) {
+    if (recorder == NULL)
+        return R10_CLOSED;
+    if (there == NULL || entry == NULL)
+        return R10_ROOM;
+    return r10_take_waiting(recorder, channel, there, entry);
+}
+
+static inline uint64_t r10_checked_untold(const r10_account_info *account, const r10_losses_info *losses, uint64_t found, uint64_t found_lost) {
+    return account == NULL || losses == NULL ? 0 : r10_untold(account, losses, found, found_lost);
+}
+
 static inline uint32_t r10_checked_channel(r10 *recorder, size_t place, r10_channel_info *info) {
     if (recorder == NULL)
         return R10_CLOSED;
@@ -1223,6 +1329,9 @@ static inline uint32_t r10_checked_count_at(r10 *recorder, size_t file, const r1
 #define r10_fault r10_checked_fault
 #define r10_channel r10_checked_channel
 #define r10_account r10_checked_account
+#define r10_losses r10_checked_losses
+#define r10_take_waiting r10_checked_take_waiting
+#define r10_untold r10_checked_untold
 #define r10_cursor r10_checked_cursor
 #define r10_advance r10_checked_advance
 #define r10_next r10_checked_next
@@ -1255,6 +1364,7 @@ R10_SIZE(r10_file_info, 32);
 R10_SIZE(r10_status_info, 40);
 R10_SIZE(r10_channel_info, 32);
 R10_SIZE(r10_account_info, 40);
+R10_SIZE(r10_losses_info, 48);
 R10_SIZE(r10_port, 16);
 R10_SIZE(r10_outlet, 16);
 R10_SIZE(r10_port_info, 32);

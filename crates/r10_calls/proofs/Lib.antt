@@ -1,4 +1,5 @@
 mod Telling
+mod Carried
 mod Opened
 mod Counting
 mod Quiet

@@ -1,7 +1,7 @@
 -- What became of the messages of a channel, as a caller of another language has it.
 use Rattle.std.specs.Prelude.{ℕ, ◌+◌, ◌==◌, Bool, List, [], ◌∷◌, cond, find, None, Some}
 use Rattle.r10_body.specs.declared.spec.ChannelSpec.{ChannelSpec}
-use Rattle.r10_machine.specs.Machine.{saturated}
+use Rattle.r10_machine.specs.Machine.{change_first, saturated}
 use Rattle.r10_machine.specs.declared.reply.ChannelStatus.{ChannelStatus}
 use Rattle.r10_machine.specs.declared.reply.Reply.{Reply as ReplyValue}
 use Rattle.r10_refinement.specs.Kept.{Kept}
@@ -22,8 +22,7 @@ one_more one = record one { messages = saturated (one.messages + 1) }
 
 -- one more message of a channel was accepted
 abbrev pub more_on : ℕ → List Accepted → List Accepted
-more_on channel [] = []
-more_on channel (one ∷ rest) = cond (is_on channel one) (one_more one ∷ rest) (one ∷ more_on channel rest)
+more_on channel accepted = change_first (is_on channel) one_more accepted
 
 -- an offer to a channel was answered so: 0 says that its message was accepted
 abbrev pub counted : ℕ → ℕ → List Accepted → List Accepted

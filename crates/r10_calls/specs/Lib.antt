@@ -1,6 +1,7 @@
 pub mod Faults
 pub mod Place
 pub mod Told
+pub mod Carrying
 pub mod Hand
 pub mod Copies
 pub mod Entries
@@ -8,5 +9,6 @@ pub mod Outs
 pub mod Reading
 pub mod Listing
 pub mod Accounts
+pub mod Losses
 pub mod Opening
 pub mod Checking

@@ -62,7 +62,7 @@ pub fn none_accepted(alloc: Global, channels: &[ChannelSpec]) -> Result<Vec<Acce
 }
 
 /// The place of a channel.
-fn place_of(accepted: &[Accepted], channel: u16) -> Option<usize>
+pub(crate) fn place_of(accepted: &[Accepted], channel: u16) -> Option<usize>
     ensures { result ≡ position (is_on channel) accepted.now }
 {
     accepted.iter().position(|one| one.channel == channel)

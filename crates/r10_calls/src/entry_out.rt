@@ -76,7 +76,7 @@ pub struct EntryOut {
 }
 
 /// How many were lost; 0 where that isn't reported.
-fn lost_in(gap: Gap) -> u64
+pub(crate) fn lost_in(gap: Gap) -> u64
     ensures { result ≡ told_lost gap }
 {
     match gap {

@@ -15,7 +15,7 @@ use r10_machine::{Event, Reply};
 use r10_region::SteadyMedium;
 
 /// Whether a cursor gave an entry.
-fn is_next_in(reply: &Reply, old: bool) -> bool
+pub(crate) fn is_next_in(reply: &Reply, old: bool) -> bool
     ensures { result ≡ is_next_in reply.now old }
 {
     match reply {
@@ -26,7 +26,7 @@ fn is_next_in(reply: &Reply, old: bool) -> bool
 }
 
 /// The fields of the entry that a cursor gave.
-fn next_fields(reply: &Reply, old: EntryOut) -> EntryOut
+pub(crate) fn next_fields(reply: &Reply, old: EntryOut) -> EntryOut
     ensures { result ≡ next_fields reply.now old }
 {
     match reply {

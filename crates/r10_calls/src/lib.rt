@@ -2,6 +2,7 @@
 #![tactic(auto)]
 
 mod accounts;
+mod carrying;
 mod checking;
 mod control;
 mod copies;
@@ -10,6 +11,7 @@ mod entry_out;
 mod fault;
 mod hand;
 mod listing;
+mod losses;
 mod offers;
 mod opening;
 mod outs;
@@ -23,4 +25,5 @@ pub use desk::Desk;
 pub use entry_out::EntryOut;
 pub use fault::FaultOut;
 pub use listing::{ChannelOut, FileOut, StatusOut};
+pub use losses::{LossesOut, untold};
 pub use opening::{format, open};

@@ -1,2 +1,1 @@
 mod Lanes
-mod Tellings

@@ -1,14 +1,13 @@
 //! Samples are carried.
 
-ghost use Rattle.std.specs.Prelude.{◌≡◌, ◌⊎◌, false, true, None, Some};
-ghost use Rattle.r10_ends.specs.Ends.{OutletGoes};
+ghost use Rattle.std.specs.Prelude.{◌≡◌, false, true, None};
 ghost use Rattle.r10_calls.specs.Told.{Stays};
-ghost use Rattle.r10_carrier.specs.Carrying.{Carries, CarriesFirst, CarriesNext, CarriesSample, Reaches, in_hand, no_lane, why_not};
+ghost use Rattle.r10_carrier.specs.Carrying.{Carries, CarriesFirst, Reaches, in_hand, why_not};
+ghost use Rattle.r10_ends.specs.Ends.{OutletGoes};
 
 use crate::carry::Carry;
-use crate::sample_events::{NO_CHANNEL, tell_sample};
-use r10_body::{ChannelSpec, Sample};
-use r10_calls::{ChannelOut, Desk};
+use r10_body::Sample;
+use r10_calls::Desk;
 use r10_ends::{Carrier, OutletEnd};
 use r10_lane::LaneOut;
 use r10_port::Outlet;
@@ -18,62 +17,17 @@ use std::alloc::Global;
 /// The number that is answered where a handle is not open.
 const CLOSED: u32 = 44;
 
-/// A lane of which nothing is known.
-fn no_lane() -> ChannelOut
-    ensures { result ≡ no_lane }
+/// The number of the refusal of an offer into a lane that is full.
+const OVERFLOW: u32 = 12;
+
+/// Why a sample is not carried whose offer would be refused by this number: a lane that is full is no fault.
+fn why_not(number: u32) -> u32
+    ensures { result ≡ why_not number }
 {
-    ChannelOut {
-        lost: 0,
-        erased: 0,
-        waiting: 0,
-        channel: 0,
-    }
+    if number == OVERFLOW { 0 } else { number }
 }
 
-/// Why nothing is carried into a lane of which this was answered and given.
-fn why_not(number: u32, lane: ChannelOut, spec: ChannelSpec) -> Option<u32>
-    ensures { result ≡ why_not number lane spec }
-{
-    if number != 0 {
-        return Some(number);
-    }
-    if lane.channel != spec.id {
-        return Some(NO_CHANNEL);
-    }
-    if lane.waiting < spec.capacity {
-        return None;
-    }
-    Some(0)
-}
-
-/// Tells the recorder what the sample comes to. It is in hand again where that was refused.
-fn carry_sample<M: SteadyMedium + Drop>(
-    desk: &mut Desk<M>,
-    channel: u16,
-    mut sample: Sample,
-    hand: &mut Option<Sample>,
-) -> Carry
-    requires { hand.old ≡ None }
-    ensures does { CarriesSample M.disk channel desk.old sample result desk.new hand.new }
-    ensures stays { Stays M.identity desk.old desk.new }
-{
-    let number = tell_sample(desk, channel, &mut sample);
-    if number == 0 {
-        return Carry {
-            number: 0,
-            channel,
-            carried: true,
-        };
-    }
-    *hand = Some(sample);
-    Carry {
-        number,
-        channel,
-        carried: false,
-    }
-}
-
-/// Carries the sample in hand, if there is one.
+/// Carries the sample in hand, if there is one. One that the lane does not take stays in hand.
 fn carry_hand<M: SteadyMedium + Drop>(
     desk: &mut Desk<M>,
     channel: u16,
@@ -82,13 +36,27 @@ fn carry_hand<M: SteadyMedium + Drop>(
     ensures does { CarriesFirst M.disk channel desk.old (in_hand hand.old) result desk.new hand.new }
     ensures stays { Stays M.identity desk.old desk.new }
 {
-    match hand.take() {
-        Some(sample) => carry_sample(desk, channel, sample, hand),
-        None => Carry {
+    let Some(sample) = hand.take() else {
+        return Carry {
             number: 0,
             channel,
             carried: false,
+        };
+    };
+    match desk.carry(channel, sample) {
+        Ok(()) => Carry {
+            number: 0,
+            channel,
+            carried: true,
         },
+        Err((number, sample)) => {
+            *hand = Some(sample);
+            Carry {
+                number: why_not(number),
+                channel,
+                carried: false,
+            }
+        }
     }
 }
 
@@ -102,8 +70,8 @@ fn reach(outlet: &mut Outlet, hand: &mut Option<Sample>)
 }
 
 /// Carries the sample in hand, or, if there is none, the next.
-fn carry_next<M: SteadyMedium + Drop>(carrier: &mut Carrier, desk: &mut Desk<M>) -> Carry
-    ensures does { CarriesNext M.disk desk.old carrier.old result desk.new carrier.new }
+fn carry_into_lane<M: SteadyMedium + Drop>(carrier: &mut Carrier, desk: &mut Desk<M>) -> Carry
+    ensures does { Carries M.disk desk.old carrier.old result desk.new carrier.new }
     ensures stays { Stays M.identity desk.old desk.new }
 {
     let channel = carrier.outlet.spec().id;
@@ -111,27 +79,8 @@ fn carry_next<M: SteadyMedium + Drop>(carrier: &mut Carrier, desk: &mut Desk<M>)
     carry_hand(desk, channel, &mut carrier.hand)
 }
 
-/// Carries one sample into the recorder's lane, if the lane has room and there is a sample. The loss before it is counted, and then
-/// it is offered. What is refused stays in hand.
-fn carry_into_lane<M: SteadyMedium + Drop>(carrier: &mut Carrier, desk: &mut Desk<M>) -> Carry
-    ensures does { Carries M.disk desk.old carrier.old result desk.new carrier.new }
-    ensures stays { Stays M.identity desk.old desk.new }
-{
-    let spec = carrier.outlet.spec();
-    let mut lane = no_lane();
-    let number = desk.channel(carrier.place, &mut lane);
-    match why_not(number, lane, spec) {
-        Some(number) => Carry {
-            number,
-            channel: spec.id,
-            carried: false,
-        },
-        None => carry_next(carrier, desk),
-    }
-}
-
-/// Carries one sample of an outlet into the recorder's lane, if it has room and there is a sample. Else its number says why not,
-/// or 0; 44 if the outlet is not open.
+/// Carries one sample of an outlet into the recorder's lane, with the loss before it, if there is one and the lane takes it. Else its
+/// number says why not, or 0; 44 if the outlet is not open. What is not carried stays in the outlet, and no loss is counted.
 pub fn carry_one<M: SteadyMedium + Drop>(
     alloc: Global,
     outlet: &mut OutletEnd,

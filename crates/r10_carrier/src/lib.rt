@@ -5,7 +5,6 @@
 mod carry;
 mod carrying;
 mod opening;
-mod sample_events;
 
 pub use carry::Carry;
 pub use carrying::carry_one;

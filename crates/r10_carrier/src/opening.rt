@@ -5,13 +5,15 @@ ghost use Rattle.r10_ends.specs.Ends.{IsOpenOne};
 ghost use Rattle.r10_carrier.specs.Opening.{LacksChannel, OpensLane, place_of};
 ghost use Rattle.r10_calls.specs.Opening.{IsSettings};
 
-use crate::sample_events::NO_CHANNEL;
 use r10_body::ChannelSpec;
 use r10_ends::{OutletEnd, PortEnd, open_ends};
 use r10_machine::Settings;
 use r10_script::{Script, read_script};
 use r10_text::ScriptFault;
 use std::alloc::Global;
+
+/// The number that is answered where the settings have no such channel.
+const NO_CHANNEL: u32 = 6;
 
 /// The number that is answered where the script can't be taken.
 const SCRIPT: u32 = 40;

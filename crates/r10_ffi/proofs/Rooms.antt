@@ -1,15 +1,17 @@
 -- A call that may write, after its look for room.
-use Rattle.std.proofs.Common.{◌≡◌, ℕ, Bool, true, false, refl, sym, subst, inr, ◌∙◌, true≢false}
+use Rattle.std.proofs.Common.{◌≡◌, ℕ, ◌==◌, zero, suc, Bool, true, false, cond, map, refl, sym, ap, subst, arith, inr, ◌∙◌, true≢false}
 use Rattle.r10_body.specs.declared.refusal.Refusal.TheVariants.{OutOfMemory}
-use Rattle.r10_calls.specs.Told.{DoesEvent}
+use Rattle.r10_calls.specs.Losses.{erased_with}
+use Rattle.r10_calls.specs.Told.{DoesEvent, number_of}
 use Rattle.r10_calls.specs.declared.desk.Desk.{Desk as DeskValue}
 use Rattle.r10_machine.specs.declared.event.Event.{Event as EventValue}
+use Rattle.r10_machine.specs.declared.event.Event.TheVariants.{Erase}
 use Rattle.r10_machine.specs.declared.reply.Reply.{Reply as ReplyValue}
 use Rattle.r10_machine.specs.declared.reply.Reply.TheVariants.{Refused}
 use Rattle.r10_region.specs.Orders.{MakesRoom}
 use Rattle.r10_region.specs.RegionDisk.{region_disk}
 use Rattle.r10_region.specs.declared.region.Region.{Region}
-use Rattle.r10_ffi.specs.Calls.{WritesHeld}
+use Rattle.r10_ffi.specs.Calls.{ErasesHeld, WritesHeld}
 use Rattle.r10_ffi.specs.declared.held.LentRecorder.{LentRecorder}
 
 -- memory for room was refused
@@ -34,3 +36,28 @@ wrote old new answer has is room some does same = record {
   accepted = same;
   refused = λ e. absurd (true≢false (sym some ∙ e));
 }
+
+-- the same of an erase
+pub refused_erase : (old new : LentRecorder) (has : Bool) → MakesRoom has old.orders new.orders → has ≡ false → new.desk ≡ old.desk → new.accepted ≡ old.accepted → ErasesHeld 30 old new
+refused_erase old new has room none same accepted = let is = refused old new has Erase (λ reply. 30 ≡ number_of reply) room none same accepted refl in record {
+  has = has;
+  room = room;
+  does = is.does;
+  accepted = ap (λ (v : _). v.items) accepted;
+  refused = is.refused;
+}
+
+pub erased : (old new : LentRecorder) (answer : ℕ) (has : Bool) → MakesRoom has old.orders new.orders → has ≡ true → DoesEvent region_disk old.desk Erase (λ reply. answer ≡ number_of reply) new.desk
+    → (answer ≡ 0 → new.accepted.items ≡ map (erased_with new.desk.world.recorder.lanes) old.accepted.items) → ((answer ≡ 0 → ⊥) → new.accepted.items ≡ old.accepted.items) → ErasesHeld answer old new
+erased old new answer has room some does counted kept = record {
+  has = has;
+  room = room;
+  does = does;
+  accepted = at answer counted kept;
+  refused = λ e. absurd (true≢false (sym some ∙ e));
+}
+  where
+    at : (n : ℕ) → (n ≡ 0 → new.accepted.items ≡ map (erased_with new.desk.world.recorder.lanes) old.accepted.items) → ((n ≡ 0 → ⊥) → new.accepted.items ≡ old.accepted.items)
+        → new.accepted.items ≡ cond (n == 0) (map (erased_with new.desk.world.recorder.lanes) old.accepted.items) old.accepted.items
+    at zero counted kept = counted refl
+    at (suc n) counted kept = kept (λ none. omega (arith, none))

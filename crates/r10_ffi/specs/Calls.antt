@@ -1,13 +1,16 @@
 -- What a call makes of what a handle holds.
-use Rattle.std.specs.Prelude.{◌≡◌, ℕ, List, [], map, Option, None, Some, Bool, true, false}
+use Rattle.std.specs.Prelude.{◌≡◌, ℕ, ◌==◌, cond, List, [], map, Option, None, Some, Bool, true, false}
 use Rattle.r10_medium.specs.Disk.{Image, Rose}
-use Rattle.r10_machine.specs.declared.event.Event.TheVariants.{Status}
+use Rattle.r10_machine.specs.declared.event.Event.TheVariants.{Erase, Status}
 use Rattle.r10_machine.specs.declared.reply.Reply.TheVariants.{Done}
 use Rattle.r10_calls.specs.Accounts.{account_given, counted, not_yet}
 use Rattle.r10_calls.specs.Faults.{no_fault}
 use Rattle.r10_calls.specs.Listing.{lane_place}
-use Rattle.r10_calls.specs.Told.{DoesEvent}
+use Rattle.r10_calls.specs.Told.{DoesEvent, number_of}
+use Rattle.r10_calls.specs.Losses.{HandsOn, erased_with, losses_at}
 use Rattle.r10_calls.specs.declared.accounts.AccountOut.{AccountOut}
+use Rattle.r10_calls.specs.declared.entry_out.EntryOut.{EntryOut}
+use Rattle.r10_calls.specs.declared.losses.LossesOut.{LossesOut}
 use Rattle.r10_calls.specs.declared.desk.Desk.{Desk as DeskValue}
 use Rattle.r10_calls.specs.Opening.{FormatsByScript, FormatsOver, OpensRecorder}
 use Rattle.r10_region.specs.Orders.{handed, IsOtherEnd, MakesRoom}
@@ -54,6 +57,30 @@ pub record WritesHeld (answer : ℕ) (old new : LentRecorder) (is : DeskValue Re
 
 abbrev pub DoesWriting : Recorder → Recorder → ℕ → (DeskValue Region → DeskValue Region → Type 0) → Type 0
 DoesWriting before behind answer is = Goes before behind (λ old new. WritesHeld answer old new is)
+
+-- An erase, likewise. Where it is answered 0, the losses before erased messages are counted.
+pub record ErasesHeld (answer : ℕ) (old new : LentRecorder) : Type 0 where
+  pub has : Bool
+  pub room : MakesRoom has old.orders new.orders
+  pub does : DoesEvent region_disk old.desk Erase (λ reply. answer ≡ number_of reply) new.desk
+  pub accepted : new.accepted.items ≡ cond (answer == 0) (map (erased_with new.desk.world.recorder.lanes) old.accepted.items) old.accepted.items
+  pub refused : has ≡ false → (answer ≡ 30) × (new.desk ≡ old.desk)
+
+abbrev pub Erases : ℕ → Recorder → Recorder → Type 0
+Erases answer before behind = IsOpen behind × Between before.handle.held behind.handle.held (ErasesHeld answer)
+
+-- ---- losses, and messages that are handed on
+
+-- the losses of the channel at this place were asked for: nothing changed, and lent memory has them, or 43 was answered
+abbrev pub TellsLosses : ℕ → ℕ → LossesOut → LossesOut → Recorder → Recorder → Type 0
+TellsLosses answer place before_out out before behind = Goes before behind (λ old new.
+    let losses = losses_at old.accepted.items old.desk.world.recorder.lanes place in
+    (new.desk ≡ old.desk) × (new.orders ≡ old.orders) × (answer ≡ elim losses [ None ↦ 43 | Some x ↦ 0 ]) × (out ≡ elim losses [ None ↦ before_out | Some x ↦ x ]))
+
+-- the first message that waits on a channel was taken out of its lane
+abbrev pub GivesWaiting : ℕ → ℕ → Bool → Bool → EntryOut → EntryOut → Recorder → Recorder → Type 0
+GivesWaiting answer channel before_there there before_out out before behind = IsOpen behind × Between before.handle.held behind.handle.held (λ old new.
+    HandsOn region_disk channel old.desk old.accepted.items before_there before_out answer new.desk new.accepted.items there out × (new.orders ≡ old.orders))
 
 -- no refusal of it carried anything yet, and no entry is in hand
 abbrev pub HasNothingYet : DeskValue Region → Type 0

@@ -15,7 +15,7 @@ ghost use Rattle.r10_calls.specs.Reading.{count_in, found_in, is_count_in, lent,
 ghost use Rattle.r10_calls.specs.Told.{DoesEvent, number_of};
 ghost use Rattle.r10_region.specs.Orders.{CountsQueue, HandsOrderOut, HandsRunOut, HasTold};
 ghost use Rattle.r10_region.specs.RegionDisk.{region_disk};
-ghost use Rattle.r10_ffi.specs.Calls.{Accounts, Does, DoesWriting, FailsOver, Goes, HandsHeld, IsClosed, IsFormattedRegion};
+ghost use Rattle.r10_ffi.specs.Calls.{Accounts, Does, DoesWriting, Erases, FailsOver, Goes, HandsHeld, IsClosed, IsFormattedRegion};
 ghost use Rattle.r10_ffi.specs.Calls.{IsOpen, IsOpened, Offers};
 ghost use Rattle.r10_ffi.specs.Civil.{parts_of};
 
@@ -570,8 +570,7 @@ pub extern "C" fn r10_seal(alloc: Global, recorder: &mut Recorder) -> u32
 /// Takes all files from the medium. 0, or 1, 2, 4, 20, 28, 30.
 #[unsafe(no_mangle)]
 pub extern "C" fn r10_erase(alloc: Global, recorder: &mut Recorder) -> u32
-    ensures does { IsOpen recorder.old → DoesWriting recorder.old recorder.new result
-        (λ old new. DoesEvent region_disk old events.Erase (λ reply. result ≡ number_of reply) new) }
+    ensures does { IsOpen recorder.old → Erases result recorder.old recorder.new }
     ensures closed { IsClosed recorder.old → (result ≡ 44) × (recorder.new ≡ recorder.old) }
 {
     if !recorder.is_open() {

@@ -1,6 +1,7 @@
 //! The recorder as a library for programs in C and Rust.
 #![tactic(auto)]
 
+mod accounting;
 mod calls;
 mod civil;
 mod handing;
@@ -11,6 +12,7 @@ mod ports;
 mod recorder;
 mod writing;
 
+pub use accounting::{r10_losses, r10_take_waiting, r10_untold};
 pub use calls::{
     r10_account, r10_advance, r10_channel, r10_check_script, r10_close, r10_close_cursor,
     r10_commit, r10_count_at, r10_cursor, r10_disk_failed, r10_dismount, r10_erase, r10_event,

@@ -5,7 +5,7 @@ ghost use Rattle.r10_machine.specs.declared.event.Event.TheVariants as events;
 ghost use Rattle.r10_calls.specs.Outs.{left_out, moved_in, taken_out};
 ghost use Rattle.r10_calls.specs.Told.{DoesEvent, number_of};
 ghost use Rattle.r10_region.specs.RegionDisk.{region_disk};
-ghost use Rattle.r10_ffi.specs.Calls.{WritesHeld};
+ghost use Rattle.r10_ffi.specs.Calls.{ErasesHeld, WritesHeld};
 
 use crate::held::LentRecorder;
 use r10_count::Parts;
@@ -111,13 +111,17 @@ impl LentRecorder {
         self.desk.seal()
     }
 
+    /// An erase counts the losses before erased messages.
     pub(crate) fn erase(&mut self, alloc: Global) -> u32
-        ensures { WritesHeld result self.old self.new
-            (λ old new. DoesEvent region_disk old events.Erase (λ reply. result ≡ number_of reply) new) }
+        ensures { ErasesHeld result self.old self.new }
     {
         if !self.orders.make_room(alloc) {
             return OUT_OF_MEMORY;
         }
-        self.desk.erase()
+        let answer = self.desk.erase();
+        if answer == 0 {
+            self.desk.count_erased(&mut self.accepted);
+        }
+        answer
     }
 }

@@ -152,6 +152,18 @@ pub struct r10_account_info {
     pub channel: u16,
 }
 
+/// How many messages of a channel were lost, and which gaps report that.
+#[repr(C)]
+#[derive(Clone, Copy, Debug, Default)]
+pub struct r10_losses_info {
+    pub missed: u64,
+    pub waiting_lost: u64,
+    pub erased_lost: u64,
+    pub handed: u64,
+    pub handed_lost: u64,
+    pub channel: u16,
+}
+
 /// The sending end of a channel's lane between two threads, or none where it is all zeros.
 #[repr(C)]
 pub struct r10_port {
@@ -239,6 +251,7 @@ const _: () = {
     assert!(size_of::<r10_status_info>() == 40);
     assert!(size_of::<r10_channel_info>() == 32);
     assert!(size_of::<r10_account_info>() == 40);
+    assert!(size_of::<r10_losses_info>() == 48);
     assert!(size_of::<r10_port>() == 16);
     assert!(size_of::<r10_outlet>() == 16);
     assert!(size_of::<r10_port_info>() == 32);
@@ -292,6 +305,9 @@ unsafe extern "C" {
     pub fn r10_fault(recorder: *mut r10, info: *mut r10_fault_info) -> u32;
     pub fn r10_channel(recorder: *mut r10, place: usize, info: *mut r10_channel_info) -> u32;
     pub fn r10_account(recorder: *mut r10, place: usize, info: *mut r10_account_info) -> u32;
+    pub fn r10_losses(recorder: *mut r10, place: usize, info: *mut r10_losses_info) -> u32;
+    pub fn r10_take_waiting(recorder: *mut r10, channel: u16, there: *mut bool, entry: *mut r10_entry) -> u32;
+    pub fn r10_untold(account: *const r10_account_info, losses: *const r10_losses_info, found: u64, found_lost: u64) -> u64;
     pub fn r10_cursor(recorder: *mut r10, file: usize, channels: *const u16, channel_count: usize, from: u64, to: u64, cursor: *mut usize) -> u32;
     pub fn r10_advance(recorder: *mut r10, cursor: usize, queued: *mut usize) -> u32;
     pub fn r10_next(

@@ -165,6 +165,44 @@ pub struct Account {
     pub waiting: usize,
 }
 
+/// How many messages of a channel were lost, and which gaps report that.
+#[derive(Clone, Copy, Debug, PartialEq, Eq)]
+pub struct Losses {
+    pub id: u16,
+    /// lost since the last message that was accepted: no gap reports them yet
+    pub missed: u64,
+    /// the losses that the gaps of the messages in its lane report
+    pub waiting_lost: u64,
+    /// those that the gaps of erased messages reported
+    pub erased_lost: u64,
+    /// messages that [`Recorder::take_waiting`] took
+    pub handed: u64,
+    /// the losses that their gaps report
+    pub handed_lost: u64,
+}
+
+/// How many of a channel's messages, and of those that were lost before they were offered, stand in no file and in no gap, where `found` of its
+/// messages were found in the files that the recorder began, and `found_lost` losses in their gaps. Messages that were handed on are not counted.
+pub fn untold(account: &Account, losses: &Losses, found: u64, found_lost: u64) -> u64 {
+    let account = sys::r10_account_info {
+        accepted: account.accepted,
+        erased: account.erased,
+        lost: account.lost,
+        waiting: account.waiting,
+        channel: account.id,
+    };
+    let losses = sys::r10_losses_info {
+        missed: losses.missed,
+        waiting_lost: losses.waiting_lost,
+        erased_lost: losses.erased_lost,
+        handed: losses.handed,
+        handed_lost: losses.handed_lost,
+        channel: losses.id,
+    };
+    // SAFETY: both pointers lead to values of this function.
+    unsafe { sys::r10_untold(&account, &losses, found, found_lost) }
+}
+
 /// How many operations wait.
 #[derive(Clone, Copy, Debug, PartialEq, Eq)]
 pub struct Queue {
@@ -420,6 +458,25 @@ impl Recorder {
         Ok(Account { id: info.channel, accepted: info.accepted, erased: info.erased, lost: info.lost, waiting: info.waiting })
     }
 
+    /// The losses of the channel of this ID, in every mode, if there is one.
+    pub fn losses(&mut self, id: u16) -> Result<Option<Losses>, Error> {
+        for place in 0..self.status()?.channels {
+            let mut info = sys::r10_losses_info::default();
+            answer(unsafe { sys::r10_losses(&mut self.raw, place, &mut info) })?;
+            if info.channel == id {
+                return Ok(Some(Losses {
+                    id,
+                    missed: info.missed,
+                    waiting_lost: info.waiting_lost,
+                    erased_lost: info.erased_lost,
+                    handed: info.handed,
+                    handed_lost: info.handed_lost,
+                }));
+            }
+        }
+        Ok(None)
+    }
+
     /// The account of the channel of this ID, if there is one.
     pub fn account(&mut self, id: u16) -> Result<Option<Account>, Error> {
         for place in 0..self.status()?.channels {
@@ -449,6 +506,19 @@ impl Recorder {
     pub fn next(&mut self, cursor: Cursor) -> Result<Option<Entry>, Error> {
         let mut lent = Lent::new(0);
         answer(unsafe { sys::r10_take(&mut self.raw, cursor.0, &mut lent.there, &mut lent.entry) })?;
+        self.taken(lent)
+    }
+
+    /// Takes the first message that waits on a channel out of its lane, in every mode, a failed recorder's too. It is in no file of this
+    /// recorder then: give the losses of its gap to the next one's [`Recorder::lost`], and offer it there.
+    pub fn take_waiting(&mut self, channel: u16) -> Result<Option<Entry>, Error> {
+        let mut lent = Lent::new(0);
+        answer(unsafe { sys::r10_take_waiting(&mut self.raw, channel, &mut lent.there, &mut lent.entry) })?;
+        self.taken(lent)
+    }
+
+    /// The entry in hand, where there is one, with its bytes or words.
+    fn taken(&mut self, mut lent: Lent) -> Result<Option<Entry>, Error> {
         if !lent.there {
             return Ok(None);
         }
