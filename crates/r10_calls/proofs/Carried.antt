@@ -1,5 +1,6 @@
 -- A loss and an offer that no check refuses are answered 0.
-use Rattle.std.proofs.Common.{◌≡◌, ℕ, zero, suc, ◌==◌, Bool, true, false, cond, List, [], ◌∷◌, ◌++◌, find, Option, None, Some, IsSome, inl, refl, sym, ap, ◌∙◌, subst}
+use Rattle.std.proofs.Common.{◌≡◌, ◌≢◌, ℕ, ◌==◌, Bool, true, false, cond, List, [], ◌∷◌, ◌++◌, find, Option, None, Some, IsSome, refl, sym, ap, ◌∙◌, subst, true≢false}
+use Rattle.std.proofs.lemmas.Bool.{ne_eqb}
 use Rattle.r10_body.specs.declared.entry.Sample.{Sample}
 use Rattle.r10_body.specs.declared.message.Message.{Message}
 use Rattle.r10_body.specs.declared.refusal.Refusal.{Refusal}
@@ -25,7 +26,7 @@ use Rattle.r10_calls.proofs.Quiet.{what_lacks}
 
 pub there_is : (o : Option Lane) (count : ℕ) (message : Message) → offer_refusal o count message ≡ None → IsSome o
 there_is None count message fine = cc
-there_is (Some lane) count message fine = tt
+there_is (Some lane) count message fine = refl
 
 same_after_loss : (o : Option Lane) (n count : ℕ) (message : Message) → offer_refusal (elim o [ None ↦ None | Some l ↦ Some (losing n l) ]) count message ≡ offer_refusal o count message
 same_after_loss None n count message = refl
@@ -88,7 +89,7 @@ pub lost_there : {M : Type 0} (disk : M → Disk) (old new : WorldState M) (chan
 lost_there {M} disk old new channel n reply there steps = at (lane_in channel old.recorder.lanes) refl there steps.answers
   where
     at : (o : Option Lane) → lane_in channel old.recorder.lanes ≡ o → IsSome o → AnswersEach disk old (events.Lose channel n ∷ []) (reply ∷ []) new → (number_of reply ≡ 0) × (new.recorder.lanes ≡ change_first (is_channel channel) (losing n) old.recorder.lanes)
-    at None is some each = absurd some
+    at None is some each = absurd (true≢false (sym some))
     at (Some lane) is some (mid, one, same) =
         let done = lost_by disk old.recorder old.slots mid.recorder mid.slots channel n lane reply is one.answer in
         (done.0, ap (λ (w : WorldState M). w.recorder.lanes) same ∙ done.1)
@@ -100,19 +101,17 @@ offered_there disk old new channel count message reply fine steps = let each = s
 
 -- ---- both, one after the other
 
-lossy : (channel : ℕ) (x : Sample) (n : ℕ) → n ≡ lost_of x.gap → (n ≡ 0 → ⊥) → events_of channel x ≡ events.Lose channel n ∷ events.Offer channel x.count x.message ∷ []
-lossy channel x n is some = at (lost_of x.gap) (sym is) (λ none. some (is ∙ none))
-  where
-    at : (k : ℕ) → k ≡ n → (k ≡ 0 → ⊥) → cond (k == 0) [] (events.Lose channel k ∷ []) ++ events.Offer channel x.count x.message ∷ [] ≡ events.Lose channel n ∷ events.Offer channel x.count x.message ∷ []
-    at zero same none = absurd (none refl)
-    at (suc k) same none = ap (λ (m : ℕ). events.Lose channel m ∷ events.Offer channel x.count x.message ∷ []) same
+lossy : (channel : ℕ) (x : Sample) (n : ℕ) → n ≡ lost_of x.gap → n ≢ 0 → events_of channel x ≡ events.Lose channel n ∷ events.Offer channel x.count x.message ∷ []
+lossy channel x n is some =
+    ap (λ (b : Bool). cond b [] (events.Lose channel (lost_of x.gap) ∷ []) ++ events.Offer channel x.count x.message ∷ []) (ne_eqb (lost_of x.gap) 0 (λ e. some (is ∙ e)))
+    ∙ ap (λ (k : ℕ). events.Lose channel k ∷ events.Offer channel x.count x.message ∷ []) (sym is)
 
 lossless : (channel : ℕ) (x : Sample) (n : ℕ) → n ≡ lost_of x.gap → n ≡ 0 → events_of channel x ≡ events.Offer channel x.count x.message ∷ []
 lossless channel x n is none = ap (λ (k : ℕ). cond (k == 0) [] (events.Lose channel k ∷ []) ++ events.Offer channel x.count x.message ∷ []) (sym is ∙ none)
 
-pub both_done : {M : Type 0} (disk : M → Disk) (old mid new : DeskValue M) (channel : ℕ) (x : Sample) (n : ℕ) → n ≡ lost_of x.gap → (n ≡ 0 → ⊥)
+pub both_done : {M : Type 0} (disk : M → Disk) (old mid new : DeskValue M) (channel : ℕ) (x : Sample) (n : ℕ) → n ≡ lost_of x.gap → n ≢ 0
     → DoesEvent disk old (events.Lose channel n) (λ reply. number_of reply ≡ 0) mid → DoesEvent disk mid (events.Offer channel x.count x.message) (λ reply. number_of reply ≡ 0) new → DoesEach disk old (events_of channel x) new
-both_done disk old mid new channel x n is some loss offer = subst (λ (es : List EventValue). DoesEach disk old es new) (sym (lossy channel x n is some)) (mid, loss, new, offer, refl)
+both_done disk old mid new channel x n is some loss offer = subst (λ (es : List EventValue). DoesEach disk old es new) (sym (lossy channel x n is some)) (mid, loss, (new, offer, refl))
 
 pub one_done : {M : Type 0} (disk : M → Disk) (old new : DeskValue M) (channel : ℕ) (x : Sample) (n : ℕ) → n ≡ lost_of x.gap → n ≡ 0
     → DoesEvent disk old (events.Offer channel x.count x.message) (λ reply. number_of reply ≡ 0) new → DoesEach disk old (events_of channel x) new

@@ -1,5 +1,5 @@
 -- What is counted of a channel changes, by the channel's place.
-use Rattle.std.proofs.Common.{◌≡◌, ℕ, ◌+◌, ◌<◌, ◌≤◌, zero, suc, Bool, true, false, not, cond, List, [], ◌∷◌, ◌++◌, length, map, take, drop, get_or, set, None, Some, refl, ap, sym, ◌∙◌, arith}
+use Rattle.std.proofs.Common.{◌≡◌, ℕ, ◌+◌, ◌<◌, ◌≤◌, zero, suc, Bool, true, false, not, cond, List, [], ◌∷◌, ◌++◌, length, map, take, drop, get_or, set, None, Some, refl, ap, sym, ◌∙◌, subst, arith}
 use Rattle.std.specs.List.{position, position_or_len}
 use Rattle.r10_body.proofs.Places.{no_place, place_is}
 use Rattle.r10_machine.specs.Machine.{change_first}
@@ -31,4 +31,7 @@ pub next_changed : (change : Accepted → Accepted) (xs : List Accepted) (i : �
     → set (map change (take i xs) ++ drop i xs) i (change (get_or (map change (take i xs) ++ drop i xs) i d)) ≡ map change (take (i + 1) xs) ++ drop (i + 1) xs
 next_changed change [] i d within = absurd (omega (arith, within))
 next_changed change (x ∷ xs) zero d within = refl
-next_changed change (x ∷ xs) (suc i) d within = ap (λ (ys : List Accepted). change x ∷ ys) (next_changed change xs i d (omega (arith, within)))
+next_changed change (x ∷ xs) (suc i) d within =
+    let next : suc (i + 1) ≡ suc i + 1 = omega arith in
+    subst (λ (n : ℕ). change x ∷ set (map change (take i xs) ++ drop i xs) i (change (get_or (map change (take i xs) ++ drop i xs) i d)) ≡ map change (take n (x ∷ xs)) ++ drop n (x ∷ xs)) next
+    (ap (λ (ys : List Accepted). change x ∷ ys) (next_changed change xs i d (omega (arith, within))))
