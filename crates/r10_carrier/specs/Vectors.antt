@@ -7,8 +7,8 @@ use Rattle.r10_body.specs.declared.gap.Gap.TheVariants.{Whole, Lost, Unknown}
 use Rattle.r10_body.specs.declared.message.Kind.TheVariants as kinds
 use Rattle.r10_body.specs.declared.spec.ChannelSpec.{ChannelSpec}
 use Rattle.r10_machine.specs.declared.event.Event.TheVariants as events
-use Rattle.r10_calls.specs.declared.listing.ChannelOut.{ChannelOut}
-use Rattle.r10_carrier.specs.Carrying.{events_of, in_hand, no_lane, why_not}
+use Rattle.r10_calls.specs.Carrying.{events_of}
+use Rattle.r10_carrier.specs.Carrying.{in_hand, why_not}
 use Rattle.r10_carrier.specs.Opening.{place_of}
 
 abbrev sample : Gap → Sample
@@ -27,21 +27,15 @@ after_some = refl
 abbrev channel : ℕ → ChannelSpec
 channel id = record { id = id; kind = kinds.Discrete; capacity = 3; check = 0; bytes = 4096; number = 100; bits = 8 }
 
-abbrev lane : ℕ → ℕ → ChannelOut
-lane id waiting = record { lost = 0; erased = 0; waiting = waiting; channel = id }
-
--- a lane has room up to its capacity; one of another channel has none, and one that is not there says why
-it_has_room : why_not 0 (lane 5 2) (channel 5) ≡ None
-it_has_room = refl
-
-it_is_full : why_not 0 (lane 5 3) (channel 5) ≡ Some 0
+-- a lane that is full is no fault; another channel, and a count that falls, are
+it_is_full : why_not 12 ≡ 0
 it_is_full = refl
 
-it_is_another : why_not 0 (lane 6 0) (channel 5) ≡ Some 6
+it_is_another : why_not 6 ≡ 6
 it_is_another = refl
 
-it_is_not_there : why_not 43 no_lane (channel 5) ≡ Some 43
-it_is_not_there = refl
+it_falls : why_not 11 ≡ 11
+it_falls = refl
 
 -- where a channel is
 second_is_at_1 : place_of (channel 4 ∷ channel 5 ∷ channel 6 ∷ []) 5 ≡ Some 1
