@@ -1,5 +1,6 @@
 -- A call that may write, after its look for room.
-use Rattle.std.proofs.Common.{◌≡◌, ℕ, ◌==◌, zero, suc, Bool, true, false, cond, map, refl, sym, ap, subst, arith, inr, ◌∙◌, true≢false}
+use Rattle.std.proofs.Common.{◌≡◌, ◌≢◌, ℕ, ◌==◌, Bool, true, false, cond, map, refl, sym, ap, subst, inr, ◌∙◌, true≢false}
+use Rattle.std.proofs.lemmas.Bool.{eqb-false, eqb-true}
 use Rattle.r10_body.specs.declared.refusal.Refusal.TheVariants.{OutOfMemory}
 use Rattle.r10_calls.specs.Losses.{erased_with}
 use Rattle.r10_calls.specs.Told.{DoesEvent, number_of}
@@ -39,25 +40,25 @@ wrote old new answer has is room some does same = record {
 
 -- the same of an erase
 pub refused_erase : (old new : LentRecorder) (has : Bool) → MakesRoom has old.orders new.orders → has ≡ false → new.desk ≡ old.desk → new.accepted ≡ old.accepted → ErasesHeld 30 old new
-refused_erase old new has room none same accepted = let is = refused old new has Erase (λ reply. 30 ≡ number_of reply) room none same accepted refl in record {
+refused_erase old new has room none same accepted = record {
   has = has;
   room = room;
-  does = is.does;
+  does = subst (λ (d : DeskValue Region). DoesEvent region_disk old.desk Erase (λ reply. 30 ≡ number_of reply) d) (sym same)
+      (record { reply = Refused OutOfMemory; told = inr (refl, refl); says = refl; config = refl; fault = refl; hand = refl });
   accepted = ap (λ (v : _). v.items) accepted;
-  refused = is.refused;
+  refused = λ e. (refl, same);
 }
 
 pub erased : (old new : LentRecorder) (answer : ℕ) (has : Bool) → MakesRoom has old.orders new.orders → has ≡ true → DoesEvent region_disk old.desk Erase (λ reply. answer ≡ number_of reply) new.desk
-    → (answer ≡ 0 → new.accepted.items ≡ map (erased_with new.desk.world.recorder.lanes) old.accepted.items) → ((answer ≡ 0 → ⊥) → new.accepted.items ≡ old.accepted.items) → ErasesHeld answer old new
+    → (answer ≡ 0 → new.accepted.items ≡ map (erased_with new.desk.world.recorder.lanes) old.accepted.items) → (answer ≢ 0 → new.accepted.items ≡ old.accepted.items) → ErasesHeld answer old new
 erased old new answer has room some does counted kept = record {
   has = has;
   room = room;
   does = does;
-  accepted = at answer counted kept;
+  accepted = by (answer == 0) refl;
   refused = λ e. absurd (true≢false (sym some ∙ e));
 }
   where
-    at : (n : ℕ) → (n ≡ 0 → new.accepted.items ≡ map (erased_with new.desk.world.recorder.lanes) old.accepted.items) → ((n ≡ 0 → ⊥) → new.accepted.items ≡ old.accepted.items)
-        → new.accepted.items ≡ cond (n == 0) (map (erased_with new.desk.world.recorder.lanes) old.accepted.items) old.accepted.items
-    at zero counted kept = counted refl
-    at (suc n) counted kept = kept (λ none. omega (arith, none))
+    by : (b : Bool) → (answer == 0) ≡ b → new.accepted.items ≡ cond b (map (erased_with new.desk.world.recorder.lanes) old.accepted.items) old.accepted.items
+    by true is = counted (eqb-true answer 0 is)
+    by false is = kept (eqb-false answer 0 is)
