@@ -91,6 +91,13 @@ static void status(void) {
            info.channels);
 }
 
+static void losses_of_3(void) {
+    r10_losses_info info;
+    say("losses of ID 3", r10_losses_of(&recorder, 3, &info));
+    printf("  missed %" PRIu64 " waiting_lost %" PRIu64 " erased_lost %" PRIu64, info.missed, info.waiting_lost, info.erased_lost);
+    printf(" handed %" PRIu64 " handed_lost %" PRIu64 "\n", info.handed, info.handed_lost);
+}
+
 int main(void) {
     r10_region region = {memory, 64};
     r10_civil civil = {2024, 2, 29, 12, 34, 56, 78}, later = {2024, 2, 29, 12, 34, 57, 0}, earlier = {2024, 2, 29, 12, 34, 56, 77},
@@ -107,6 +114,7 @@ int main(void) {
     r10_queue_info queue;
     r10_channel_info channel;
     r10_account_info account;
+    r10_losses_info losses;
     uint8_t name[56];
     r10_region small = {memory, 63};
 
@@ -252,6 +260,28 @@ int main(void) {
     say("account of ID 7", r10_account_of(&recorder, 7, &account));
     printf("  %u accepted %" PRIu64 "\n", account.channel, account.accepted);
     say("account of ID 8", r10_account_of(&recorder, 8, &account));
+    /* a failed recorder's lanes still take messages, and give them to the next recorder */
+    say("losses, no channel", r10_losses(&recorder, KINDS, &losses));
+    say("take waiting, no channel", r10_take_waiting(&recorder, 8, &there, &entry));
+    say("offer uart", r10_offer_uart(&recorder, 3, 1030, true, 9, "wait", 4));
+    say("lost", r10_lost(&recorder, 3, 2));
+    losses_of_3();
+    say("offer uart", r10_offer_uart(&recorder, 3, 1040, false, 0, "next", 4));
+    losses_of_3();
+    for (there = true; there;) {
+        say("take waiting", r10_take_waiting(&recorder, 3, &there, &entry));
+        if (!there)
+            break;
+        say("taken", r10_taken(&recorder, bytes, sizeof bytes, words, 36));
+        show(&entry);
+        losses_of_3();
+    }
+    say("taken, none", r10_taken(&recorder, bytes, sizeof bytes, words, 36));
+    say("account of ID 3", r10_account_of(&recorder, 3, &account));
+    say("losses of ID 3", r10_losses_of(&recorder, 3, &losses));
+    account = (r10_account_info){.accepted = 100, .erased = 10, .lost = 50, .channel = 3};
+    losses = (r10_losses_info){.missed = 4, .erased_lost = 5, .handed = 3, .handed_lost = 2, .channel = 3};
+    printf("untold %" PRIu64 " %" PRIu64 "\n", r10_untold(&account, &losses, 60, 30), r10_untold(&account, &losses, 200, 30));
     say("queue", r10_queue(&recorder, &queue));
     printf("  waiting %zu\n", queue.waiting);
     r10_close(&recorder);

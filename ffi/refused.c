@@ -138,6 +138,8 @@ static void nulls(void) {
     r10_fault_info fault;
     r10_script_info told;
     r10_entry entry, message = {.length = 1};
+    r10_losses_info losses;
+    uint64_t counted;
     r10_parts parts = {0, 10, 0};
     r10_port port = {0};
     r10_outlet outlet = {0};
@@ -177,6 +179,10 @@ static void nulls(void) {
     expect("port_state", r10_port_state(NULL, &state), R10_CLOSED);
     r10_port_close(NULL);
     r10_outlet_close(NULL);
+    expect("losses", r10_losses(NULL, 0, &losses), R10_CLOSED);
+    expect("losses_of", r10_losses_of(NULL, 5, &losses), R10_CLOSED);
+    expect("take_waiting", r10_take_waiting(NULL, 5, &there, &entry), R10_CLOSED);
+    expect("found", r10_found(NULL, 0, 5, &counted, &counted), R10_CLOSED);
     expect("carry_one", r10_carry_one(NULL, &outlet, &there), R10_CLOSED);
     expect("carry_one", r10_carry_one(&recorder, NULL, &there), R10_CLOSED);
     expect("carry", r10_carry(NULL, &outlet, 1, &size), R10_CLOSED);
@@ -228,6 +234,13 @@ static void nulls(void) {
             expect(kinds[n].name, kinds[n].offer_at(&port, 1, &message, NULL), R10_ROOM);
         }
     expect("port_state", r10_port_state(&port, NULL), R10_ROOM);
+    expect("losses", r10_losses(&recorder, 0, NULL), R10_ROOM);
+    expect("losses_of", r10_losses_of(&recorder, 5, NULL), R10_ROOM);
+    expect("take_waiting", r10_take_waiting(&recorder, 5, NULL, &entry), R10_ROOM);
+    expect("take_waiting", r10_take_waiting(&recorder, 5, &there, NULL), R10_ROOM);
+    expect("found", r10_found(&recorder, 0, 5, NULL, &counted), R10_ROOM);
+    expect("found", r10_found(&recorder, 0, 5, &counted, NULL), R10_ROOM);
+    expect("untold", (uint32_t)r10_untold(NULL, &losses, 0, 0), 0);
     expect("carry_one", r10_carry_one(&recorder, &outlet, NULL), R10_ROOM);
     expect("carry", r10_carry(&recorder, &outlet, 1, NULL), R10_ROOM);
     expect("port_state", r10_port_state(&port, &state), R10_OK);

@@ -13,8 +13,9 @@
 #                                                # scripts of 1,000 beside `r10 sim`
 #     scripts/ffi.sh check                       # runs both, ffi/calls.c, which calls each function, also as C++, ffi/flight.c,
 #                                                # ffi/disk.c, ffi/commits.c, ffi/accounts.c, ffi/refused.c, ffi/media.c,
-#                                                # ffi/parts.c, ffi/memory.c, ffi/ports.c and ffi/log.c, and compares what they
-#                                                # print with ffi/*.expected; ffi/port_load.c, for its sums; runs the rows
+#                                                # ffi/media_in_row.c, ffi/parts.c, ffi/memory.c, ffi/ports.c and ffi/log.c, and
+#                                                # compares what they print with ffi/*.expected; ffi/port_load.c, for its sums;
+#                                                # runs the rows
 #     scripts/ffi.sh kept                        # prints where the library is: the proved one if it is there, else one that is not
 #                                                # proved
 #     scripts/ffi.sh proved                      # prints where the proved library is; status 1 if it is not there, or a source has
@@ -266,7 +267,7 @@ check() {
         c_example commits.c "$room/commits"
         "$room/commits" >"$room/commits.out" || give_up "commits: status $?"
         compare commits.expected "$room/commits.out"
-        for trial in accounts refused media parts memory ports; do
+        for trial in accounts refused media media_in_row parts memory ports; do
             c_example "$trial.c" "$room/$trial"
             "$room/$trial" >"$room/$trial.out" || give_up "$trial: status $?"
             compare "$trial.expected" "$room/$trial.out"

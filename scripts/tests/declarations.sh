@@ -29,10 +29,10 @@ def of_header(text):
         for kind, names in re.findall(r'((?:const )?\w+) ([^;]*);', body):
             for one in re.split(r',\s*', names):
                 yield '    %s: %s' % (one.lstrip('*'), in_rust(kind, one.startswith('*'), 'c_void'))
-    for answer, name, words in re.findall(r'\b(uint32_t|void) (r10_\w+)\(([^)]*)\);', re.sub(r'\s+', ' ', text)):
+    for answer, name, words in re.findall(r'\b(uint32_t|uint64_t|void) (r10_\w+)\(([^)]*)\);', re.sub(r'\s+', ' ', text)):
         parts = [re.fullmatch(r'((?:const )?\w+) (\**)(\w+)', word).groups() for word in words.split(', ') if word != 'void']
         yield 'fn %s(%s)%s' % (name, ', '.join('%s: %s' % (part[2], in_rust(*part[:2])) for part in parts),
-                               '' if answer == 'void' else ' -> u32')
+                               '' if answer == 'void' else ' -> ' + TYPES[answer])
 
 
 def of_crate(text):
@@ -42,7 +42,7 @@ def of_crate(text):
     for name, body in re.findall(r'pub struct (\w+) \{(.*?)\}', text, re.S):
         yield 'struct ' + name
         yield from ('    %s: %s' % pair for pair in re.findall(r'pub (\w+): ([^,]*),', body))
-    for name, words, answer in re.findall(r'pub fn (\w+)\(([^)]*)\)( -> u32)?;', re.sub(r'\s+', ' ', text)):
+    for name, words, answer in re.findall(r'pub fn (\w+)\(([^)]*)\)( -> u(?:32|64))?;', re.sub(r'\s+', ' ', text)):
         yield 'fn %s(%s)%s' % (name, words.strip().rstrip(','), answer)
 
 
