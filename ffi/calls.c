@@ -92,7 +92,7 @@ static void status(void) {
 }
 
 static void losses_of_3(void) {
-    r10_losses_info info;
+    r10_losses_info info = {0};
     say("losses of ID 3", r10_losses_of(&recorder, 3, &info));
     printf("  missed %" PRIu64 " waiting_lost %" PRIu64 " erased_lost %" PRIu64, info.missed, info.waiting_lost, info.erased_lost);
     printf(" handed %" PRIu64 " handed_lost %" PRIu64 "\n", info.handed, info.handed_lost);

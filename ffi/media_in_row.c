@@ -1,12 +1,14 @@
 /* A flight that is longer than a medium: two recorders of one script, each over a medium of its own, and a port that stays. A thread offers numbered
- * messages; where the port is full, the number is lost, as a driver's would be. The flight goes on on the second medium once the first has little room.
- * Then all files of both are read: each number is there once, in order, or in the gap of the next message. Prints what was counted. */
+ * messages; where the port is full, the number is lost, as a driver's would be, and the thread waits a millisecond. The flight goes on on the second
+ * medium once the first has little room. Then all files of both are read: each number is there once, in order, or in the gap of the next message. Prints what was counted. */
+#define _GNU_SOURCE
 #include <inttypes.h>
 #include <pthread.h>
 #include <stdatomic.h>
 #include <stdio.h>
 #include <stdlib.h>
 #include <string.h>
+#include <time.h>
 
 #include "r10.h"
 
@@ -35,8 +37,8 @@ static void *offer_all(void *nothing) {
         uint32_t answer = r10_port_message(&port, UINT64_C(1000) + 10 * (uint64_t)n, false, false, 0, &n, sizeof n);
         if (answer != R10_OK && answer != R10_OVERFLOW)
             must("offer", answer);
-        if (n % 64 == 0)
-            sched_yield();
+        if (answer == R10_OVERFLOW)
+            nanosleep(&(struct timespec){0, 1000000}, NULL);
     }
     must("lost", r10_port_lost(&port, LOST_AFTER));
     atomic_store(&has_ended, true);

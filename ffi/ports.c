@@ -176,7 +176,7 @@ static void closings(void) {
     printf("into no recorder: %u", r10_carry(&second, &outlet, 10, &carried));
     printf(", %zu; one: %u", carried, r10_carry_one(&second, &outlet, &one));
     printf(", %d\n", one);
-    /* of another script: the place is another channel's, and the message stays */
+    /* of another script: its channel of that ID took a later message, and this one stays */
     printf("into another one: %u\n", r10_carry(&recorder, &outlet, 10, &carried));
     /* the port is closed: what it accepted is carried */
     r10_port_close(&port);
@@ -233,9 +233,9 @@ static void refusals(void) {
     must("lost", r10_port_lost(&port, 5));
     must("state", r10_port_state(&port, &info));
     printf("port: %" PRIu64 " accepted, %" PRIu64 " lost, room for %zu, channel %u\n", info.accepted, info.lost, info.capacity, info.channel);
-    /* the lane is full, by the offers above: what is in the port stays there */
-    must("carry into a full lane", r10_carry(&recorder, &outlet, 10, &carried));
-    printf("into a full lane: %zu\n", carried);
+    /* the lane is full, by the offers above, and its last count is above that of the first in the port: what is in the port stays there */
+    printf("into a full lane that is further: %u", r10_carry(&recorder, &outlet, 10, &carried));
+    printf(", %zu\n", carried);
     r10_channel_info lane = {0};
     must("channel", r10_channel_of(&recorder, 14, &lane));
     printf("the lane: %zu wait, %" PRIu64 " lost\n", lane.waiting, lane.lost);
@@ -252,6 +252,58 @@ static void refusals(void) {
     printf("null: %u, %u, %u\n", r10_port_discrete(NULL, 80, 1), r10_carry_one(&recorder, NULL, &one), r10_port_open(NULL, 1, 14, &port, &outlet));
 }
 
+/* Three messages are lost before one that a lane does not take: neither the lane nor its recorder counts them. A new recorder takes it after them. */
+static void refused_after_a_loss(void) {
+    static unsigned char memory[2][64 * 512];
+    const r10_civil civil = {2024, 2, 29, 12, 34, 56, 78};
+    const char *small = "blocks = 64\ndirectory = 2\nvolume = \"VOL\"\nnodes = 100\ntime = 1\nevent = 2\n"
+                        "[[channel]]\nid = 5\nkind = \"discrete\"\ncapacity = 2\ncheck = 0\nbytes = 4096\nnumber = 100\nbits = 8\n";
+    r10 one = {0};
+    r10_port port = {0}, other = {0};
+    r10_outlet outlet = {0}, elsewhere = {0};
+    r10_channel_info lane = {0};
+    r10_entry entry;
+    size_t cursor, queued, carried, moved, taken, left;
+    bool there;
+    must("open a port", r10_port_open(small, strlen(small), 5, &port, &outlet));
+    must("lost", r10_port_lost(&port, 3));
+    must("offer", r10_port_discrete(&port, 5, 1));
+    must("format", r10_format((r10_region){memory[0], 64}, 64, small, strlen(small), &one));
+    must("offer", r10_offer_discrete(&one, 5, 10, 2));
+    printf("after a later message: %u", r10_carry(&one, &outlet, 10, &carried));
+    must("channel", r10_channel(&one, 0, &lane));
+    printf(", %zu carried, %" PRIu64 " lost\n", carried, lane.lost);
+    /* a message of a channel that the recorder does not have stays, too */
+    must("open a port", r10_port_open(script, strlen(script), 14, &other, &elsewhere));
+    must("offer", r10_port_discrete(&other, 100, 1));
+    printf("of another channel: %u", r10_carry(&one, &elsewhere, 10, &carried));
+    printf(", %zu carried\n", carried);
+    r10_port_close(&other);
+    r10_outlet_close(&elsewhere);
+    r10_close(&one);
+    must("format", r10_format((r10_region){memory[1], 64}, 64, small, strlen(small), &one));
+    must("mount", r10_mount(&one));
+    must("tick", r10_tick(&one, 1, &civil));
+    must("start", r10_start(&one, "FLT", 3, "", 0));
+    must("carry", r10_carry(&one, &outlet, 10, &carried));
+    /* two more, so that the lane is full with one left in the port */
+    must("offer", r10_port_discrete(&port, 6, 1));
+    must("offer", r10_port_discrete(&port, 7, 1));
+    must("carry", r10_carry(&one, &outlet, 10, &moved));
+    printf("into a new recorder: %zu, then %zu of two", carried, moved);
+    must("pump", r10_pump(&one, 5, 1, &moved));
+    must("carry", r10_carry(&one, &outlet, 10, &carried));
+    printf(", and %zu once there was room\n", carried);
+    must("stop", r10_stop(&one, &taken, &left));
+    must("cursor", r10_cursor(&one, 0, (const uint16_t[]){5}, 1, 0, R10_LAST_COUNT, &cursor));
+    must("advance", r10_advance(&one, cursor, &queued));
+    must("take", r10_take(&one, cursor, &there, &entry));
+    printf("its first message: count %" PRIu64 ", %" PRIu64 " lost before it, %zu in all\n", entry.count, entry.lost, queued);
+    r10_close(&one);
+    r10_port_close(&port);
+    r10_outlet_close(&outlet);
+}
+
 int main(int count, char **words) {
     const r10_civil civil = {2024, 2, 29, 12, 34, 56, 78};
     size_t taken, left;
@@ -265,6 +317,7 @@ int main(int count, char **words) {
     must("tick", r10_tick(&recorder, 10, &civil));
     must("start", r10_start(&recorder, "FLT1", 4, "", 0));
     refusals();
+    refused_after_a_loss();
     closings();
     for (int n = 0; n < BUSES; n++) {
         buses[n].channel = (uint16_t)(FIRST + n);

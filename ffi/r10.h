@@ -408,7 +408,7 @@ void r10_port_close(r10_port *port);
 void r10_outlet_close(r10_outlet *outlet);
 
 /* Carries the port's next message into its channel's lane, by the thread that owns the recorder, in every mode: `carried` says whether one was. R10_OK
- * and none where there is none yet, or the lane is full: then it stays in the port. R10_COUNT_BACK: the channel was offered a later message by
+ * and none where there is none yet, or where the lane takes it but for its room: then it stays in the port. R10_COUNT_BACK: the channel was offered a later message by
  * another way. Where the recorder was opened by another script: R10_NO_CHANNEL, or why its lane does not take the message.
  * A message that is refused stays, and is the next again, with the loss before it, which is not counted then. It takes no memory. */
 uint32_t r10_carry_one(r10 *recorder, r10_outlet *outlet, bool *carried);
@@ -604,6 +604,10 @@ static inline uint32_t r10_channel_of(r10 *recorder, uint16_t id, r10_channel_in
 /* The account of the channel of this ID. R10_NO_MEMORY, R10_NO_CHANNEL. */
 static inline uint32_t r10_account_of(r10 *recorder, uint16_t id, r10_account_info *info) {
     r10_account_info found;
+    if (recorder == NULL)
+        return R10_CLOSED;
+    if (info == NULL)
+        return R10_ROOM;
     for (size_t place = 0;; place++) {
         uint32_t answer = r10_account(recorder, place, &found);
         if (answer == R10_PLACE)
@@ -620,8 +624,10 @@ static inline uint32_t r10_account_of(r10 *recorder, uint16_t id, r10_account_in
 /* The losses of the channel of this ID. R10_NO_CHANNEL. */
 static inline uint32_t r10_losses_of(r10 *recorder, uint16_t id, r10_losses_info *info) {
     r10_losses_info found;
+    if (recorder == NULL)
+        return R10_CLOSED;
     if (info == NULL)
-        return recorder == NULL ? R10_CLOSED : R10_ROOM;
+        return R10_ROOM;
     for (size_t place = 0;; place++) {
         uint32_t answer = r10_losses(recorder, place, &found);
         if (answer == R10_PLACE)

@@ -138,6 +138,7 @@ static void nulls(void) {
     r10_fault_info fault;
     r10_script_info told;
     r10_entry entry, message = {.length = 1};
+    r10_account_info account;
     r10_losses_info losses;
     uint64_t counted;
     r10_parts parts = {0, 10, 0};
@@ -179,6 +180,7 @@ static void nulls(void) {
     expect("port_state", r10_port_state(NULL, &state), R10_CLOSED);
     r10_port_close(NULL);
     r10_outlet_close(NULL);
+    expect("account_of", r10_account_of(NULL, 5, &account), R10_CLOSED);
     expect("losses", r10_losses(NULL, 0, &losses), R10_CLOSED);
     expect("losses_of", r10_losses_of(NULL, 5, &losses), R10_CLOSED);
     expect("take_waiting", r10_take_waiting(NULL, 5, &there, &entry), R10_CLOSED);
@@ -234,6 +236,7 @@ static void nulls(void) {
             expect(kinds[n].name, kinds[n].offer_at(&port, 1, &message, NULL), R10_ROOM);
         }
     expect("port_state", r10_port_state(&port, NULL), R10_ROOM);
+    expect("account_of", r10_account_of(&recorder, 5, NULL), R10_ROOM);
     expect("losses", r10_losses(&recorder, 0, NULL), R10_ROOM);
     expect("losses_of", r10_losses_of(&recorder, 5, NULL), R10_ROOM);
     expect("take_waiting", r10_take_waiting(&recorder, 5, NULL, &entry), R10_ROOM);
