@@ -1,51 +1,15 @@
 -- An event that leaves the medium itself.
-use Rattle.std.proofs.Common.{◌≡◌, List, Option, true, None, Some, ap, sym, ◌∙◌, true≢false, [], ◌∷◌}
+use Rattle.std.proofs.Common.{◌≡◌, Option, true, None, Some, ap, sym, ◌∙◌, true≢false, [], ◌∷◌}
 use Rattle.r10_body.specs.declared.refusal.Refusal.{Refusal as RefusalValue}
 use Rattle.r10_body.specs.declared.refusal.Refusal.TheVariants as refusals
 use Rattle.r10_machine.specs.declared.event.Event.{Event as EventValue}
 use Rattle.r10_machine.specs.declared.event.Event.TheVariants as events
 use Rattle.r10_machine.specs.declared.reply.Reply.{Reply as ReplyValue}
 use Rattle.r10_machine.specs.declared.reply.Reply.TheVariants as replies
-use Rattle.r10_control.specs.State.{RecorderState}
-use Rattle.r10_cursor.specs.declared.cursor.Cursor.{Cursor}
-use Rattle.r10_machine.specs.Machine.{Lane}
 use Rattle.r10_medium.specs.Disk.{Disk}
 use Rattle.r10_world.specs.Answering.{AnswersEach, AnswersSo, LeavesAll, MayLack, RefusesSo, first_refusal}
 use Rattle.r10_world.specs.State.{WorldState}
 use Rattle.r10_calls.specs.Told.{StepsToReply, leaves_medium}
-
--- where all checks hold, a refusal says what is lacking
-pub what_lacks : {M : Type 0} (disk : M → Disk) (old : RecorderState M Lane) (slots : List (Option Cursor)) (event : EventValue) (r : RefusalValue) (new : RecorderState M Lane) (later : List (Option Cursor))
-    → RefusesSo disk None old slots event r new later → MayLack disk old slots event new r
-what_lacks disk old slots event refusals.Failed new later is = is.cause
-what_lacks disk old slots event refusals.NotMounted new later is = is.cause
-what_lacks disk old slots event refusals.AlreadyMounted new later is = is.cause
-what_lacks disk old slots event refusals.Busy new later is = is.cause
-what_lacks disk old slots event refusals.NotRecording new later is = is.cause
-what_lacks disk old slots event refusals.NoSuchChannel new later is = is.cause
-what_lacks disk old slots event refusals.WrongKind new later is = is.cause
-what_lacks disk old slots event refusals.BadMessage new later is = is.cause
-what_lacks disk old slots event refusals.TooLong new later is = is.cause
-what_lacks disk old slots event refusals.CountRange new later is = is.cause
-what_lacks disk old slots event refusals.CountBack new later is = is.cause
-what_lacks disk old slots event refusals.Overflow new later is = is.cause
-what_lacks disk old slots event refusals.BadCivil new later is = is.cause
-what_lacks disk old slots event refusals.NoTime new later is = is.cause
-what_lacks disk old slots event refusals.BadName new later is = is.cause
-what_lacks disk old slots event refusals.NameTaken new later is = is.cause
-what_lacks disk old slots event refusals.BadEvent new later is = is.cause
-what_lacks disk old slots event refusals.Unsealed new later is = is.cause
-what_lacks disk old slots event refusals.NoSuchFile new later is = is.cause
-what_lacks disk old slots event refusals.Stale new later is = is.cause
-what_lacks disk old slots event refusals.NoCursor new later is = is.cause
-what_lacks disk old slots event refusals.Unread new later is = is.cause
-what_lacks disk old slots event refusals.DirectoryFull new later is = is.cause
-what_lacks disk old slots event refusals.MediumFull new later is = is.cause
-what_lacks disk old slots event (refusals.BadDirectory a) new later is = is.cause
-what_lacks disk old slots event (refusals.BadFile a b) new later is = is.cause
-what_lacks disk old slots event refusals.Medium new later is = is.cause
-what_lacks disk old slots event (refusals.Behind a) new later is = is.cause
-what_lacks disk old slots event refusals.OutOfMemory new later is = is.cause
 
 module _ {M : Type 0} (disk : M → Disk) (old new : WorldState M) where
   -- where the medium can't be lacking, and what can be leaves it

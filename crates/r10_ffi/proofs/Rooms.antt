@@ -1,8 +1,6 @@
 -- A call that may write, after its look for room.
-use Rattle.std.proofs.Common.{◌≡◌, ◌≢◌, ℕ, ◌==◌, Bool, true, false, cond, map, refl, sym, ap, subst, inr, ◌∙◌, true≢false}
-use Rattle.std.proofs.lemmas.Bool.{eqb-false, eqb-true}
+use Rattle.std.proofs.Common.{◌≡◌, ℕ, Bool, true, false, refl, sym, ap, subst, inr, ◌∙◌, true≢false}
 use Rattle.r10_body.specs.declared.refusal.Refusal.TheVariants.{OutOfMemory}
-use Rattle.r10_calls.specs.Losses.{erased_with}
 use Rattle.r10_calls.specs.Told.{DoesEvent, number_of}
 use Rattle.r10_calls.specs.declared.desk.Desk.{Desk as DeskValue}
 use Rattle.r10_machine.specs.declared.event.Event.{Event as EventValue}
@@ -48,17 +46,3 @@ refused_erase old new has room none same accepted = record {
   accepted = ap (λ (v : _). v.items) accepted;
   refused = λ e. (refl, same);
 }
-
-pub erased : (old new : LentRecorder) (answer : ℕ) (has : Bool) → MakesRoom has old.orders new.orders → has ≡ true → DoesEvent region_disk old.desk Erase (λ reply. answer ≡ number_of reply) new.desk
-    → (answer ≡ 0 → new.accepted.items ≡ map (erased_with new.desk.world.recorder.lanes) old.accepted.items) → (answer ≢ 0 → new.accepted.items ≡ old.accepted.items) → ErasesHeld answer old new
-erased old new answer has room some does counted kept = record {
-  has = has;
-  room = room;
-  does = does;
-  accepted = by (answer == 0) refl;
-  refused = λ e. absurd (true≢false (sym some ∙ e));
-}
-  where
-    by : (b : Bool) → (answer == 0) ≡ b → new.accepted.items ≡ cond b (map (erased_with new.desk.world.recorder.lanes) old.accepted.items) old.accepted.items
-    by true is = counted (eqb-true answer 0 is)
-    by false is = kept (eqb-false answer 0 is)

@@ -1,4 +1,4 @@
-use Rattle.std.proofs.Common.{◌≡◌, ℕ, None, ap, ◌∙◌, subst}
+use Rattle.std.proofs.Common.{◌≡◌, ℕ, ap, ◌∙◌, subst}
 use Rattle.r10_machine.specs.Checks.{offer_refusal}
 use Rattle.r10_machine.specs.Machine.{lane_in}
 use Rattle.r10_machine.specs.declared.event.Event.TheVariants.{Offer}

@@ -1,4 +1,4 @@
-use Rattle.std.proofs.Common.{◌≡◌, Option, None, sym, ap, ◌∙◌, true≢false, is_some, rules}
+use Rattle.std.proofs.Common.{sym, ap, ◌∙◌, true≢false, is_some, rules}
 use Rattle.r10_calls.proofs.place.WorldPlace.run_here.Goals.{in-Some, in-None+in-Start-1, in-None+in-Offer-1, in-None+in-Cursor-1, in-None+in-Mount-1}
 use Rattle.r10_calls.proofs.place.WorldPlace.run_here.Goals as goal
 
