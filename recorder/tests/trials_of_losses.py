@@ -107,6 +107,19 @@ def sums(image: bytes, channels: list[int]) -> dict[int, Sums]:
     return found
 
 
+def cut_off(image: bytes) -> int:
+    """Compares what the lines after a kill say of the files that were cut off with what these have. How many such lines there are."""
+    found = 0
+    for line in (it for file in range(len(files(image))) for it in log_lines(image, file) if it.word == 'durable'):
+        of_channel = entries(image, line.number('file') - 1, line.number('channel'))
+        must(
+            (line.number('messages'), line.number('count')) == (len(of_channel), of_channel[-1].count if of_channel else 0),
+            f'{line}: {len(of_channel)} entries, {of_channel[-1:]}',
+        )
+        found += 1
+    return found
+
+
 def by_cause(image: bytes, number: int) -> dict[str, int]:
     """What the lines of each second say of losses."""
     total: dict[str, int] = collections.Counter()
