@@ -89,7 +89,8 @@ impl<M: SteadyMedium + Drop> Desk<M> {
     /// The losses of the channel at this place of the settings, from 0, in every mode: 0, or 43 where there are fewer.
     pub fn losses(&self, place: usize, accepted: &[Accepted], out: &mut LossesOut) -> u32
         ensures number { result ≡ elim (losses_at accepted.now self.now.world.recorder.lanes place) [ None ↦ 43 | Some x ↦ 0 ] }
-        ensures given { out.new ≡ elim (losses_at accepted.now self.now.world.recorder.lanes place) [ None ↦ out.old | Some x ↦ x ] }
+        ensures given { out.new ≡ elim (losses_at accepted.now self.now.world.recorder.lanes place)
+            [ None ↦ out.old | Some x ↦ x ] }
     {
         let Some(one) = accepted.get(place) else {
             return PLACE;

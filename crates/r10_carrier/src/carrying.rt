@@ -79,8 +79,8 @@ fn carry_into_lane<M: SteadyMedium + Drop>(carrier: &mut Carrier, desk: &mut Des
     carry_hand(desk, channel, &mut carrier.hand)
 }
 
-/// Carries one sample of an outlet into the recorder's lane, with the loss before it, if there is one and the lane takes it. Else its
-/// number says why not, or 0; 44 if the outlet is not open. What is not carried stays in the outlet, and no loss is counted.
+/// Carries one sample of an outlet into the recorder's lane, with the loss before it, if there is one and the lane takes it. Else
+/// its number says why not, or 0; 44 if the outlet is not open. What is not carried stays in the outlet, and no loss is counted.
 pub fn carry_one<M: SteadyMedium + Drop>(
     alloc: Global,
     outlet: &mut OutletEnd,

@@ -23,8 +23,8 @@ impl<M: BlockMedium> Recorder<M, RingLane> {
         asked(self.lanes.as_slice(), channel, count, message)
     }
 
-    /// Takes the first message that waits on a channel out of its lane, in any mode, with the loss before it. It is in no file of this
-    /// recorder then, and the next one that waits is the first. `None` where none waits. Refused: NoSuchChannel.
+    /// Takes the first message that waits on a channel out of its lane, in any mode, with the loss before it. No file of this
+    /// recorder has it then, and the next one that waits is the first. `None` where none waits. Refused: NoSuchChannel.
     pub fn take_waiting(&mut self, channel: u16) -> Result<Option<Sample>, Refusal>
         ensures takes { TakesWaiting channel self.old.lanes result self.new.lanes }
         ensures stands { IfOk result (λ _. StandsWithout channel self.old.kept (M.disk self.old.medium).blocks
@@ -35,8 +35,8 @@ impl<M: BlockMedium> Recorder<M, RingLane> {
         take_in(&mut self.lanes, channel)
     }
 
-    /// How many messages of a channel were lost in all, since the last one that was accepted, and before those that wait, each up to
-    /// `u64::MAX`. Refused: NoSuchChannel.
+    /// How many messages of a channel were lost in all, since the last one that was accepted, and before those that wait, up to
+    /// `u64::MAX` each. Refused: NoSuchChannel.
     pub fn losses(&self, channel: u16) -> Result<Losses, Refusal>
         ensures losses { IfOk result (λ losses. option_map losses_of (lane_in channel self.now.lanes) ≡ Some losses) }
         ensures refused { IfErr result (λ r. (r ≡ refusals.NoSuchChannel) × (lane_in channel self.now.lanes ≡ None)) }

@@ -31,7 +31,7 @@ pub extern "C" fn r10_losses(
     answer
 }
 
-/// Takes the first message that waits on a channel out of its lane into the hand, if there is one, and gives its fields. 0, or 6, 44.
+/// Takes the first message that waits on a channel out of its lane into the hand, if there is one, and gives its fields. 0; 6, 44.
 #[unsafe(no_mangle)]
 pub extern "C" fn r10_take_waiting(
     alloc: Global,

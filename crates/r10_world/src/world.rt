@@ -188,8 +188,8 @@ impl<M: BlockMedium> World<M> {
         self.recorder.would_take(channel, count, message)
     }
 
-    /// Takes the first message that waits on a channel out of its lane, in any mode, with the loss before it. It is in no file of this
-    /// recorder then. `None` where none waits. Refused: NoSuchChannel.
+    /// Takes the first message that waits on a channel out of its lane, in any mode, with the loss before it. No file of this
+    /// recorder has it then. `None` where none waits. Refused: NoSuchChannel.
     pub fn take_waiting(&mut self, channel: u16) -> Result<Option<Sample>, Refusal>
         ensures takes { TakesWaiting channel self.old.recorder.lanes result self.new.recorder.lanes }
         ensures stands { IfOk result (λ _. StandsOn M.disk channel self.old self.new) }
@@ -198,8 +198,8 @@ impl<M: BlockMedium> World<M> {
         self.recorder.take_waiting(channel)
     }
 
-    /// How many messages of a channel were lost in all, since the last one that was accepted, and before those that wait, each up to
-    /// `u64::MAX`. Refused: NoSuchChannel.
+    /// How many messages of a channel were lost in all, since the last one that was accepted, and before those that wait, up to
+    /// `u64::MAX` each. Refused: NoSuchChannel.
     pub fn losses(&self, channel: u16) -> Result<Losses, Refusal>
         ensures losses { IfOk result (λ losses. option_map losses_of (lane_in channel self.now.recorder.lanes) ≡ Some losses) }
         ensures refused { IfErr result
