@@ -158,11 +158,12 @@ def no_streaming_configuration() -> Found:
 def recording_index() -> Found:
     """Nodes and roots, with the size of the file and headers within and without: count, time, channel, type and place, and whether
     a packet of that channel and type begins there."""
-    front = opened() + [packet(5, 0x50, 2000, made.uart([(2000, b'x')]))]
+    inner = packet(5, 0x50, 2000, made.uart([(2000, b'x')]))  # a packet within another, which is none of the recording
+    front = opened() + [packet(5, 0x50, 2000, made.uart([(2000, inner)]), 0, 2)]
     places = [0, len(front[0]), len(front[0]) + len(front[1])]
     end, found = len(b''.join(front)), []
     nodes = [(1000, 0, 0x01, 0), (1000, 1, 0x11, places[1]), (2000, 5, 0x50, places[2]), (2000, 6, 0x50, places[2]),
-             (2000, 5, 0x30, places[2]), (2000, 5, 0x50, places[2] + 4), (2000, 5, 0x50, 1 << 40)]
+             (2000, 5, 0x30, places[2]), (2000, 5, 0x50, places[2] + 40), (2000, 5, 0x50, 1 << 40)]
     for size, header in ((None, b''), (1 << 33, b'12345678')):
         data = b''.join(front + [packet(0, 0x03, 2000, made.index(nodes, True, size, header), 1),
                                  packet(0, 0x03, 2000, made.index([(1000, end), (1000, 4), (1000, 0)], False, size, header), 2)])

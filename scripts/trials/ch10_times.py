@@ -461,14 +461,14 @@ def header_times() -> Found:
             entry(one, place * SECOND // 2 + 100, str(place), flags=form << 2,
                   secondary=made.time_of(form, start + place * SECOND // 2))
         data = one.data()
-        ranged = run(['range', '--from', '09:00:01', '--to', '09:00:02', *words], data)[1]
+        ranged = run(['range', '--from', '09:00:01.2', '--to', '09:00:02', *words], data)[1]
         found.append((times(words, data), times(words, ranged), notes(['csv', *words], data),
                       [said for said, in rows(['--channel', '5', '--quality', *words], data, 'quality')][:1]))
         if form == made.IEEE_1588:
             ways = by_ways(data)
     every = ['2024-05-17 09:00:0%d.%d000000' % (place // 2, place % 2 * 5) for place in range(6)]
     said = (0, ['times: no time packet tells one; they are those of secondary headers'])
-    return (found, ways), ([(every, every[2:5], said, ['free'])] * 2,
+    return (found, ways), ([(every, every[3:5], said, ['free'])] * 2,
                            dict.fromkeys(('csv', 'raw', 'json', 'one', 'many'), list(zip(every, '012345'))))
 
 
@@ -477,7 +477,7 @@ def header_times_come_last() -> Found:
     one = opened().add(1, 0x11, 0, made.time_f1('2024-05-17 09:00:00.00'))
     entry(one, 5, 'a', secondary=made.time_of(made.IEEE_1588, 0), flags=made.IEEE_1588 << 2)
     other = opened()
-    entry(other, 5, 'a', secondary=made.time_of(made.EXTENDED_COUNTER, 10 ** 15), flags=made.EXTENDED_COUNTER << 2)
+    entry(other, 5, 'a', secondary=made.time_of(made.EXTENDED_COUNTER, 10 ** 12), flags=made.EXTENDED_COUNTER << 2)
     late = opened()
     entry(late, 5, 'a', secondary=made.time_of(made.CHAPTER_4, 400 * 24 * 3600 * SECOND), flags=made.CHAPTER_4 << 2)
     return [(times([], data), notes(['csv'], data)) for data in (one.data(), other.data(), late.data())], [

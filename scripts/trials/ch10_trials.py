@@ -658,8 +658,8 @@ def calls():
     yield [], image, 2, 'the following arguments are required: COMMAND; see ch10 --help'
     yield ['csv', '--file', 'FLT1'], image, 2, (
         "argument --file: 'FLT1' is no number of a file, from 0 on: ch10 summary < IMAGE lists the files; see ch10 csv --help")
-    known = ('the commands are summary, csv, json, svg, setup, index, tmats, sqlite, range, file, export, values, plot, catalogue, load '
-             'and report')
+    known = ('the commands are summary, csv, json, svg, setup, index, tmats, sqlite, range, file, export, values, plot, catalogue, '
+             'load and report')
     for word, near in (('ls', "; the nearest is 'summary'"), ('sumary', "; the nearest is 'summary'"), ('qqq', '')):
         yield [word], image, 2, "there is no command '%s'%s; %s; see ch10 --help" % (word, near, known)
     yield ['medium.img'], image, 2, (
