@@ -5,7 +5,12 @@ with rows/answers.
     scripts/rows/run_rows.py PROGRAM                        all rows, in some seconds; a line for each that differs, and then status
                                                             1
     scripts/rows/run_rows.py PROGRAM NAME..                 these rows, with what the program prints
+    scripts/rows/run_rows.py PROGRAM --not-proved           the same of a program that is not proved
     scripts/rows/run_rows.py PROGRAM --first-fault OTHER    rows of the words `judge closed` and `judge unclosed` too
+
+An answer with the word `not-proved` is that of a build without proofs: a program whose file's name begins with `quick-`, as
+scripts/build/quick_build.py names what it keeps, or that of a call with --not-proved. Any other program has to answer as the
+proved one does.
 
 docs/ROWS.md says what a row is. Those of `judge` are no calls of the program. OTHER is ffi/first_fault.c, compiled over the library
 (scripts/ffi.sh check does that): it reads an image with the file, whose entry is closed or not. Without it they are left out, and a
@@ -27,6 +32,7 @@ sys.path[1:1] = map(str, [TOP, *(TOP / 'scripts').iterdir()])  # modules of the 
 from play_cases import alone  # noqa: E402
 
 FOLDER = TOP / 'rows'
+NOT_PROVED = 'not-proved'
 
 
 class Case:
@@ -60,6 +66,18 @@ def cases(name: str) -> Iterator[Case]:
         yield Case(text)
 
 
+def answers_of(not_proved: bool) -> dict[tuple[str, ...], bytes]:
+    """The answers that a build has to give, by the first lines of their cases."""
+    found = {}
+    for it in cases('answers'):
+        is_other = NOT_PROVED in it.how
+        if is_other and not not_proved:
+            continue
+        how = [word for word in it.how if word != NOT_PROVED]
+        found[(it.name, *it.words)] = ' '.join([it.status, *how]).encode() + b'\n' + it.body
+    return found
+
+
 def answer_of(words: argparse.Namespace, case: Case) -> bytes:
     """What the program makes of a case, as its answer has it."""
     command, given = [words.program, *case.words], case.given()
@@ -82,9 +100,9 @@ def main() -> int:
     parser.add_argument('program')
     parser.add_argument('names', nargs='*', metavar='name')
     parser.add_argument('--first-fault', metavar='OTHER')
+    parser.add_argument('--not-proved', action='store_true')
     words = parser.parse_intermixed_args()
-    answers = {(it.name, *it.words): it.status.encode() + b' '.join([b'', *(x.encode() for x in it.how)]) + b'\n' + it.body
-               for it in cases('answers')}
+    answers = answers_of(words.not_proved or pathlib.Path(words.program).resolve().name.startswith('quick-'))
     asked = [it for it in cases('cases') if not words.names or it.name in words.names]
     wanted = [it for it in asked if words.first_fault or not is_judgement(it)]
     try:

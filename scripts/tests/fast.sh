@@ -23,7 +23,7 @@ while IFS= read -r name; do
 done <"$room/linters"
 stand_in proofs/slips.py 'echo "refused: one"; echo "2 tried, 0 left"'
 stand_in rows/run_rows.py 'echo "(3 cases, 0 differ)"'
-printf 'r10_low:\nr10_cli: r10_low\nr10_tests: r10_cli\nr10_other:\n' >"$top/crates.txt"
+printf 'r10_low:\nr10_words:\nr10_cli: r10_low r10_words\nr10_tests: r10_cli\nr10_other:\n' >"$top/crates.txt"
 mkdir -p "$top/crates/r10_other/src"
 echo '# other' >"$top/crates/r10_other/src/lib.rt"
 git -C "$top" init -q

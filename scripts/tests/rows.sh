@@ -56,6 +56,25 @@ check "a program that is killed differs" says "$(said "$room/killed" plain)" $'-
 check "and then the status is 1" says "$(said "$room/killed" plain)" "status 1"
 check "a program that is not there is one line" is "$(said "$room/nowhere" plain)" \
     "run_rows: cannot run $room/nowhere: No such file or directory"$'\nstatus 1'
+
+# A case with one answer a build: this program says which it is.
+printf '#!/bin/sh\necho "one$SAYS"\n' >"$room/quick-one"
+chmod +x "$room/quick-one"
+cp "$room/quick-one" "$room/proved-one"
+ln -s quick-one "$room/linked"
+cp -r "$room/rows" "$room/rows.kept"
+printf '== which sim\n0\n' >"$room/rows/cases"
+printf '== which sim\n0\none\n== which sim\n0 not-proved\none (not proved)\n' >"$room/rows/answers"
+good=$'(1 cases, 0 differ)\nstatus 0' other=$'differs: which\n(1 cases, 1 differ)\nstatus 1'
+check "a build without proofs has the answer of its own" is "$(SAYS=' (not proved)' said "$room/quick-one")" "$good"
+check "also by another name" is "$(SAYS=' (not proved)' said "$room/linked")" "$good"
+check "it may not answer as the proved one" is "$(SAYS='' said "$room/quick-one")" "$other"
+check "any other program has to answer as the proved one" is "$(SAYS='' said "$room/proved-one")" "$good"
+check "and not as the other" is "$(SAYS=' (not proved)' said "$room/proved-one")" "$other"
+check "but where the call says that it is not proved" is "$(SAYS=' (not proved)' said "$room/proved-one" --not-proved)" "$good"
+rm -r "$room/rows"
+mv "$room/rows.kept" "$room/rows"
+
 sed -i 's/^2560$/2561/' "$room/rows/answers"
 check "another answer of judge differs" is "$(said "$room/program" --first-fault "$room/judge")" \
     $'differs: of-a-file\n(4 cases, 1 differ)\nstatus 1'
