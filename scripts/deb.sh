@@ -2,8 +2,13 @@
 # Makes a Debian package of r10, by what scripts/install.sh installs, and tries it. If r10d is among it, the package makes its user,
 # r10, and does not start it.
 #
-#     scripts/deb.sh FOLDER         # makes FOLDER/r10_VERSION_ARCHITECTURE.deb, and prints its name
-#     scripts/deb.sh try PACKAGE    # unpacks it into a root of its own, which has a C library and nothing else, and runs r10 there
+#     scripts/deb.sh FOLDER               # makes FOLDER/r10_VERSION_ARCHITECTURE.deb, and prints its name
+#     scripts/deb.sh --unproved FOLDER    # the same where the program or the library is not proved: its version is VERSION~unproved
+#     scripts/deb.sh try PACKAGE          # unpacks it into a root of its own, which has a C library and nothing else, and runs r10
+#                                         # there
+#
+# Two packages of one commit have the same bytes: scripts/trials/same_package.sh builds two, and compares them. Times in it are the
+# commit's. What `lintian` finds and is to stay, with its reasons, is in scripts/build/lintian.txt.
 #
 # `try` wants root, for chroot, or leave to make a namespace (unshare); without either a line says NOT TRIED.
 set -eu
@@ -17,6 +22,8 @@ give_up() {
 }
 
 command -v dpkg-deb >/dev/null || give_up 3 "there is no dpkg-deb"
+# shellcheck source=scripts/build/about.sh
+. "$top/scripts/build/about.sh"
 made=$(mktemp -d)
 trap 'rm -rf "$made"' EXIT
 
@@ -60,11 +67,31 @@ SCRIPT
     chmod 755 "$1/postinst" "$1/prerm" "$1/postrm"
 }
 
+# Whether all of it is proved that is installed below a folder, by its first lines.
+is_proved() {
+    [ "$(head -n 2 "$1/usr/share/r10/installed" | grep -c ' (proved), ')" = 2 ]
+}
+
+# How large it is when it is installed, in KiB, as Debian reckons: by its files, whatever the file system.
+size_of() {
+    (cd "$1" && find usr lib -printf '%y %s\n' 2>/dev/null) |
+        awk '{ sum += $1 == "f" ? int(($2 + 1023) / 1024) : 1 } END { print sum }'
+}
+
 make_package() {
-    local version architecture package root=$made/root programs depends
+    local version architecture package root=$made/root programs depends multiarch lines doc
     version=$(cat "$top/VERSION")
     architecture=$(dpkg --print-architecture)
-    "$top/scripts/install.sh" /usr "$root" >&2
+    multiarch=$(dpkg-architecture -qDEB_HOST_MULTIARCH 2>/dev/null) || multiarch=$(gcc -print-multiarch)
+    SOURCE_DATE_EPOCH=$(time_of)
+    export SOURCE_DATE_EPOCH
+    R10_LIBDIR=lib/$multiarch "$top/scripts/install.sh" /usr "$root" >&2
+    if ! is_proved "$root"; then
+        [ -n "$unproved" ] || give_up 1 "the program or the library is not proved (scripts/build.sh and scripts/ffi.sh build prove \
+them); a package of it is made with --unproved alone"
+        version=$version~unproved
+    fi
+    lines=$(head -n 2 "$root/usr/share/r10/installed" | fold -s -w 76 | sed 's/^/ /')
     # (the list is for scripts/install.sh alone: here dpkg keeps one)
     rm "$root/usr/share/r10/installed"
     find "$root/usr/share/man" -type f -exec gzip -9n {} +
@@ -72,8 +99,16 @@ make_package() {
     mkdir -p "$root/usr/share/zsh/vendor-completions"
     mv "$root"/usr/share/zsh/site-functions/* "$root/usr/share/zsh/vendor-completions"
     rmdir "$root/usr/share/zsh/site-functions"
-    mkdir -p "$root/DEBIAN"
-    programs=("$root/usr/bin/r10" "$root"/usr/lib/libr10.so.*)
+    doc=$root/usr/share/doc/r10
+    {
+        printf 'r10 (%s) unstable; urgency=medium\n\n' "$version"
+        printf '  * What changed stands in CHANGELOG.md of the sources. This package:\n'
+        printf '%s\n' "$lines" | sed 's/^ /    /; s/ *$//'
+        printf '\n -- the r10 project <r10@localhost.localdomain>  %s\n' "$(LC_ALL=C date -uRd "@$SOURCE_DATE_EPOCH")"
+    } | gzip -9n >"$doc/changelog.gz"
+    mkdir -p "$root/DEBIAN" "$root/usr/share/lintian/overrides"
+    install -m 644 "$top/scripts/build/lintian.txt" "$root/usr/share/lintian/overrides/r10"
+    programs=("$root/usr/bin/r10" "$root/usr/lib/$multiarch"/libr10.so.*)
     depends=
     if [ -e "$root/usr/bin/r10d" ]; then
         programs+=("$root/usr/bin/r10d" "$root/usr/bin/r10ctl")
@@ -85,14 +120,16 @@ make_package() {
         make_scripts "$root/DEBIAN"
     fi
     depends="libc6 (>= $(wanted_libc "${programs[@]}"))$depends"
+    # (nothing in it is newer than the commit)
+    find "$root" -exec touch -hd "@$SOURCE_DATE_EPOCH" {} +
     cat >"$root/DEBIAN/control" <<CONTROL
 Package: r10
 Version: $version
 Architecture: $architecture
-Maintainer: the r10 project <r10@localhost>
+Maintainer: the r10 project <r10@localhost.localdomain>
 Section: science
 Priority: optional
-Installed-Size: $(du -sk "$root/usr" | cut -f 1)
+Installed-Size: $(size_of "$root")
 Depends: $depends
 Recommends: python3 (>= 3.7), python3-numpy
 Description: flight recorder for IRIG 106 Chapter 10 files
@@ -100,9 +137,11 @@ Description: flight recorder for IRIG 106 Chapter 10 files
  recording files, plays them back, and says the verdict on a recording.
  With a library for programs in C and Rust, filters for recordings, and a
  service that records live inputs.
+ .
+$lines
 CONTROL
     printf 'activate-noawait ldconfig\n' >"$root/DEBIAN/triggers"
-    (cd "$root" && find usr lib -type f -print0 2>/dev/null | sort -z | xargs -0 md5sum) >"$root/DEBIAN/md5sums"
+    (cd "$root" && find usr lib -type f -print0 2>/dev/null | LC_ALL=C sort -z | xargs -0 md5sum) >"$root/DEBIAN/md5sums"
     package=$1/r10_${version}_$architecture.deb
     dpkg-deb --root-owner-group --build "$root" "$made/package.deb" >&2 || give_up 3 "the package was not made"
     cp "$made/package.deb" "$package" || give_up 3 "$package can't be written"
@@ -135,7 +174,7 @@ STATUS
 }
 
 try_package() {
-    local root=$made/root into=() listed
+    local root=$made/root into=() listed said suffix=
     if [ "$(id -u)" != 0 ]; then
         unshare --user --map-root-user true 2>/dev/null || {
             echo "deb: NOT TRIED: no leave for chroot here"
@@ -144,13 +183,18 @@ try_package() {
         into=(unshare --user --map-root-user)
     fi
     dpkg-deb -x "$1" "$made/unpacked"
-    make_root "$root" "$made"/unpacked/usr/bin/r10* "$made/unpacked"/usr/lib/libr10.so.*.*
+    make_root "$root" "$made"/unpacked/usr/bin/r10* "$made/unpacked"/usr/lib/*/libr10.so.*.*
     "${into[@]}" dpkg --root="$root" --force-script-chrootless --force-not-root --log=/dev/null -i "$1" >"$made/dpkg" 2>&1 ||
         { cat "$made/dpkg" >&2; give_up 1 "dpkg does not install it"; }
     "${into[@]}" chroot "$root" /usr/bin/r10 <"$top/examples/first.toml" | cmp - "$top/examples/first.expected" ||
         give_up 1 "r10 in that root prints another thing"
-    "${into[@]}" chroot "$root" /usr/bin/r10 --version | grep -qx "r10 $(cat "$top/VERSION")" ||
+    # (what its description says of program and library, on one line)
+    said=$(dpkg-deb -f "$1" Description | tr -d '\n')
+    [[ $said != *" r10 $(cat "$top/VERSION") (not proved), "* ]] || suffix=' (not proved)'
+    [ "$("${into[@]}" chroot "$root" /usr/bin/r10 --version)" = "r10 $(cat "$top/VERSION")$suffix" ] ||
         give_up 1 "r10 in that root has another version"
+    [[ $said != *"(not proved), "* || $(dpkg-deb -f "$1" Version) = *~unproved ]] ||
+        give_up 1 "its version does not say that something in it is not proved"
     if [ -e "$root/usr/bin/r10d" ]; then
         "${into[@]}" chroot "$root" /usr/bin/r10d --version | grep -qx "r10d $(cat "$top/VERSION")" ||
             give_up 1 "r10d in that root has another version"
@@ -166,6 +210,11 @@ try_package() {
     echo "deb: $(basename "$1") is installed in a root of its own, runs there, and is removed ($listed names)"
 }
 
+unproved=
+if [ "${1:-}" = --unproved ]; then
+    unproved=yes
+    shift
+fi
 case ${1:-} in
 -h | --help)
     sed -n '2,/^[^#]/s/^# \{0,1\}//p' "${BASH_SOURCE[0]}"

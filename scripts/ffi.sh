@@ -6,7 +6,8 @@
 #     scripts/ffi.sh build --shared              # and of it, beside it, libr10.a and libr10.so, which show the names of r10.h and
 #                                                # no others
 #     scripts/ffi.sh install PREFIX [DESTDIR]    # puts headers, the kept library (static and shared) and r10.pc below
-#                                                # DESTDIR/PREFIX: scripts/install.sh calls it
+#                                                # DESTDIR/PREFIX: scripts/install.sh calls it. Libraries go to PREFIX/lib, or to
+#                                                # the folder of PREFIX that R10_LIBDIR names
 #     scripts/ffi.sh examples FOLDER             # compiles ffi/example.c and ffi/example.rs over it, into FOLDER/example_c and
 #                                                # FOLDER/example_rs
 #     scripts/ffi.sh random CALLS [SEED]         # random calls under the address sanitizer, a tenth of them under valgrind, and
@@ -46,6 +47,8 @@ give_up() {
 rt=$(command -v rt) || give_up "there is no rt to build or to prove with: install the toolchain, and put its folder bin on the PATH"
 # shellcheck source=scripts/build/wants.sh
 . "$top/scripts/build/wants.sh"
+# shellcheck source=scripts/build/about.sh
+. "$top/scripts/build/about.sh"
 kit=$(dirname "$(dirname "$(readlink -f "$rt")")")
 quick=
 if [ "${2:-}" = --quick ]; then
@@ -116,7 +119,7 @@ share() {
     sed -n 's/^\(uint32_t\|void\) \(r10_[a-z0-9_]*\)(.*/\2/p' "$top/ffi/r10.h" >"$names"
     ld -r -o "$room/all.o" --whole-archive "$library" --no-whole-archive "${below[@]}" &&
         objcopy --keep-global-symbols="$names" "$room/all.o" "$room/r10.o" &&
-        rm -f "$1/libr10.a" && ar rcs "$1/libr10.a" "$room/r10.o" &&
+        rm -f "$1/libr10.a" && ar rcsD "$1/libr10.a" "$room/r10.o" &&
         cc -shared -Wl,-soname,"libr10.so.$major" -Wl,--no-undefined -Wl,-Bsymbolic -Wl,-z,now -o "$1/libr10.so.$version" \
         "$room/r10.o" &&
         ln -sf "libr10.so.$version" "$1/libr10.so.$major" && ln -sf "libr10.so.$major" "$1/libr10.so" ||
@@ -127,12 +130,22 @@ share() {
         give_up "the libraries do not show the names of ffi/r10.h and no others"
 }
 
+# Whether what is installed is proved, in words.
+proved_or_not() {
+    if [ -n "$quick" ] || ! is_proved; then echo "not proved"; else echo "proved"; fi
+}
+
 # Headers, libraries and r10.pc, for a prefix, in the folder that stands for it.
 install_for() {
-    mkdir -p "$2/include" "$2/lib/pkgconfig" || give_up "can't make folders in $2"
-    share "$2/lib"
+    local lib=$2/${R10_LIBDIR:-lib} proved toolchain
+    mkdir -p "$2/include" "$lib/pkgconfig" || give_up "can't make folders in $2"
+    share "$lib"
+    proved=$(proved_or_not) toolchain=$(rt version)
+    put_note "$(about libr10 "$proved" "$toolchain")" "$lib/libr10.so.$version" "$lib/libr10.a" ||
+        give_up "the libraries do not take their note"
     install -m 644 "$top/ffi/r10.h" "$top/ffi/r10_posix.h" "$2/include" || give_up "can't write into $2"
-    sed "s|@PREFIX@|$(for_sed "$1")|; s|@VERSION@|$version|" "$top/ffi/r10.pc.in" >"$2/lib/pkgconfig/r10.pc" ||
+    sed "s|@PREFIX@|$(for_sed "$1")|; s|@VERSION@|$version|; s|@LIBDIR@|$(for_sed "${R10_LIBDIR:-lib}")|; s|@PROVED@|$proved|
+        s|@COMMIT@|$(commit_of)|; s|@TOOLCHAIN@|$(for_sed "$toolchain")|" "$top/ffi/r10.pc.in" >"$lib/pkgconfig/r10.pc" ||
         give_up "can't write into $2"
 }
 

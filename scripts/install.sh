@@ -1,14 +1,17 @@
 #!/usr/bin/env bash
 # Installs r10: the program, the library for C and Rust (static and shared), its header and r10.pc, the filters as ch10, the service
-# r10d with r10ctl and its unit for systemd, the manual pages, completions for bash and zsh, and the documents for users.
+# r10d with r10ctl and its unit for systemd, the manual pages, completions for bash and zsh, the documents for users, and a
+# copyright file with the licences of what is built in.
 #
-#     scripts/install.sh [PREFIX] [DESTDIR]               # below /usr/local, or below DESTDIR/PREFIX for a package
+#     scripts/install.sh [PREFIX] [DESTDIR]               # below /usr/local, or below DESTDIR/PREFIX for a package; libraries go
+#                                                         # to PREFIX/lib, or to the folder of PREFIX that R10_LIBDIR names
 #     scripts/install.sh --uninstall [PREFIX] [DESTDIR]   # removes what the list of an installation names, and nothing else
 #
 # It takes the proved builds where they are there and of the sources as they stand (scripts/build.sh, scripts/ffi.sh build), else
-# those without proofs, and says so. Where r10d cannot be built (no cargo, or not its crates), a line says so, and the rest is
-# installed. What was installed stands in PREFIX/share/r10/installed. Without leave to write, or room, that is one line, and status
-# 3; then nothing is changed.
+# those without proofs, and says so: their version has `(not proved)`. Programs are stripped, and have a note with their commit and
+# toolchain (scripts/build/about.sh). Where r10d cannot be built (no cargo, or not its crates), a line says so, and the rest is
+# installed. What was installed stands in PREFIX/share/r10/installed, after a line for the program and one for the library. Without
+# leave to write, or room, that is one line, and status 3; then nothing is changed.
 set -eu
 # what is installed is for all users, whatever the caller's mask
 umask 022
@@ -76,12 +79,12 @@ version=$(cat "$top/VERSION")
 # shellcheck source=scripts/build/wants.sh
 . "$top/scripts/build/wants.sh"
 want_python install
-want_commands install cc ld ar nm objcopy
-program=$("$top/scripts/build/quick_build.py") || exit 3
-case $program in
-*/proved-*) ;;
-*) echo "(the program that is installed is not proved: scripts/build.sh makes the proved one)" >&2 ;;
-esac
+want_commands install cc ld ar nm objcopy strip
+# shellcheck source=scripts/build/about.sh
+. "$top/scripts/build/about.sh"
+facts=$("$top/scripts/build/quick_build.py" --about) || exit 3
+{ IFS= read -r program && IFS= read -r proved && IFS= read -r toolchain; } <<<"$facts"
+[ "$proved" = proved ] || echo "(the program that is installed is not proved: scripts/build.sh makes the proved one)" >&2
 
 # All is made whole in a folder of its own first.
 made=$(mktemp -d)
@@ -102,6 +105,15 @@ install -m 644 "$top/VERSION" "$share/r10"
 ln -s ../share/r10/scripts/ch10.py "$whole$prefix/bin/ch10"
 
 "$top/scripts/recorder.sh" install "$prefix" "$whole" || exit 3
+
+# What each program and the library say of themselves.
+program_line=$(about r10 "$proved" "$toolchain")
+library_line=$(sed -n 's/^proved=//p' "$whole$prefix/${R10_LIBDIR:-lib}/pkgconfig/r10.pc")
+library_line=$(about libr10 "$library_line" "$(rt version)")
+strip --strip-unneeded "$whole$prefix/bin/r10" && put_note "$program_line" "$whole$prefix/bin/r10" || exit 3
+for name in r10d r10ctl; do
+    [ ! -e "$whole$prefix/bin/$name" ] || put_note "$name $version over $library_line" "$whole$prefix/bin/$name" || exit 3
+done
 # (nothing is run out of that folder: it may lie where nothing can be)
 service=()
 [ ! -e "$whole$prefix/bin/r10d" ] || service=("$top/out/recorder/target/release")
@@ -110,11 +122,15 @@ cp -r "$made/manual/"man? "$share/man"
 cp "$made/manual/bash/"* "$share/bash-completion/completions"
 cp "$made/manual/zsh/"* "$share/zsh/site-functions"
 "$top/scripts/tools/pages.py" "$share/doc/r10" || exit 3
+crates=()
+[ ! -e "$whole$prefix/bin/r10d" ] || mapfile -t crates < <("$top/scripts/recorder.sh" crates)
+"$top/scripts/tools/copyright.py" "$(dirname "$(dirname "$(readlink -f "$(command -v rt)")")")" "${crates[@]}" \
+    >"$share/doc/r10/copyright" || exit 3
 chmod -R u=rwX,go=rX "$whole"
 
 # A folder is in the list if it is r10's own, is made now, or was made by an earlier installation: it goes once it is empty.
 : >"$made/before"
-[ ! -f "$list" ] || LC_ALL=C sort "$list" >"$made/before"
+[ ! -f "$list" ] || grep '^/' "$list" | LC_ALL=C sort >"$made/before"
 (
     cd "$whole"
     find ".$prefix" -mindepth 1 \( -type d -path '*r10*' -o ! -type d \) -print | sed 's/^\.//'
@@ -125,7 +141,11 @@ chmod -R u=rwX,go=rX "$whole"
     done
     echo "$prefix/share/r10/installed"
 ) | LC_ALL=C sort -u >"$made/installed"
-install -m 644 "$made/installed" "$share/r10/installed"
+{
+    printf '%s\n' "$program_line" "$library_line"
+    cat "$made/installed"
+} >"$share/r10/installed"
+chmod 644 "$share/r10/installed"
 
 # What an earlier version had and this one has not goes.
 LC_ALL=C comm -23 "$made/before" "$made/installed" >"$made/gone"
@@ -137,4 +157,5 @@ if [ -z "$root" ] && [ "$(id -u)" = 0 ] && command -v ldconfig >/dev/null; then
     ldconfig
 fi
 again=${1:+ $(printf %q "$1")}${2:+ $(printf %q "$2")}
+[ "$proved" = proved ] || version="$version ($proved)"
 echo "(installed r10 $version in $root$prefix: scripts/install.sh --uninstall$again removes it)"

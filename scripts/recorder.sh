@@ -4,6 +4,7 @@
 #     scripts/recorder.sh build [--quick]             # builds both over the library, and prints the folder that they are in
 #     scripts/recorder.sh ready                       # whether they can be built here; if not, a line says why and what to do, and
 #                                                     # the status is 1; and how long a build takes
+#     scripts/recorder.sh crates                      # the folders of the crates that both are built of
 #     scripts/recorder.sh install PREFIX [DESTDIR]    # over the library below DESTDIR/PREFIX: puts both there, the unit for
 #                                                     # systemd, its user, and an example of settings; or says in a line why not
 #                                                     # (install.sh calls it)
@@ -59,22 +60,26 @@ crate() {
     echo "$to/Cargo.toml"
 }
 
-# cargo over the library, in a folder of its own.
+# cargo over the library, in a folder of its own. What is built has no path of this machine in it.
 build_by() {
-    local manifest
+    local manifest flags
     manifest=$(crate) || return
-    R10_LIB_DIR=$library R10_STATIC=1 CARGO_TARGET_DIR=$top/out/recorder/target nice -n 5 cargo "$1" "${from[@]}" "${@:2}" \
-        --manifest-path "$manifest"
+    flags=$(printf -- '--remap-path-prefix=%s=/r10\x1f--remap-path-prefix=%s=/cargo' "$top" \
+        "${CARGO_HOME:-${HOME:-/root}/.cargo}")
+    CARGO_ENCODED_RUSTFLAGS=$flags R10_LIB_DIR=$library R10_STATIC=1 CARGO_TARGET_DIR=$top/out/recorder/target \
+        nice -n 5 cargo "$1" "${from[@]}" "${@:2}" --manifest-path "$manifest"
 }
 
-# The folder with libr10.a: one of its own, in which the file changes only if its bytes do, so that nothing is built anew.
+# The folder with libr10.a: one of its own, in which the file changes only if its bytes do, so that nothing is built anew. The note
+# of an installed one, which names a commit, is left out.
 library() {
     local made=${R10_LIB_DIR:-} kept=$top/out/recorder/lib
     if [ -z "$made" ]; then
         made=$("$top/scripts/ffi.sh" build "$@" --shared) || return
         made=$(dirname "$made")
     fi
-    mkdir -p "$kept" && { cmp -s "$made/libr10.a" "$kept/libr10.a" || cp "$made/libr10.a" "$kept/libr10.a"; } || return
+    mkdir -p "$kept" && objcopy -D --remove-section .note.r10 "$made/libr10.a" "$kept/new.a" || return
+    if cmp -s "$kept/new.a" "$kept/libr10.a"; then rm "$kept/new.a"; else mv "$kept/new.a" "$kept/libr10.a"; fi || return
     echo "$kept"
 }
 
@@ -117,10 +122,17 @@ ready)
         "times that"
     exit "$found"
     ;;
+crates)
+    library=/nonexistent from_kept metadata --format-version 1 2>/dev/null | python3 -c '
+import json, os, sys
+for it in json.load(sys.stdin)["packages"]:
+    if it["source"]:
+        print(os.path.dirname(it["manifest_path"]))'
+    ;;
 install)
     [[ ${2:-} = /* ]] || give_up "below which folder? scripts/recorder.sh install /PREFIX [DESTDIR]"
     prefix=${2%/} to=${3:-}${2%/}
-    why=$(ready) && library=$(R10_LIB_DIR=$to/lib library) && why=$(build 2>&1) || {
+    why=$(ready) && library=$(R10_LIB_DIR=$to/${R10_LIBDIR:-lib} library) && why=$(build 2>&1) || {
         [[ $why != *$'\n'* ]] || why="it was not built, for \"$(tail -n 1 <<<"$why")\""
         echo "(r10d and r10ctl are not installed: ${why:-there is no library below $to})" >&2
         exit 0
@@ -128,7 +140,7 @@ install)
     made=$top/out/recorder/target/release
     bin=$(for_sed "${prefix// /\\x20}/bin") # as a unit has it
     mkdir -p "$to/bin" "$to/lib/systemd/system" "$to/lib/sysusers.d" "$to/share/doc/r10/examples" &&
-        install -m 755 "$made/r10d" "$made/r10ctl" "$to/bin" &&
+        install -m 755 "$made/r10d" "$made/r10ctl" "$to/bin" && strip --strip-unneeded "$to/bin/r10d" "$to/bin/r10ctl" &&
         sed "s|/usr/local/bin/|$bin/|" "$top/recorder/r10d.service" >"$to/lib/systemd/system/r10d.service" &&
         install -m 644 "$top/recorder/sysusers.conf" "$to/lib/sysusers.d/r10.conf" &&
         install -m 644 "$top/recorder/recorder.toml" "$top/recorder/demo.toml" "$top/recorder/r10.rules.yml" \

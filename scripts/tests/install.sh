@@ -9,12 +9,19 @@ program=$("$top/scripts/build/quick_build.py" --current) && { "$top/scripts/ffi.
     exit 0
 }
 version=$(cat "$top/VERSION")
+# What a build says of itself: that it is proved, or not.
+case $program in
+*/proved-*) proved=proved whole="r10 $version" ;;
+*) proved="not proved" whole="r10 $version (not proved)" ;;
+esac
+if "$top/scripts/ffi.sh" proved >/dev/null; then library=proved; else library="not proved"; fi
 
-check "the program has the number in VERSION" is "$("$program" --version)" "r10 $version"
+check "the program has the number in VERSION, and says where it is not proved" is "$("$program" --version)" "$whole"
 root="$room/a root"
 "$top/scripts/install.sh" /usr "$root" >"$room/said" 2>&1
 check "it installs" is "$?" 0
 r10=$root/usr/bin/r10
+check "what was installed says the same" is "$("$r10" --version)" "$whole"
 check "the program runs" is "$("$r10" <"$top/examples/first.toml")" "$(cat "$top/examples/first.expected")"
 "$r10" sim --image <"$top/examples/first.toml" >"$room/medium.img"
 check "the filters run" says "$("$root/usr/bin/ch10" summary <"$room/medium.img")" "file 0 FLT1: 272 bytes"
@@ -23,6 +30,34 @@ check "the documents are those for users, the table of promises is none of them"
     "$(cd "$root/usr/share/doc/r10" && find . -name '*.md' | sort | tr '\n' ' ')" \
     "./README.md $(printf './docs/%s.md ' FORMAT LIBRARY MODEL RANGE RECORDER UNPROVED USING)"
 check "the filters leave nothing" is "$(find "$root" -name '__pycache__' | wc -l)" 0
+
+# The note of each file: what it is, of which commit and by which toolchain.
+commit=$(git -C "$top" describe --always --abbrev=40 --exclude='*' --dirty=' with changes' 2>/dev/null) || commit="not known"
+note() { readelf -p .note.r10 "$1" 2>/dev/null | grep -o 'r10.*\|libr10.*' | tail -n 1; }
+lib=$root/usr/lib/libr10
+check "the program has a note with its commit" says "$(note "$r10")" "r10 $version ($proved), commit $commit, toolchain "
+check "the library has one" says "$(note "$lib.so.$version")" "libr10 $version ($library), commit $commit, toolchain rattle"
+check "the static one too" is "$(note "$lib.a")" "$(note "$lib.so.$version")"
+check "it is a note as ELF has them" says "$(readelf -SW "$r10")" ".note.r10         NOTE"
+check "the list of what is installed begins with both" is "$(head -n 2 "$root/usr/share/r10/installed")" \
+    "$(note "$r10")"$'\n'"$(note "$lib.a")"
+check "r10.pc says whether it is proved" is "$(sed -n 's/^proved=//p' "$root/usr/lib/pkgconfig/r10.pc")" "$library"
+check "and of which commit it is" is "$(sed -n 's/^commit=//p' "$root/usr/lib/pkgconfig/r10.pc")" "$commit"
+check "its version is a number" is "$(sed -n 's/^Version: //p' "$root/usr/lib/pkgconfig/r10.pc")" "$version"
+cat >"$room/over.c" <<'C'
+#include <stdio.h>
+#include "r10.h"
+int main(void) { return printf("%u\n", (unsigned)r10_version()) < 0; }
+C
+cc -I"$root/usr/include" -o "$room/over" "$room/over.c" "$lib.a"
+check "a program over the static library has the library's note" is "$(note "$room/over")" "$(note "$lib.a")"
+IFS=. read -r major minor patch <<<"$version"
+check "r10_version() is a number" is "$("$room/over")" "$((10000 * major + 100 * minor + patch))"
+
+copyright=$root/usr/share/doc/r10/copyright
+check "the copyright file says that no licence is decided" says "$(cat "$copyright")" "No licence is decided for r10 itself"
+check "it has the licences of ported crates" says "$(cat "$copyright")" "Files: rattle/rtrb/*"
+check "and names those that have none" says "$(cat "$copyright")" $'License: not-stated\nComment: it has no licence text.'
 
 if [ "$(id -u)" = 0 ] && mkdir "$room/noexec" && mount -t tmpfs -o noexec tmpfs "$room/noexec" 2>/dev/null; then
     TMPDIR=$room/noexec "$top/scripts/install.sh" /usr "$room/other" >"$room/said" 2>&1
@@ -38,6 +73,12 @@ if why=$("$top/scripts/recorder.sh" ready); then
     example=$root/usr/share/doc/r10/examples/recorder.toml
     check "the service has the number too" is "$("$root/usr/bin/r10d" --version)" "r10d $version"
     check "so has the program that controls it" is "$("$root/usr/bin/r10ctl" --version)" "r10ctl $version"
+    for name in r10d r10ctl; do
+        check "$name has no path of this machine in it" is "$(grep -c -a -F -e "$top" -e "$HOME/.cargo" "$root/usr/bin/$name")" 0
+        check "$name is stripped" is "$(readelf -SW "$root/usr/bin/$name" | grep -c ' \.symtab\| \.debug')" 0
+        check "$name says in its note over which library it is" says "$(note "$root/usr/bin/$name")" "over $(note "$lib.a")"
+    done
+    check "the copyright file has the crates of the service" says "$(cat "$copyright")" "Files: crates/clap-"
     found=$(sed -n 's/^ExecStart=//p' "$root/usr/lib/systemd/system/r10d.service")
     check "its unit runs what was installed" is "$found" "/usr/bin/r10d /etc/r10/recorder.toml"
     check "its settings are an example that it takes" says "$("$root/usr/bin/r10d" --check "$example")" "good, 1 channels"
@@ -67,14 +108,14 @@ mkdir "$room/old"
 printf '#!/bin/sh\necho cargo 1.0.0\n' >"$room/old/cargo"
 chmod +x "$room/old/cargo"
 PATH=$room/old:$PATH "$top/scripts/install.sh" /usr "$room/without" >"$room/said" 2>&1
-check "without a cargo the rest is installed" is "$? $("$room/without/usr/bin/r10" --version)" "0 r10 $version"
+check "without a cargo the rest is installed" is "$? $("$room/without/usr/bin/r10" --version)" "0 $whole"
 check "and a line says so" is "$(grep -c '^(r10d and r10ctl are not installed: ' "$room/said")" 1
 check "and nothing of the service is there" is "$(find "$room/without" -name 'r10d*' -o -name 'r10ctl*' -o -name '*.service')" ""
 
 # A prefix with letters that mean something to a shell, to sed or to systemd.
 odd="/opt/r 10 & co"
 (umask 077 && "$top/scripts/install.sh" "$odd" "$room/odd") >"$room/said" 2>&1
-check "it installs below a prefix with spaces" is "$? $("$room/odd$odd/bin/r10" --version)" "0 r10 $version"
+check "it installs below a prefix with spaces" is "$? $("$room/odd$odd/bin/r10" --version)" "0 $whole"
 check "for all users, whatever the caller's mask" is "$(find "$room/odd/opt" ! -type l ! -perm -044)" ""
 if command -v pkg-config >/dev/null; then
     check "r10.pc names it" is "$(PKG_CONFIG_PATH="$room/odd$odd/lib/pkgconfig" pkg-config --variable=prefix r10)" "$odd"
@@ -184,10 +225,31 @@ if [ "$(id -u)" = 0 ]; then
 fi
 
 if command -v dpkg-deb >/dev/null; then
-    package=$(umask 077 && "$top/scripts/deb.sh" "$room" 2>/dev/null)
+    mkdir "$room/packages" "$room/again"
+    of_package=$version words=()
+    if [ "$proved$library" != provedproved ]; then
+        of_package=$version~unproved words=(--unproved)
+        said=$("$top/scripts/deb.sh" "$room/packages" 2>"$room/said")
+        check "a package of what is not proved is not made by itself" is "$? $said$(find "$room/packages" -type f)" "1 "
+        check "a line says how it is made" says "$(tail -n 1 "$room/said")" "with --unproved alone"
+    fi
+    package=$(umask 077 && "$top/scripts/deb.sh" "${words[@]}" "$room/packages" 2>/dev/null)
     check "a Debian package is made" test -f "$package"
+    check "its version says where something in it is not proved" is "$(dpkg-deb -f "$package" Version)" "$of_package"
+    check "its description has the commit" says "$(dpkg-deb -f "$package" Description | tr -d '\n')" "commit ${commit:0:40}"
     check "with files for all users" is "$(dpkg-deb -c "$package" | grep -v '^l' | cut -c 2-10 | sort -u | tr '\n' ' ')" \
         "rw-r--r-- rwxr-xr-x "
+    check "with libraries where Debian has them" says "$(dpkg-deb -c "$package")" \
+        " ./usr/lib/$(gcc -print-multiarch)/libr10.so.$version"
+    check "with copyright and changelog" is "$(dpkg-deb -c "$package" | grep -c '/doc/r10/\(copyright\|changelog.gz\)$')" 2
+    check "without the list that dpkg has itself" is "$(dpkg-deb -c "$package" | grep -c share/r10/installed)" 0
+    again=$(cd / && umask 022 && TMPDIR=$room/again "$top/scripts/deb.sh" "${words[@]}" "$room/again" 2>/dev/null)
+    check "another one has the same bytes" cmp "$package" "$again"
+    if command -v lintian >/dev/null; then
+        check "lintian finds nothing but what is listed" is "$(lintian --allow-root --fail-on none "$package" 2>&1)" ""
+    else
+        echo "NOT TRIED: the package by Debian's rules (no lintian here)"
+    fi
     check "it installs in a root of its own, runs there and goes" "$top/scripts/deb.sh" try "$package"
     cp -r "$room" "$room.broken"
     dpkg-deb -R "$package" "$room.broken/whole" && echo 'echo no' >"$room.broken/whole/usr/bin/r10" &&
