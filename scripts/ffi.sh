@@ -86,21 +86,8 @@ build() {
     rm -f "$library.sum"
     if [ "${1:-}" = over-ci ]; then
         # over the libraries that `rt ci` has just left in crates/*/out, which `rt lib` would make anew
-        (cd "$crate" && python3 - "$kit") >"$crate/out/lib.log" 2>&1 <<'EOF'
-import importlib.machinery, importlib.util, os, sys
-sys.dont_write_bytecode = True
-loader = importlib.machinery.SourceFileLoader("rtlib", f"{sys.argv[1]}/bin/rtlib.py")
-spec = importlib.util.spec_from_loader("rtlib", loader)
-rtlib = sys.modules["rtlib"] = importlib.util.module_from_spec(spec)
-loader.exec_module(rtlib)
-here = os.getcwd()
-crate = rtlib.Crate(here, rtlib.root_above(here) or here, {})
-for it in crate.below():
-    if not os.path.isdir(it.rlib):
-        print(f"{it.name} has no library in its out/")
-        sys.exit(3)
-sys.exit(crate.build_static([]))
-EOF
+        PYTHONDONTWRITEBYTECODE=1 PYTHONPATH=$top/scripts/build python3 -c \
+            'import sys, toolchain; sys.exit(toolchain.library_over_ci(sys.argv[1]))' "$crate" >"$crate/out/lib.log" 2>&1
     else
         # (what it says of a crate that is not proved is said at once)
         "$top/scripts/build/build.py" --crate r10_ffi >"$crate/out/lib.log"

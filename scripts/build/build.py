@@ -35,8 +35,8 @@ from typing import NoReturn
 
 sys.dont_write_bytecode = True
 
-from quick_build import (  # noqa: E402
-    MEASURED, PROGRAM, PROVED, TOP, Fault, Kept, below, give_up, kit, make_main, note, remove, say, tool)
+from quick_build import MEASURED, PROGRAM, PROVED, TOP, Kept, below, give_up, make_main, note, remove, say  # noqa: E402
+from toolchain import Fault, answer_once, kit, tool  # noqa: E402
 
 # What one proof is reckoned to take: most take 1 to 3 GB, and few are so large at the same time.
 MEMORY = 2_500_000_000
@@ -174,15 +174,7 @@ class Build:
         self.yields: dict[int, int] = {}
         self.spent = spent()
         self.since = time.time()
-        made, seen = self.rtlib.Crate.stamp, {}
-
-        def stamp(crate: object) -> str:
-            """(the tool makes it anew along each path)"""
-            if crate.folder not in seen:
-                seen[crate.folder] = made(crate)
-            return seen[crate.folder]
-
-        self.rtlib.Crate.stamp = stamp
+        answer_once(self.rtlib.Crate, 'stamp')
         self.crates = Crates(self.rtlib, TOP, list(self.named))
 
     def below(self, name: str) -> set[str]:
@@ -396,10 +388,10 @@ def end(number: int, _: object) -> NoReturn:
 
 def main() -> None:
     """Does what the words ask for."""
-    words = argparse.ArgumentParser(description=__doc__, formatter_class=argparse.RawDescriptionHelpFormatter)
-    words.add_argument('lanes', nargs='?', default='', metavar='LANES')
-    words.add_argument('--crate', default=PROGRAM, metavar='NAME')
-    words = words.parse_args()
+    parser = argparse.ArgumentParser(description=__doc__, formatter_class=argparse.RawDescriptionHelpFormatter)
+    parser.add_argument('lanes', nargs='?', default='', metavar='LANES')
+    parser.add_argument('--crate', default=PROGRAM, metavar='NAME')
+    words = parser.parse_args()
     if words.lanes and (not words.lanes.isdecimal() or int(words.lanes) == 0):
         give_up('how many crates side by side is a number from 1: scripts/build.sh [LANES]', 2)
     for number in (signal.SIGTERM, signal.SIGHUP, signal.SIGINT):

@@ -13,64 +13,17 @@ proofs. Then a proof above it does not read the proofs of each function that it 
 """
 from __future__ import annotations
 
-import importlib.machinery
-import importlib.util
 import os
+import pathlib
 import shutil
 import sys
-from types import ModuleType
 
 sys.dont_write_bytecode = True
+sys.path.insert(0, str(pathlib.Path(__file__).resolve().parent))
 
-# The word by which a library holds what others can cite, and no proofs.
-STATEMENTS = '--statements'
+import toolchain  # noqa: E402
 
-
-def loaded(path: str) -> ModuleType | None:
-    """The tool as a module, or none where it is no script of Python that has what is changed here."""
-    with open(path, 'rb') as it:
-        first = it.readline()
-    if b'python' not in first or not os.path.isfile(os.path.join(os.path.dirname(path), 'rtlib.py')):
-        return None
-    loader = importlib.machinery.SourceFileLoader('rt_tool', path)
-    made = importlib.util.module_from_spec(importlib.util.spec_from_loader('rt_tool', loader))
-    sys.modules['rt_tool'] = made
-    loader.exec_module(made)
-    crate = getattr(getattr(made, 'rtlib', None), 'Crate', None)
-    return made if crate and hasattr(crate, 'stamp') and hasattr(crate, 'below') and hasattr(made, 'main') else None
-
-
-def keep(crate: type, name: str) -> None:
-    """Has a method without arguments answer the second call for a crate as it did the first."""
-    made, seen = getattr(crate, name), {}
-
-    def call(self):
-        if self.folder not in seen:
-            seen[self.folder] = made(self)
-        it = seen[self.folder]
-        return list(it) if isinstance(it, list) else it
-
-    setattr(crate, name, call)
-
-
-def state(tool: ModuleType) -> None:
-    """Has the tool make libraries as a gate does."""
-
-    def build_rlib(self, flags, anew):
-        if self.is_built():
-            return 0
-        folder = os.path.dirname(self.rlib)
-        shutil.rmtree(folder, ignore_errors=True)
-        os.makedirs(folder)
-        status = self.call(tool.rtlib.RATTLE, 'build', *self.words(flags, keeps=False), STATEMENTS, '-o', self.rlib)
-        if status == 0:
-            with open(os.path.join(folder, 'stamp'), 'w', encoding='utf-8') as it:
-                it.write(self.stamp())
-        return status
-
-    crate = tool.rtlib.Crate
-    if hasattr(crate, 'build_rlib') and hasattr(crate, 'cuts_libraries') and hasattr(tool.rtlib, 'RATTLE'):
-        crate.build_rlib = build_rlib
+STATEMENTS = toolchain.STATEMENTS
 
 
 def main(words: list[str]) -> int:
@@ -82,13 +35,13 @@ def main(words: list[str]) -> int:
     states = words[:2] == ['lib', STATEMENTS]
     if states:
         words = [words[0], *words[2:]]
-    tool = loaded(os.path.realpath(found)) if words[:1] and words[0] in ('check', 'lib', 'run', 'test') else None
+    tool = toolchain.loaded(os.path.realpath(found)) if words[:1] and words[0] in ('check', 'lib', 'run', 'test') else None
     if tool is None:
         os.execv(found, [found, *words])
-    keep(tool.rtlib.Crate, 'stamp')
-    keep(tool.rtlib.Crate, 'below')
+    toolchain.answer_once(tool.rtlib.Crate, 'stamp')
+    toolchain.answer_once(tool.rtlib.Crate, 'below')
     if states:
-        state(tool)
+        toolchain.make_as_a_gate(tool)
     return tool.main(words)
 
 

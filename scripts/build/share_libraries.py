@@ -9,26 +9,16 @@ take it as built. It proves nothing: no verdict of `rt ci` rests on it. Prints h
 With --behind-ci, right after `rt ci` in SOURCE, all that it left is taken as it stands, however old or new its files are: what an
 earlier run kept has the dates of that run.
 """
-import importlib.machinery
-import importlib.util
 import os
+import pathlib
 import shutil
 import sys
 import time
 
 sys.dont_write_bytecode = True
+sys.path.insert(0, str(pathlib.Path(__file__).resolve().parent))
 
-
-def tool():
-    """The functions of the installed `rt`."""
-    path = f"{os.path.dirname(os.path.realpath(shutil.which('rt')))}/rtlib.py"
-    if not os.path.isfile(path):
-        sys.exit("share_libraries: the installed rt has no rtlib.py beside it")
-    loader = importlib.machinery.SourceFileLoader("rtlib", path)
-    made = importlib.util.module_from_spec(importlib.util.spec_from_loader("rtlib", loader))
-    sys.modules["rtlib"] = made
-    loader.exec_module(made)
-    return made
+import toolchain  # noqa: E402
 
 
 def link(one, other):
@@ -42,15 +32,11 @@ def main():
     behind_ci = sys.argv[3:] == ["--behind-ci"]
     if len(sys.argv) != 3 and not behind_ci:
         sys.exit(__doc__.strip())
-    rtlib = tool()
-    made, seen = rtlib.Crate.stamp, {}
-
-    def stamp(crate):
-        if crate.folder not in seen:
-            seen[crate.folder] = made(crate)
-        return seen[crate.folder]
-
-    rtlib.Crate.stamp = stamp
+    try:
+        rtlib = toolchain.tool(toolchain.kit())
+    except toolchain.Fault as fault:
+        sys.exit(f"share_libraries: {fault}")
+    toolchain.answer_once(rtlib.Crate, "stamp")
 
     def crates(top):
         os.chdir(top)
@@ -64,7 +50,7 @@ def main():
         made_for = f"{os.path.dirname(crate.rlib)}/stamp"
         if os.path.isfile(made_for):
             with open(made_for, encoding="utf-8") as it:
-                return it.read() == stamp(crate)
+                return it.read() == crate.stamp()
         return max(os.path.getmtime(it) for it in rtlib.files_of(crate.folder)) <= os.path.getmtime(f"{crate.rlib}/format")
 
     def is_settled(crate):
@@ -79,8 +65,9 @@ def main():
     theirs, given = crates(source), 0
     for name, crate in crates(top).items():
         other = theirs.get(name)
-        if other is None or crate.is_program or crate.is_built() or not os.path.isfile(f"{other.rlib}/format") or stamp(
-                crate) != stamp(other) or not behind_ci and not (is_current(other) and is_settled(other)):
+        if other is None or crate.is_program or crate.is_built() or not os.path.isfile(f"{other.rlib}/format"):
+            continue
+        if crate.stamp() != other.stamp() or not behind_ci and not (is_current(other) and is_settled(other)):
             continue
         if any(not it.is_built() or not is_same(it, theirs[it.name]) for it in crate.below()):
             continue
@@ -91,7 +78,7 @@ def main():
         shutil.copytree(os.path.dirname(other.rlib), f"{out}/given", copy_function=link)
         # (a stamp that is linked from SOURCE is not written through)
         with open(f"{out}/stamp", "w", encoding="utf-8") as it:
-            it.write(stamp(crate))
+            it.write(crate.stamp())
         os.replace(f"{out}/stamp", f"{out}/given/stamp")
         os.rename(f"{out}/given", f"{out}/rlib")
         given += 1

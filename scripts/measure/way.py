@@ -31,6 +31,7 @@ TOP = pathlib.Path(__file__).resolve().parents[2]
 sys.path[1:1] = map(str, [TOP, *(TOP / 'scripts').iterdir()])  # modules of the other folders
 
 import quick_build  # noqa: E402
+import toolchain  # noqa: E402
 from quick_build import Fault  # noqa: E402
 
 SETTINGS = '''blocks = 64
@@ -82,9 +83,9 @@ def not_inlined(lines):
 
 def build(room: pathlib.Path, level: str) -> pathlib.Path:
     """The program without proofs, with each function as it is written, at this level of the compiler."""
-    quick_build.FLAGS = [*quick_build.FLAGS[:2], '-fPIE', level, '-ffunction-sections']
-    stripped = quick_build.stripped
-    quick_build.stripped = lambda lines, marks: not_inlined(stripped(lines, {}))
+    toolchain.FLAGS = [*toolchain.FLAGS[:2], '-fPIE', level, '-ffunction-sections']
+    stripped = toolchain.stripped
+    toolchain.stripped = lambda lines, marks: not_inlined(stripped(lines, {}))
     program = room / 'r10'
     quick_build.make_program(TOP / 'crates' / quick_build.PROGRAM, program, room, room / 'log')
     return program

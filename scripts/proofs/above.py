@@ -25,7 +25,7 @@ sys.dont_write_bytecode = True
 sys.path[:0] = [str(Path(__file__).resolve().parent), str(Path(__file__).resolve().parents[1] / 'build')]
 import emptied  # noqa: E402
 import promises  # noqa: E402
-import rt_once  # noqa: E402
+import toolchain  # noqa: E402
 import wrong_bodies  # noqa: E402
 from reads import Tree, clauses_of, without_comments  # noqa: E402
 from wrong_bodies import TOP  # noqa: E402
@@ -97,7 +97,7 @@ def main() -> int:
     it = words.parse_args()
     graph = wrong_bodies.crates()
     found = emptied.unique(promises.promises_of(Tree(TOP)))
-    tool = rt_once.loaded(os.path.realpath(shutil.which('rt') or 'rt'))
+    tool = toolchain.loaded(os.path.realpath(shutil.which('rt') or 'rt'))
     lane = None
     for promise in found:
         own = promise.item.crate

@@ -12,6 +12,7 @@ import sys
 sys.dont_write_bytecode = True
 sys.path.insert(0, str(pathlib.Path(__file__).resolve().parents[1] / 'build'))
 import quick_build  # noqa: E402
+import toolchain  # noqa: E402
 
 HEAD = '''source_filename = "t"
 target triple = "x86_64-unknown-linux-gnu"
@@ -60,7 +61,8 @@ attributes #0 = { nounwind }
 
 def main() -> None:
     """Does so."""
-    kit, room, count = pathlib.Path(sys.argv[1], 'toolchain'), pathlib.Path(sys.argv[2]), int(sys.argv[3])
+    room, count = pathlib.Path(sys.argv[2]), int(sys.argv[3])
+    toolchain.kit = lambda: pathlib.Path(sys.argv[1])
     quick_build.SMALL = int(sys.argv[4])
     text = HEAD
     for number in range(40):
@@ -71,12 +73,8 @@ def main() -> None:
         source = room / ('part%d.ll' % number)
         source.write_text(part)
         made.append(room / ('part%d.o' % number))
-        subprocess.run([kit / 'bin' / 'clang', quick_build.FLAGS[0], '-fPIE', '-O2', '-c', '-x', 'ir', source, '-o', made[-1]],
-                       check=True)
-    lib = kit / 'lib'
-    parts = [lib / it for it in ('Scrt1.o', 'crti.o', 'crtbeginS.o')] + made
-    parts += [lib / it for it in ('libc.so.6', 'libc_nonshared.a', 'ld-linux-x86-64.so.2', 'libgcc.a', 'crtendS.o', 'crtn.o')]
-    subprocess.run([kit / 'bin' / 'ld.lld', *quick_build.LINKED, '-o', room / 'in-parts', *parts], check=True)
+        subprocess.run(list(map(str, toolchain.compiler(source, made[-1]))), check=True)
+    subprocess.run(list(map(str, toolchain.linker(made, room / 'in-parts'))), check=True)
     print(subprocess.run([room / 'in-parts'], capture_output=True, text=True, check=True).stdout.strip(), len(made))
 
 

@@ -75,7 +75,7 @@ if why=$("$top/scripts/recorder.sh" ready); then
     check "so has the program that controls it" is "$("$root/usr/bin/r10ctl" --version)" "r10ctl $version"
     for name in r10d r10ctl; do
         check "$name has no path of this machine in it" is "$(grep -c -a -F -e "$top" -e "$HOME/.cargo" "$root/usr/bin/$name")" 0
-        check "$name is stripped" is "$(readelf -SW "$root/usr/bin/$name" | grep -c ' \.symtab\| \.debug')" 0
+        check "$name is stripped" is "$(readelf -SW "$root/usr/bin/$name" | grep -c ' \.symtab\| \.debug_info')" 0
         check "$name says in its note over which library it is" says "$(note "$root/usr/bin/$name")" "over $(note "$lib.a")"
     done
     check "the copyright file has the crates of the service" says "$(cat "$copyright")" "Files: crates/clap-"

@@ -3,11 +3,11 @@
 set -u
 # shellcheck disable=SC2317 source=scripts/tests/kit.sh
 . "$(dirname "$(readlink -f "${BASH_SOURCE[0]}")")/kit.sh"
-mkdir -p "$room/kit"
-export PATH="$room/kit:$PATH"
-printf '#!/bin/sh\n' >"$room/kit/rt"
-chmod +x "$room/kit/rt"
-cat >"$room/kit/rtlib.py" <<'RTLIB'
+mkdir -p "$room/kit/bin"
+export PATH="$room/kit/bin:$PATH"
+printf '#!/bin/sh\n' >"$room/kit/bin/rt"
+chmod +x "$room/kit/bin/rt"
+cat >"$room/kit/bin/rtlib.py" <<'RTLIB'
 import os
 def text_of(file):
     try:

@@ -18,7 +18,8 @@ sys.dont_write_bytecode = True
 TOP = pathlib.Path(__file__).resolve().parents[2]
 sys.path[1:1] = map(str, [TOP, *(TOP / 'scripts').iterdir()])  # modules of the other folders
 
-from quick_build import LIBRARY, PROGRAM, below, tool  # noqa: E402
+from quick_build import LIBRARY, PROGRAM, below  # noqa: E402
+from toolchain import tool  # noqa: E402
 
 HEAD = '''Format: https://www.debian.org/doc/packaging-manuals/copyright-format/1.0/
 Upstream-Name: r10

@@ -40,6 +40,7 @@ sys.path[1:1] = map(str, [TOP, *(TOP / 'scripts').iterdir()])  # modules of the 
 
 import quick_build  # noqa: E402
 import run_rows  # noqa: E402
+import toolchain  # noqa: E402
 
 ROWS = 60  # of those that make a call, so many are run with its memory refused
 PROGRAMS = ('calls', 'accounts', 'refused', 'media', 'ports', 'commits')  # those without a malloc of their own
@@ -83,7 +84,7 @@ class Marked:
         for number, it in enumerate(numbers):
             self.by_name.setdefault(it.name, []).append(number)
         # (quicker to make; nothing is measured)
-        quick_build.FLAGS = tuple('-O1' if it == '-O3' else it for it in quick_build.FLAGS)
+        toolchain.FLAGS = ['-O1' if it == '-O3' else it for it in toolchain.FLAGS]
         self.marks = room / 'marks.o'
         subprocess.run(['cc', '-O2', '-fPIC', '-c', '-o', str(self.marks), str(HERE / 'refused_calls.c')], check=True)
 
@@ -140,15 +141,8 @@ class Marked:
 
     def program(self, crate: str) -> pathlib.Path:
         """The program of a crate."""
-        folder = quick_build.kit()
-        lib = folder / 'toolchain' / 'lib'
         made, program = self.object(TOP / 'crates' / crate, crate), self.room / (crate + '.program')
-        parts = [lib / it for it in ('Scrt1.o', 'crti.o', 'crtbeginS.o')] + [made, self.marks, folder / 'c' / 'libos_c.a',
-                                                                             folder / 'c' / 'liblibc_c.a']
-        parts += [lib / it for it in ('libm.so.6', 'libc.so.6', 'libc_nonshared.a', 'ld-linux-x86-64.so.2', 'libgcc.a',
-                                      'libgcc_s.so.1', 'crtendS.o', 'crtn.o')]
-        subprocess.run([str(it) for it in (folder / 'toolchain' / 'bin' / 'ld.lld', *quick_build.LINKED, '-o', program, *parts)],
-                       check=True)
+        subprocess.run([str(it) for it in toolchain.linker([made, self.marks], program)], check=True)
         return program
 
     def programs_in_c(self) -> dict[str, pathlib.Path]:
