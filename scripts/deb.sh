@@ -54,7 +54,7 @@ SCRIPT
 # A service whose program goes is ended first. An upgrade ends no recording: the new program is for the next start.
 set -e
 if [ "$1" = remove ] && [ -z "${DPKG_ROOT:-}" ] && [ -d /run/systemd/system ]; then
-    systemctl stop r10d.service || true
+    deb-systemd-invoke stop r10d.service || true
 fi
 SCRIPT
     cat >"$1/postrm" <<'SCRIPT'
@@ -91,7 +91,7 @@ make_package() {
 them); a package of it is made with --unproved alone"
         version=$version~unproved
     fi
-    lines=$(head -n 2 "$root/usr/share/r10/installed" | fold -s -w 76 | sed 's/^/ /')
+    lines=$(head -n 2 "$root/usr/share/r10/installed" | fold -s -w 76 | sed 's/^/ /; s/ *$//')
     # (the list is for scripts/install.sh alone: here dpkg keeps one)
     rm "$root/usr/share/r10/installed"
     find "$root/usr/share/man" -type f -exec gzip -9n {} +
@@ -141,6 +141,7 @@ Description: flight recorder for IRIG 106 Chapter 10 files
 $lines
 CONTROL
     printf 'activate-noawait ldconfig\n' >"$root/DEBIAN/triggers"
+    printf 'libr10 %s r10 (>= %s)\n' "${version%%.*}" "$(cat "$top/VERSION")" >"$root/DEBIAN/shlibs"
     (cd "$root" && find usr lib -type f -print0 2>/dev/null | LC_ALL=C sort -z | xargs -0 md5sum) >"$root/DEBIAN/md5sums"
     package=$1/r10_${version}_$architecture.deb
     dpkg-deb --root-owner-group --build "$root" "$made/package.deb" >&2 || give_up 3 "the package was not made"

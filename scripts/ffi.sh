@@ -128,7 +128,8 @@ install_for() {
     mkdir -p "$2/include" "$lib/pkgconfig" || give_up "can't make folders in $2"
     share "$lib"
     proved=$(proved_or_not) toolchain=$(rt version)
-    put_note "$(about libr10 "$proved" "$toolchain")" "$lib/libr10.so.$version" "$lib/libr10.a" ||
+    strip --strip-unneeded "$lib/libr10.so.$version" && chmod 644 "$lib/libr10.so.$version" &&
+        put_note "$(about libr10 "$proved" "$toolchain")" "$lib/libr10.so.$version" "$lib/libr10.a" ||
         give_up "the libraries do not take their note"
     install -m 644 "$top/ffi/r10.h" "$top/ffi/r10_posix.h" "$2/include" || give_up "can't write into $2"
     sed "s|@PREFIX@|$(for_sed "$1")|; s|@VERSION@|$version|; s|@LIBDIR@|$(for_sed "${R10_LIBDIR:-lib}")|; s|@PROVED@|$proved|

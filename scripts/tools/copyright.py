@@ -5,7 +5,8 @@
 
 TOOLCHAIN is its folder: the crates of it that r10 stands on have their licence texts there, and one that has none is named.
 Each CRATE is the folder of a crate in Rust that r10d is built of, with its Cargo.toml; its licence is what that says, with the
-texts in the folder. A text that several have stands once. The form is that of Debian's machine-readable copyright files.
+texts in the folder. A text that several have stands once. Of the Apache licence, which each Debian has, its place stands. The form
+is that of Debian's machine-readable copyright files.
 """
 from __future__ import annotations
 
@@ -20,6 +21,9 @@ sys.path[1:1] = map(str, [TOP, *(TOP / 'scripts').iterdir()])  # modules of the 
 
 from quick_build import LIBRARY, PROGRAM, below  # noqa: E402
 from toolchain import tool  # noqa: E402
+
+# Where Debian has it.
+COMMON = pathlib.Path('/usr/share/common-licenses/Apache-2.0')
 
 HEAD = '''Format: https://www.debian.org/doc/packaging-manuals/copyright-format/1.0/
 Upstream-Name: r10
@@ -68,6 +72,13 @@ def authors_of(texts: list[str], name: str) -> str:
     return '; '.join(dict.fromkeys(re.sub(r'(?i)^copyright\s+(\(c\)\s*)?', '', it) for it in found)) or 'the authors of ' + name
 
 
+def shown(text: str) -> str:
+    """A licence text, or where it is."""
+    if kind_of(text) == 'Apache-2.0' and COMMON.is_file():
+        return 'The Apache License, Version 2.0, is in %s.' % COMMON
+    return text
+
+
 def indented(text: str) -> str:
     """A text as a field of several lines."""
     return ''.join(' %s\n' % (line.rstrip() if line.strip() else '.') for line in text.split('\n'))
@@ -97,7 +108,7 @@ def main(words: list[str]) -> int:
         made.append('Files: %s/*\nCopyright: %s\nLicense: %s\n%s' % (
             place, authors_of(texts, folder.name), ' or '.join(names) or (said or 'not-stated').replace('/', ' or '),
             'Comment: its Cargo.toml says %s\n' % said if said else '' if texts else 'Comment: it has no licence text.\n'))
-    made += ['License: %s\n%s' % (name, indented(text)) for text, name in known.items()]
+    made += ['License: %s\n%s' % (name, indented(shown(text))) for text, name in known.items()]
     sys.stdout.buffer.write('\n'.join(made).encode('utf-8'))
     return 0
 
