@@ -169,7 +169,8 @@ check)
     if [ "$#" = 1 ]; then
         cargo fmt --check --manifest-path "$top/recorder/Cargo.toml" >/dev/null || give_up "run cargo fmt in recorder/"
         if cargo clippy --version >/dev/null 2>&1; then
-            build_by clippy --quiet --all-targets -j 2 -- -D warnings || give_up "clippy has hints (recorder/Cargo.toml has its list)"
+            build_by clippy --quiet --all-targets -j 2 -- -D warnings ||
+                give_up "clippy has hints (recorder/Cargo.toml has its list)"
         else
             echo "recorder: NOT TRIED: clippy is not there"
         fi
