@@ -12,7 +12,7 @@ set -u
 readonly SERVICE="librust-clap-dev librust-nix-dev librust-sd-notify-dev librust-serde-dev librust-serde-derive-dev \
 librust-serde-json-dev librust-sha2-dev librust-signal-hook-dev librust-time-dev librust-toml-dev librust-hex-dev \
 librust-httparse-dev librust-prometheus-dev"
-readonly LINTERS="clang-format pyflakes3 shellcheck"
+readonly LINTERS="clang-format mypy pyflakes3 shellcheck"
 readonly TRIALS="chromium ffmpeg lintian pkg-config postgresql prometheus python3-numpy python3-psycopg2 tshark valgrind zsh"
 
 missing() {
