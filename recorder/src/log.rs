@@ -2,6 +2,9 @@
 //!
 //! A thread of its own writes the lines: a terminal that is held, or a program that does not read them, holds up nothing else. What
 //! does not fit the queue is left out, and counted.
+//!
+//! (The crate `tracing` was looked at: it hands events on, and has no writer. Form, levels of the journal, queue and count would be here
+//! all the same, below a subscriber of this crate's own.)
 use std::collections::VecDeque;
 use std::io::Write;
 use std::sync::atomic::{AtomicU64, Ordering::SeqCst};

@@ -1107,6 +1107,43 @@ input = { udp = \"127.0.0.1:20005\" }
                 "line 4: metrics = \"127.0.0.1:9\": control.tcp has this port; give another one",
             ),
             (
+                "volume",
+                "metrics = \"0.0.0.0:9\"\nvolume",
+                "line 3: metrics = \"0.0.0.0:9\": beyond this machine it wants a list of peers; give control.peers = [\"ADDRESS\", ..]",
+            ),
+            (
+                "volume",
+                "page = \"10.0.0.5:9\"\nvolume",
+                "line 3: page = \"10.0.0.5:9\": beyond this machine it wants a list of peers; give control.peers = [\"ADDRESS\", ..]",
+            ),
+            (
+                "volume",
+                "metrics = \"127.0.0.1:9\"\npage = \"127.0.0.1:9\"\nvolume",
+                "line 4: page = \"127.0.0.1:9\": metrics has this port; give another one",
+            ),
+            (
+                "volume",
+                "page_control = true\nvolume",
+                "line 3: page_control = true: it wants control.token, a file with the text that a command needs",
+            ),
+            (
+                "volume",
+                "alarm = [\"beep\"]\nvolume",
+                "line 3: alarm: give the whole path of a command, and its words, as [\"/usr/bin/beep\"]",
+            ),
+            (
+                "volume",
+                "alarm = []\nvolume",
+                "line 3: alarm: give the whole path of a command, and its words, as [\"/usr/bin/beep\"]",
+            ),
+            ("[control]", "[alarms]\nfull_minutes = 0\n[control]", "line 5: alarms.full_minutes = 0: give a number from 1 to 1440"),
+            (
+                "socket = \"c\"",
+                "socket = \"c\"\ntoken = \"nothing-there\"",
+                "line 6: control.token = \"/f/nothing-there\": No such file or directory (os error 2); \
+                 make it: `openssl rand -hex 16 > FILE`, for the service's user alone",
+            ),
+            (
                 "\"127.0.0.1:20005\"",
                 "\"239.0.0.1:20005\"",
                 "line 9: udp = \"239.0.0.1:20005\": a multicast address is given by the key group; here give one of this machine",
@@ -1187,6 +1224,44 @@ input = { udp = \"127.0.0.1:20005\" }
             ["line 13: input udp 127.0.0.1:20005: channel 5 has udp 0.0.0.0:20005 already; give each channel a port of its own"]
         );
         assert!(faults(&twice.replacen("127.0.0.1:20005", "127.0.0.2:20005", 1)).is_empty());
+    }
+
+    /// A token is a line of visible letters that is long enough; the file's own end of a line is none of it.
+    #[test]
+    fn tokens_are_read() {
+        let folder = std::env::temp_dir().join(format!("r10d-token-{}", std::process::id()));
+        let _ = std::fs::remove_dir_all(&folder);
+        std::fs::create_dir(&folder).unwrap();
+        let text = GOOD.replace("socket = \"c\"", "socket = \"c\"\ntoken = \"t\"");
+        for (token, wanted) in [
+            ("0123456789abcdef\n", Some("0123456789abcdef")),
+            ("0123456789abcde\n", None),
+            ("0123456789 abcdef", None),
+            ("", None),
+            ("0123456789abcdef\n0123456789abcdef\n", None),
+        ] {
+            std::fs::write(folder.join("t"), token).unwrap();
+            let found = read(&text, &folder);
+            assert_eq!(found.as_ref().ok().and_then(|it| it.token.as_deref()), wanted, "{token:?}");
+            assert_eq!(found.is_ok(), wanted.is_some(), "{token:?}");
+        }
+        std::fs::remove_dir_all(&folder).unwrap();
+    }
+
+    /// What may be taken at once is not said to want a restart, and all else is.
+    #[test]
+    fn settings_that_want_a_restart() {
+        let one = read(GOOD, Path::new("/f")).unwrap();
+        let differ = |old: &str, new: &str| one.differ_for_good(&read(&GOOD.replacen(old, new, 1), Path::new("/f")).unwrap());
+        assert_eq!(differ("x", "x"), [""; 0]);
+        assert_eq!(differ("id = 5", "id = 5\nsilent_s = 3"), [""; 0]);
+        assert_eq!(differ("[control]", "[alarms]\nloss_s = 9\n[control]"), [""; 0]);
+        assert_eq!(differ("volume", "alarm = [\"/bin/true\"]\nvolume"), [""; 0]);
+        // (the setup text of a file has the names)
+        assert_eq!(differ("id = 5", "id = 5\nname = \"GPS\""), ["setup"]);
+        assert_eq!(differ("volume", "commit_ms = 50\nvolume"), ["commit_ms"]);
+        assert_eq!(differ("20005", "20006"), ["[[channel]]"]);
+        assert_eq!(differ("volume", "page = \"127.0.0.1:9\"\nvolume"), ["page or page_control"]);
     }
 
     /// The library takes what stands at the limits here, and refuses what is one beyond: the limits are its own.

@@ -6,6 +6,7 @@ import os
 import pathlib
 import signal
 import socket
+import threading
 import time
 from typing import Any, Optional
 
@@ -136,6 +137,14 @@ def the_page_shows_states_and_losses(room: Room) -> str:
         browser.until(f'{row}.includes("(") && /disk [0-9]/.test({row})', 'their cause')
         alarms = 'document.getElementById("alarms").innerText'
         browser.until(f'{alarms}.includes("channel 5 GPS: messages are lost") && {alarms}.includes("the medium is full")', 'alarms')
+    # a tone, for who wants one, while an alarm is on
+    browser.run('(() => { window.tones = 0; const made = AudioContext.prototype.createOscillator; '
+                'AudioContext.prototype.createOscillator = function () { window.tones++; return made.call(this); }; })()')
+    time.sleep(2)
+    must(browser.run('window.tones') == 0, 'a tone that nobody asked for')
+    browser.run('document.getElementById("sound").click()')
+    browser.until('window.tones >= 2', 'no tone with an alarm')
+    browser.run('document.getElementById("sound").click()')
     seen += readable(browser, 'full')
     picture(browser, 'page_full.png', scheme='dark')
     # what a page shows of other states
@@ -375,6 +384,38 @@ def status_or(port: int, host: str) -> str:
         return (request(port, f'GET / HTTP/1.1\n{host}\n', 10).split(' ') + ['', ''])[1]
     except OSError:
         return ''
+
+
+@trial
+def events_are_few(room: Room) -> str:
+    """A page gets at most four events a second, however much changes, and at least one a second where nothing does."""
+    (port,) = room.ports(1)
+    service = served(room, with_page(port, channel(5, 'message', 'lines = "pipe"'), start='wait'))
+    with socket.create_connection((HOST, port), LONG) as it:
+        it.sendall(f'GET /events HTTP/1.1\r\nHost: {HOST}:{port}\r\n\r\n'.encode())
+        times: list[float] = []
+        begin = time.monotonic()
+
+        def read() -> None:
+            for line in it.makefile('r'):
+                if line.startswith('data: {"alarms"'):
+                    times.append(time.monotonic())
+                if time.monotonic() > begin + 8:
+                    return
+
+        reader = threading.Thread(target=read)
+        reader.start()
+        # for four seconds the state changes all the time
+        while time.monotonic() < begin + 4:
+            service.ask('.RECORD', '.STOP')
+        reader.join(LONG)
+    longest = max(other - at for at, other in zip(times, times[1:]))
+    # (what waited for a processor comes together: so a bound of each second would be one of the machine)
+    changing = sum(at < begin + 4 for at in times)
+    must(5 <= changing <= 4 * 4 + 2 and len(times) <= 4 * 8 + 2, f'{changing} events in four seconds, {len(times)} in eight')
+    must(longest < 2, f'{longest:.1f} s without an event')
+    service.end()
+    return f'{changing} in four seconds of changes, {len(times)} in eight'
 
 
 def slow_pages(port: int, count: int) -> list[socket.socket]:

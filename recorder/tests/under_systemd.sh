@@ -4,8 +4,8 @@
 #     under_systemd.sh PROGRAMS    # the folder with r10d and r10ctl; half a minute. Status 1 where something is not as it has to be
 #
 # Tried are: no start without settings; the user; readiness; what the hardening leaves; inputs by UDP and by a pipe; a restart after
-# kill -9 and by the watchdog; whether it may ask about the clock; a stop under load; no restart with wrong settings. NSPAWN names
-# another systemd-nspawn.
+# kill -9, eight of them within a minute, and by the watchdog; a reload; whether it may ask about the clock; a stop under load; no
+# restart with wrong settings. NSPAWN names another systemd-nspawn.
 set -u
 
 top=$(cd "$(dirname "$(readlink -f "${BASH_SOURCE[0]}")")/../.." && pwd)
@@ -77,6 +77,17 @@ recording
 echo "ok: one that stands still is killed after 3 s, and recorded again within $(($(ms) - a)) ms"
 sleep 10
 must "for ten seconds the watchdog is content" "$(of NRestarts) $(of ActiveState)" "2 active"
+pid=$(of MainPID) before=$(r10ctl files | wc -l)
+systemctl reload r10d
+until journalctl -u r10d --no-pager -o cat | grep -q 'the settings were read anew'; do sleep 0.05; done
+must "a reload ends no recording" "$(of MainPID) $(r10ctl files | wc -l)" "$pid $before"
+a=$(ms)
+for i in $(seq 8); do
+    kill -9 "$(of MainPID)"
+    until [ "$(of NRestarts)" = $((2 + i)) ]; do sleep 0.01; done
+    recording
+done
+must "after eight kills within a minute it records" "$(($(ms) - a < 60000)) $(of ActiveState)" "1 active"
 (while :; do printf o >/dev/udp/127.0.0.1/20005; done 2>/dev/null) &
 before=$(r10ctl files | tail -n 1)
 sleep 2

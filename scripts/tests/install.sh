@@ -88,8 +88,10 @@ if why=$("$top/scripts/recorder.sh" ready); then
         for name in local-fs network sysinit basic shutdown multi-user; do
             printf '[Unit]\nDescription=empty\nDefaultDependencies=no\n' >"$root/usr/lib/systemd/system/$name.target"
         done
+        # (it is reloaded by a signal)
+        mkdir -p "$root/bin" && install -m 755 /dev/null "$root/bin/kill"
         check "systemd takes its unit" is "$(systemd-analyze verify --root="$root" --man=no r10d.service 2>&1 | grep r10d)" ""
-        rm "$root/usr/lib/systemd/system/"*.target
+        rm -r "$root/usr/lib/systemd/system/"*.target "$root/bin"
     fi
     sed 's:/var/lib/r10/::; s:/run/r10/::; s:2097152:4096:; s/^input = .*/input = { lines = "pipe" }/' "$example" >"$room/my.toml"
     (cd "$room" && exec "$root/usr/bin/r10d" my.toml 2>r10d.log) &
@@ -176,7 +178,7 @@ check "bash completes a command" is "$(complete_words r10 ch)" "check"
 check "bash completes an option" is "$(complete_words r10 play --f)" "--file --from"
 check "bash completes the option of a session" is "$(complete_words r10 run --i)" "--image"
 if [ -x "$root/usr/bin/r10ctl" ]; then
-    check "bash completes a word of the recorder's" is "$(complete_words r10ctl st)" "status stop"
+    check "bash completes a word of the recorder's" is "$(complete_words r10ctl st)" "status stop standing"
     check "bash completes an option of the service" is "$(complete_words r10d --f)" "--format"
     if command -v groff >/dev/null; then
         found=$(words "$root/usr/share/man/man8/r10d.8")
