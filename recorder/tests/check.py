@@ -33,7 +33,8 @@ TRIALS = {
 }
 
 
-LONG_ONES = ('an-hour-of-a-clock', 'disk-failures', 'a-flood', 'power-cuts', 'kills')
+LONG_ONES = ('an-hour-of-a-clock', 'disk-failures', 'a-flood', 'power-cuts', 'kills', 'an-overload-and-sums',
+             'losses-that-no-message-follows')
 # Trials of times compare them to a tenth of a millisecond. Where another program had the processor they are tried again: what is
 # wrong each time fails.
 TIMED = {name for name, function in TRIALS.items() if function.__module__ == trials_of_time.__name__}

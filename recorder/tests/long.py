@@ -35,9 +35,9 @@ TRIALS: dict[str, Callable[[Room], str]] = {
         (room.clear(), run())[1]
         for run in (
             lambda: losses.losses_that_no_message_follows(room, 300_000),
-            lambda: losses.a_stop_with_a_backlog(room, 200_000, 1_500_000),
-            lambda: losses.an_overload_and_sums(room, 500_000),
-            lambda: losses.a_stop_that_is_over(room, 60_000),
+            lambda: losses.a_stop_with_a_backlog(room, 200_000, 1_500_000, 1 << 18),
+            lambda: losses.an_overload_and_sums(room, 500_000, blocks=1 << 19),
+            lambda: losses.a_stop_that_is_over(room, 25_000, blocks=1 << 18),
             lambda: losses.a_disk_that_fails_and_sums(room, 30),
             lambda: losses.a_full_medium_and_sums(room),
         )

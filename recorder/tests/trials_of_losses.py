@@ -108,7 +108,8 @@ def sums(image: bytes, channels: list[int]) -> dict[int, Sums]:
 
 
 def cut_off(image: bytes) -> int:
-    """Compares what the lines after a kill say of the files that were cut off with what these have. How many such lines there are."""
+    """Compares what the lines after a kill say of the files that were cut off with what these have. How many such lines there
+    are."""
     found = 0
     for line in (it for file in range(len(files(image))) for it in log_lines(image, file) if it.word == 'durable'):
         of_channel = entries(image, line.number('file') - 1, line.number('channel'))
@@ -163,11 +164,11 @@ def overrun(room: Room, service: Service, ports: list[int], count: int) -> int:
 
 
 @trial
-def losses_that_no_message_follows(room: Room, count: int = 6000) -> str:
+def losses_that_no_message_follows(room: Room, count: int = 3000) -> str:
     """Datagrams until the end, and silence after: what the system dropped after the last message is in the file, at a stop at once
     and after a while; the filters, the picture and the catalogue have it."""
     ports = room.ports(1)
-    text = settings(udp_channels(ports).replace('receive_mib = 32', 'receive_mib = 1'), blocks=1 << 17)
+    text = settings(udp_channels(ports).replace('receive_mib = 32', 'receive_mib = 1'), blocks=1 << 15)
     service = Service(room, text)
     service.wait_for(': recording')
     first = sent_by(room.load(ports, count=200, rate=2000))
@@ -208,11 +209,11 @@ def losses_that_no_message_follows(room: Room, count: int = 6000) -> str:
 
 
 @trial
-def a_stop_with_a_backlog(room: Room, count: int = 30_000, slow: int = 600_000) -> str:
+def a_stop_with_a_backlog(room: Room, count: int = 12_000, slow: int = 300_000, blocks: int = 1 << 15) -> str:
     """On a disk whose syncs take long, a stop and the end of the service record all that came before them, into this file or the
     next, and nothing of it has passed."""
     ports = room.ports(2)
-    service = Service(room, settings(udp_channels(ports), blocks=1 << 18), disk={'slow': slow})
+    service = Service(room, settings(udp_channels(ports), blocks=blocks), disk={'slow': slow})
     sent, took = 0, []
     for how in ('stop', 'end'):
         if how == 'end':
@@ -236,12 +237,12 @@ def a_stop_with_a_backlog(room: Room, count: int = 30_000, slow: int = 600_000) 
 
 
 @trial
-def an_overload_and_sums(room: Room, count: int = 60_000, slow: int = 200_000) -> str:
+def an_overload_and_sums(room: Room, count: int = 20_000, slow: int = 200_000, blocks: int = 1 << 16) -> str:
     """A flood on a slow disk, with little room: what the system and the queue had no room for, and what came after a stop, adds up
     with what is in the files, channel by channel."""
     ports = room.ports(2)
     channels = udp_channels(ports, more='queue_mib = 1\n').replace('receive_mib = 32', 'receive_mib = 1')
-    service = Service(room, settings(channels, blocks=1 << 19), disk={'slow': slow})
+    service = Service(room, settings(channels, blocks=blocks), disk={'slow': slow})
     service.wait_for(': recording')
     load = room.load(ports, count=2 * count, rate=0, size=300, seconds=900)
     # (a stop amid it: what comes after passes, and a second recording has losses of its own)
@@ -267,15 +268,15 @@ def an_overload_and_sums(room: Room, count: int = 60_000, slow: int = 200_000) -
 
 
 @trial
-def a_stop_that_is_over(room: Room, drag: int = 60_000) -> str:
+def a_stop_that_is_over(room: Room, count: int = 12_000, drag: int = 60_000, blocks: int = 1 << 16) -> str:
     """A stop takes no longer than the settings say. What is in no file then is counted, in the file and in the system's log, and
     the status is 5."""
     ports = room.ports(1)
     # (what a lane has taken is written, however long that takes: so the lane is short)
-    text = settings(udp_channels(ports, more='capacity = 500\n'), blocks=1 << 18, stop_seconds=1)
+    text = settings(udp_channels(ports, more='capacity = 500\n'), blocks=blocks, stop_seconds=1)
     service = Service(room, text, disk={'drag': drag})
     service.wait_for(': recording')
-    sent = sent_by(room.load(ports, count=25_000, rate=20_000, size=1200, seconds=900))
+    sent = sent_by(room.load(ports, count=count, rate=20_000, size=1200, seconds=900))
     service.end(status=5)
     image = (room.folder / 'medium').read_bytes()
     found = sums(image, [5])[5]
@@ -292,7 +293,7 @@ def a_disk_that_fails_and_sums(room: Room, failures: int = 3) -> str:
     """Where the disk fails, the next file has the totals of the one before: what was lost adds up, and each failure has its
     lines."""
     ports = room.ports(2)
-    text = settings(udp_channels(ports), blocks=1 << 16, directory=63, commit_ms=10, tries=100)
+    text = settings(udp_channels(ports), blocks=1 << 15, directory=63, commit_ms=10, tries=100)
     service = Service(room, text, disk={'next': room.folder / 'next'})
     service.wait_for(': recording')
     sent = 0

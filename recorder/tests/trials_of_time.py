@@ -494,8 +494,9 @@ def programs_that_set_the_clock(room: Room) -> str:
     # each change stands in the log channel, though no file was recorded then
     states = [(it.keys['sync'], it.keys['source'].split(',')[0].split(' ')[0], it.keys['error_ns'] != 'unknown')
               for it in log_lines((room.folder / 'medium').read_bytes(), 0) if it.word in ('clock', 'file')]
-    must(('no', 'ntpd', False) in states and states.index(('yes', 'chrony', True)) > states.index(('no', 'ntpd', False)), f'{states}')
-    must(states[-1] == ('yes', 'chrony', True), f'{states}')
+    wrong, right = ('no', 'ntpd', False), ('yes', 'chrony', True)
+    must(wrong in states and right in states and states.index(right) > states.index(wrong), f'{states}')
+    must(states[-1] == right, f'{states}')
     must(re.search('^clock of its times: the system.s, in sync, off by at most 0[.][0-9]{3} ms, says chrony, set by 192.168.1.1$',
                    filtered(room, 'summary'), re.MULTILINE), filtered(room, 'summary'))
     for wanted in ('is not in sync, says ntpd', 'is in sync, says chrony', 'the pulse is +0.750 ms off', 'no pulse comes'):
