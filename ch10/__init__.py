@@ -27,6 +27,7 @@
     pcm          minor frames of PCM, and how the setup text says that they are made
     units        where measurements stand in messages, and how they are scaled
     setup_units, measured    the same by the setup text, and the measurements of a call
+    tables       the interface for programs of analysis: columns of numpy
     table, lines, picture, cuts, index, database, script, exports, values    the commands
     command      the words of a call
 
@@ -39,7 +40,13 @@ Over many recordings, beside the filters:
     catalogue, find    the commands `catalogue add`, and `catalogue find` and `show`
     range_words  the words of these commands
 
-For other programs `ch10.recording` is the way in:
+For programs of analysis `ch10.open` is the way in (`ch10.tables`):
+
+    import ch10
+    with ch10.open('flight.ch10') as held:
+        table = held.recordings[0].table('1553')    # columns: table['time'], table['rt'], table['words'] ..
+
+For other programs `ch10.recording` is:
 
     from ch10.recording import recordings
     for recording in recordings(data):          # the bytes of a recording or of an image, or a map of a file
@@ -48,3 +55,17 @@ For other programs `ch10.recording` is the way in:
             for entry in recording.entries_of(packet):
                 print(entry.count, entry.channel, entry.value)
 """
+from typing import TYPE_CHECKING, Any
+
+if TYPE_CHECKING:
+    from .tables import opened as open
+
+__all__ = ['open']
+
+
+def __getattr__(name: str) -> Any:
+    """`open`, which is read when it is asked for: the commands begin without it."""
+    if name == 'open':
+        from .tables import opened
+        return opened
+    raise AttributeError('module %r has no attribute %r' % (__name__, name))

@@ -1,6 +1,13 @@
-"""`python3 -m ch10`, from the folder that has the package."""
+"""`python3 -m ch10`, from the folder that has the package or where it is installed."""
 import sys
 
 from .command import main
 
-sys.exit(main(sys.argv[1:]))
+
+def run() -> int:
+    """The command `ch10` of an installed package: its exit status."""
+    return main(sys.argv[1:])
+
+
+if __name__ == '__main__':
+    sys.exit(run())

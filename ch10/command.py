@@ -24,13 +24,24 @@ class Version(argparse.Action):
         raise Help('ch10 ' + version())
 
 
+NO_VERSION = 'of no number: there is no file VERSION beside its folder'
+
+
 def version() -> str:
     """The number in the file VERSION beside the package's folder."""
     try:
         with open(os.path.join(os.path.dirname(os.path.dirname(os.path.realpath(__file__))), 'VERSION'), encoding='ascii') as held:
             return held.read().strip()
     except (OSError, UnicodeError):
-        return 'of no number: there is no file VERSION beside its folder'
+        pass
+    try:  # of a package that is installed
+        from importlib.metadata import PackageNotFoundError, version as installed
+    except ImportError:  # before Python 3.8
+        return NO_VERSION
+    try:
+        return installed('ch10')
+    except PackageNotFoundError:
+        return NO_VERSION
 
 
 ABOUT = """Answers what a crew asks of a recording, or of the image of a medium, by the
@@ -47,6 +58,7 @@ public standard alone.
   ch10 export --as FORM < INPUT   Ethernet, video, analog or PCM as a file
   ch10 values --icd DOC < INPUT   measurements in their units; plot NAME draws them
   ch10 sqlite < INPUT         the entries as a database of SQLite (--out FILE)
+  ch10 hdf5, ch10 mat < INPUT     the entries as columns of HDF5, of MATLAB (--out FILE)
   ch10 tmats < SCRIPT         a setup text for the channels of a script of r10, or of r10d's settings
   ch10 catalogue add|find|show    a catalogue of many recordings
   ch10 load INPUT ..          entries of many recordings into a database
@@ -202,6 +214,12 @@ def parser_of() -> 'Parser':
     with_measurements(made)
     made.add_argument('--turned-labels', action='store_true',
                       help='labels of ARINC 429 whose first bit on the bus is the lowest of the word')
+    for name, run, about in (('hdf5', run_of('hdf5', 'as_hdf5'), 'Writes the entries as columns into a new file of HDF5.'),
+                             ('mat', run_of('hdf5', 'as_mat'), 'Writes them into a new file of MATLAB, in its form 7.3.')):
+        made = going_on(command(name, run, about, HDF5_MORE))
+        made.add_argument('--out', metavar='FILE', help='where the file is to be; there must be none')
+        made.add_argument('--kind', choices=sorted(BY_NAME), metavar='K', help='the entries of this kind alone')
+        with_clock(made)
     with_times(going_on(command('range', run_of('cuts', 'as_range'), 'Writes the packets of a range of time as a recording.',
                                 RANGE_MORE + TIMES)))
     made = command('file', run_of('cuts', 'as_file'), 'Writes one file of an image, byte for byte.',
@@ -275,6 +293,9 @@ it would name other places.
 """
 
 
+HDF5_MORE = """A group for each kind, a data set for each column, written part by part. It takes
+python3-h5py. docs/RANGE.md has the columns.
+"""
 INDEX_MORE = """A line for each entry: where its packet stands, whether it is a root or a node,
 count and time, channel and type, the place that it names, and whether a packet
 of that channel and type, of a root an index packet, begins there.

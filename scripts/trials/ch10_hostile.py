@@ -216,7 +216,7 @@ def inputs_by_name() -> Tuple[object, object]:
 
 
 def outputs_without_room() -> Tuple[object, object]:
-    """Each command that writes says in a line that there is no room for it. (sqlite writes to a file: see above.)"""
+    """Each command that writes says in a line that there is no room for it. (sqlite, hdf5 and mat write to a file.)"""
     found, done = {}, set()
     with tempfile.TemporaryDirectory() as folder:
         path, base = os.path.join(folder, 'flight.ch10'), os.path.join(folder, 'range.db')
@@ -236,7 +236,7 @@ def outputs_without_room() -> Tuple[object, object]:
             with open('/dev/full', 'wb', buffering=0) as to:
                 found[' '.join(words[:2 if words[0] == 'catalogue' else 1])] = command.answer(words, lambda: given, lambda: to)
     return (found, set(command.COMMANDS) - done), (
-        dict.fromkeys(found, (3, 'a read or a write failed: No space left on device')), {'sqlite'})
+        dict.fromkeys(found, (3, 'a read or a write failed: No space left on device')), {'sqlite', 'hdf5', 'mat'})
 
 
 def interrupted_early() -> Tuple[object, object]:

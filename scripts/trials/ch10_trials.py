@@ -41,6 +41,7 @@ import ch10_exports  # noqa: E402
 import ch10_hostile  # noqa: E402
 import ch10_meanings  # noqa: E402
 import ch10_others  # noqa: E402
+import ch10_tables  # noqa: E402
 import ch10_times  # noqa: E402
 import ch10_types  # noqa: E402
 import ch10_units  # noqa: E402
@@ -581,7 +582,7 @@ def check():
     trials += [lambda it=it: compare_others(*it) for it in others_recordings()]
     trials += [lambda it=it: compare_verdict(*it) for it in check_cases.verdicts()]
     trials += [lambda it=it: agree(run(it[0], it[1])[::2], it[2:], str(it[0])) for it in calls()] + [compare_shell]
-    modules = ch10_meanings, ch10_hostile, ch10_times, ch10_types, ch10_others, ch10_exports, ch10_units
+    modules = ch10_meanings, ch10_hostile, ch10_times, ch10_types, ch10_others, ch10_exports, ch10_units, ch10_tables
     trials += [lambda it=it: agree(*it(), it.__name__) for module in modules for it in module.TRIALS]
     trials += [lambda seed=seed: agree(ch10_damage.each_twentieth(seed), [], 'a bit in each twentieth packet') for seed in range(3)]
     trials += [lambda which=which: agree(ch10_damage.one_damaged(1, which)[1], [], 'damage') for which in range(20)]
@@ -658,8 +659,8 @@ def calls():
     yield [], image, 2, 'the following arguments are required: COMMAND; see ch10 --help'
     yield ['csv', '--file', 'FLT1'], image, 2, (
         "argument --file: 'FLT1' is no number of a file, from 0 on: ch10 summary < IMAGE lists the files; see ch10 csv --help")
-    known = ('the commands are summary, csv, json, svg, setup, index, tmats, sqlite, range, file, export, values, plot, catalogue, '
-             'load and report')
+    known = ('the commands are summary, csv, json, svg, setup, index, tmats, sqlite, hdf5, mat, range, file, export, values, plot, '
+             'catalogue, load and report')
     for word, near in (('ls', "; the nearest is 'summary'"), ('sumary', "; the nearest is 'summary'"), ('qqq', '')):
         yield [word], image, 2, "there is no command '%s'%s; %s; see ch10 --help" % (word, near, known)
     yield ['medium.img'], image, 2, (
