@@ -31,7 +31,7 @@ printf '%s\n' 'def crates_below(top):' '    return []' '' '' 'class Crate:' '   
 chmod +x "$room/kit/rt"
 
 mkdir -p "$tree/docs" "$high"/{src,specs,guards,proofs/count} "$user"/{src,proofs/twice,proofs/thrice}
-take_scripts "$tree" proofs/{slips,wrong_bodies,reads,promises,emptied,above}.py build/{rt_once,share_libraries}.py
+take_scripts "$tree" proofs/{slips,wrong_bodies,reads,promises,emptied,above}.py build/{rt_once,share_libraries,toolchain}.py
 printf 'r10_high:\nr10_user: r10_high\n' >"$tree/crates.txt"
 printf '__pycache__/\n' >"$tree/.gitignore"
 printf 'abbrev pub IsCount : ℕ → Type 0\nIsCount n = n < 7\n' >"$high/specs/Counts.antt"

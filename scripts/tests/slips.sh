@@ -30,7 +30,7 @@ printf 'def crates_below(top):\n    return []\n\n\nclass Crate:\n    def stamp(s
 chmod +x "$room/kit/rt"
 
 mkdir -p "$tree/docs" "$low/src" "$low/specs" "$high/src" "$high/slips" "$high/must-fail" "$high/guards"
-take_scripts "$tree" proofs/{slips,mutants,wrong_bodies}.py build/{rt_once,share_libraries}.py
+take_scripts "$tree" proofs/{slips,mutants,wrong_bodies}.py build/{rt_once,share_libraries,toolchain}.py
 sed '/^Made by/,/^## /{/^|/d}; s/^| `[0-9a-f]\{8\}`.*//' "$top/docs/SLIPS.md" >"$tree/docs/SLIPS.md"
 printf 'r10_low:\nr10_high: r10_low\n' >"$tree/crates.txt"
 printf '__pycache__/\n' >"$tree/.gitignore"

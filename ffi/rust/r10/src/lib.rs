@@ -184,13 +184,8 @@ pub struct Losses {
 /// How many of a channel's messages, and of those that were lost before they were offered, stand in no file and in no gap, where `found` of its
 /// messages were found in the files that the recorder began, and `found_lost` losses in their gaps. Messages that were handed on are not counted.
 pub fn untold(account: &Account, losses: &Losses, found: u64, found_lost: u64) -> u64 {
-    let account = sys::r10_account_info {
-        accepted: account.accepted,
-        erased: account.erased,
-        lost: account.lost,
-        waiting: account.waiting,
-        channel: account.id,
-    };
+    let account =
+        sys::r10_account_info { accepted: account.accepted, erased: account.erased, lost: account.lost, waiting: account.waiting, channel: account.id };
     let losses = sys::r10_losses_info {
         missed: losses.missed,
         waiting_lost: losses.waiting_lost,
