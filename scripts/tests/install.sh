@@ -91,7 +91,7 @@ if why=$("$top/scripts/recorder.sh" ready); then
         # (it is reloaded by a signal)
         mkdir -p "$root/bin" && install -m 755 /dev/null "$root/bin/kill"
         check "systemd takes its unit" is "$(systemd-analyze verify --root="$root" --man=no r10d.service 2>&1 | grep r10d)" ""
-        rm -r "$root/usr/lib/systemd/system/"*.target "$root/bin"
+        rm -r "$root/usr/lib/systemd/system/"*.target "${root:?}/bin"
     fi
     sed 's:/var/lib/r10/::; s:/run/r10/::; s:2097152:4096:; s/^input = .*/input = { lines = "pipe" }/' "$example" >"$room/my.toml"
     (cd "$room" && exec "$root/usr/bin/r10d" my.toml 2>r10d.log) &
