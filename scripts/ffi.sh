@@ -25,7 +25,7 @@
 #                                                # the service, and sessions: the gate
 #
 # With --quick as the word after it, `build`, `examples` and `check` take a library that is not proved: it is made once, in some
-# three minutes, and kept (scripts/build/quick_build.py). `build` prints where the library is.
+# two minutes, and kept (scripts/build/quick_build.py). `build` prints where the library is.
 #
 # Without `rt ci` before it, scripts/build/build.py proves what is not proved, side by side. It wants a C compiler, `cc`; for the
 # program in C++ `g++`, and for the Rust crates `cargo`, which needs no network. If one of the last two is not there, a line says
