@@ -141,7 +141,7 @@ Description: flight recorder for IRIG 106 Chapter 10 files
 $lines
 CONTROL
     printf 'activate-noawait ldconfig\n' >"$root/DEBIAN/triggers"
-    printf 'libr10 %s r10 (>= %s)\n' "${version%%.*}" "$(cat "$top/VERSION")" >"$root/DEBIAN/shlibs"
+    printf 'libr10 %s r10 (>= %s)\n' "${version%%.*}" "$version" >"$root/DEBIAN/shlibs"
     (cd "$root" && find usr lib -type f -print0 2>/dev/null | LC_ALL=C sort -z | xargs -0 md5sum) >"$root/DEBIAN/md5sums"
     package=$1/r10_${version}_$architecture.deb
     dpkg-deb --root-owner-group --build "$root" "$made/package.deb" >&2 || give_up 3 "the package was not made"

@@ -103,7 +103,7 @@ build() {
 share() {
     local names="$room/names"
     want_commands ffi cc ld ar nm objcopy
-    sed -n 's/^\(uint32_t\|void\) \(r10_[a-z0-9_]*\)(.*/\2/p' "$top/ffi/r10.h" >"$names"
+    sed -n 's/^\(uint32_t\|uint64_t\|void\) \(r10_[a-z0-9_]*\)(.*/\2/p' "$top/ffi/r10.h" >"$names"
     ld -r -o "$room/all.o" --whole-archive "$library" --no-whole-archive "${below[@]}" &&
         objcopy --keep-global-symbols="$names" "$room/all.o" "$room/r10.o" &&
         rm -f "$1/libr10.a" && ar rcsD "$1/libr10.a" "$room/r10.o" &&

@@ -78,8 +78,9 @@ library() {
         made=$("$top/scripts/ffi.sh" build "$@" --shared) || return
         made=$(dirname "$made")
     fi
-    mkdir -p "$kept" && objcopy -D --remove-section .note.r10 "$made/libr10.a" "$kept/new.a" || return
-    if cmp -s "$kept/new.a" "$kept/libr10.a"; then rm "$kept/new.a"; else mv "$kept/new.a" "$kept/libr10.a"; fi || return
+    # (made beside that folder, since cargo builds anew where the folder itself has changed)
+    mkdir -p "$kept" && objcopy -D --remove-section .note.r10 "$made/libr10.a" "$kept.new" || return
+    if cmp -s "$kept.new" "$kept/libr10.a"; then rm "$kept.new"; else mv "$kept.new" "$kept/libr10.a"; fi || return
     echo "$kept"
 }
 

@@ -69,6 +69,8 @@ else
 fi
 
 # The service, where it can be built here.
+built() { stat -c %y "$top/out/recorder/target/release/r10d" 2>/dev/null; }
+before=$(built)
 if why=$("$top/scripts/recorder.sh" ready); then
     example=$root/usr/share/doc/r10/examples/recorder.toml
     check "the service has the number too" is "$("$root/usr/bin/r10d" --version)" "r10d $version"
@@ -150,7 +152,7 @@ if command -v pkg-config >/dev/null && command -v cc >/dev/null; then
     check "with the static one too" is "$("$room/static")" "$(cat "$top/ffi/calls.expected")"
     check "the shared one gives the calls of the header and no other name" is \
         "$(nm -D --defined-only "$flat/usr/lib/libr10.so" | sed 's/.* //' | sort | tr '\n' ' ')" \
-        "$(sed -n 's/^\(uint32_t\|void\) \(r10_[a-z0-9_]*\)(.*/\2/p' "$top/ffi/r10.h" | sort | tr '\n' ' ')"
+        "$(sed -n 's/^\(uint32_t\|uint64_t\|void\) \(r10_[a-z0-9_]*\)(.*/\2/p' "$top/ffi/r10.h" | sort | tr '\n' ' ')"
 else
     echo "NOT TRIED: linking (no pkg-config or cc here)"
 fi
@@ -205,6 +207,7 @@ exec 9>"$room/script"
 exec 8<"$root/usr/lib/libr10.so.$version"
 "$top/scripts/install.sh" /usr "$root" >"$room/said" 2>&1
 check "it installs over a program that runs" is "$?" 0
+check "and builds the service no second time" is "$(built)" "$before"
 cat "$top/examples/first.toml" >&9
 exec 9>&-
 wait $!
