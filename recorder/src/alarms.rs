@@ -369,6 +369,9 @@ mod tests {
             limits: crate::settings::Alarms { silent: Some(second(10)), loss: second(60), full: second(600), commit: second(2) },
             channels: vec![(5, "GPS".to_string(), "message", Some(second(10))), (6, "BUS".to_string(), "1553", None)],
             alarm: Vec::new(),
+            commit: Duration::from_millis(100),
+            file_for: second(3600),
+            tries: 5,
         }
     }
 

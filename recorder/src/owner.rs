@@ -852,7 +852,7 @@ mod tests {
             let mut last = String::new();
             while let Some(entry) = recorder.next(cursor).unwrap() {
                 if let r10::Content::Message { bytes, .. } = entry.content {
-                    last = String::from_utf8(bytes.to_vec()).unwrap();
+                    last = String::from_utf8(bytes.clone()).unwrap();
                 }
             }
             recorder.close_cursor(cursor).unwrap();

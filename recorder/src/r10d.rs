@@ -33,7 +33,7 @@ use signal_hook::iterator::Signals;
     name = "r10d",
     version,
     about = "Records live inputs as IRIG 106 chapter 10 files on a disk, and can be watched and controlled meanwhile (r10ctl).",
-    after_help = "SIGTERM and SIGINT end the file, and then the service. SIGHUP reads the settings anew: names of channels and alarms are taken,
+    after_help = "SIGTERM and SIGINT end the file, and then the service. SIGHUP reads the settings anew: names of channels, limits and alarms are taken,
 and the log says what wants a restart.
 
 Statuses: 0 all went well; 2 the settings are wrong; 3 it cannot start. With 4 it ended while recording was down, or with a
@@ -106,7 +106,7 @@ fn main() -> ExitCode {
 /// How often it is looked whether the settings are to be read anew.
 const LOOKS: Duration = Duration::from_millis(100);
 
-/// Reads the settings anew at each SIGHUP. Names of channels and alarms are taken at once; of the rest it says what waits for a restart.
+/// Reads the settings anew at each SIGHUP. Names of channels, limits of the recording and alarms are taken at once; of the rest it says what waits for a restart.
 fn read_anew(first: &Settings, asked: &AtomicBool, shared: &Shared, board: &Board) {
     let path = &first.file;
     loop {
@@ -124,7 +124,7 @@ fn read_anew(first: &Settings, asked: &AtomicBool, shared: &Shared, board: &Boar
                 if settings.channels.len() == first.channels.len() && !waits.contains(&"[[channel]]") {
                     shared.rename(&settings);
                     board.put(Line::new("settings").with("settings", &settings.sum));
-                    info!("the settings were read anew: names of channels and alarms are taken");
+                    info!("the settings were read anew: names of channels, limits and alarms are taken");
                 } else {
                     warning!("the settings were read anew, and none is taken: the channels are others, which wants a restart");
                 }

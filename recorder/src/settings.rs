@@ -187,8 +187,8 @@ impl Log {
 pub const LOG_CAPACITY: usize = 1024;
 
 impl Settings {
-    /// The keys in which other settings differ that are taken at the start of the service alone. Names of channels and all about alarms
-    /// are taken at once.
+    /// The keys in which other settings differ that are taken at the start of the service alone. Names of channels, limits of the
+    /// recording and all about alarms are taken at once.
     pub fn differ_for_good(&self, other: &Settings) -> Vec<&'static str> {
         let channel = |it: &Channel| (it.id, it.kind.name(), it.capacity, it.input.clone(), it.queue, it.sub, it.source);
         let channels = |it: &Settings| it.channels.iter().map(channel).collect::<Vec<_>>();
@@ -198,9 +198,6 @@ impl Settings {
             ("setup", self.setup != other.setup),
             ("start", self.begin != other.begin),
             ("prefix", self.prefix != other.prefix),
-            ("commit_ms", self.commit != other.commit),
-            ("file_minutes", self.file_for != other.file_for),
-            ("tries", self.tries != other.tries),
             ("stop_seconds", self.stop_for != other.stop_for),
             ("log", self.log != other.log),
             ("clock_event", self.clock_event != other.clock_event),
@@ -1259,7 +1256,10 @@ input = { udp = \"127.0.0.1:20005\" }
         assert_eq!(differ("volume", "alarm = [\"/bin/true\"]\nvolume"), [""; 0]);
         // (the setup text of a file has the names)
         assert_eq!(differ("id = 5", "id = 5\nname = \"GPS\""), ["setup"]);
-        assert_eq!(differ("volume", "commit_ms = 50\nvolume"), ["commit_ms"]);
+        for limit in ["commit_ms = 50", "file_minutes = 7", "tries = 9"] {
+            assert_eq!(differ("volume", &format!("{limit}\nvolume")), [""; 0]);
+        }
+        assert_eq!(differ("volume", "prefix = \"X\"\nvolume"), ["prefix"]);
         assert_eq!(differ("20005", "20006"), ["[[channel]]"]);
         assert_eq!(differ("volume", "page = \"127.0.0.1:9\"\nvolume"), ["page or page_control"]);
     }

@@ -95,6 +95,9 @@ pub struct Names {
     /// by place: ID, name, kind, and after how long it is silent
     pub channels: Vec<(u16, String, &'static str, Option<Duration>)>,
     pub alarm: Vec<String>,
+    pub commit: Duration,
+    pub file_for: Duration,
+    pub tries: u32,
 }
 
 impl Names {
@@ -107,6 +110,9 @@ impl Names {
             limits: settings.alarms.clone(),
             channels: settings.channels.iter().map(channel).collect(),
             alarm: settings.alarm.clone(),
+            commit: settings.commit,
+            file_for: settings.file_for,
+            tries: settings.tries,
         }
     }
 }
@@ -233,8 +239,9 @@ impl Owner {
             return;
         }
         self.put_up_now();
-        // names of settings that were read anew
+        // what is taken at once of settings that were read anew
         let names = self.shared.names();
+        (self.settings.commit, self.settings.file_for, self.settings.tries) = (names.commit, names.file_for, names.tries);
         for (lane, (_, name, ..)) in self.lanes.iter_mut().zip(&names.channels) {
             if lane.channel.name != *name {
                 lane.channel.name.clone_from(name);

@@ -108,7 +108,7 @@ def silent_clients(room: Room) -> str:
 
 @trial
 def settings_read_anew(room: Room) -> str:
-    """SIGHUP takes names of channels and alarms at once, says what wants a restart, refuses a wrong file, and ends no recording."""
+    """SIGHUP takes names, limits and alarms at once, says what wants a restart, refuses a wrong file, and ends no recording."""
     text = settings(channel(5, 'message', 'lines = "pipe"', 'name = "OLD"\nsilent_s = 0\n'))
     service = Service(room, text)
     with open(room.folder / 'pipe', 'w') as pipe:
@@ -116,12 +116,14 @@ def settings_read_anew(room: Room) -> str:
         pipe.flush()
         service.until_durable(1)
         changed = text.replace('"OLD"', '"NEW"').replace('silent_s = 0', 'silent_s = 1').replace('commit_ms = 20', 'commit_ms = 30')
+        changed = 'prefix = "NEW"\n' + changed
         (room.folder / 'settings.toml').write_text(changed)
         service.child.send_signal(signal.SIGHUP)
-        service.wait_for('the settings were read anew: names of channels and alarms are taken')
+        service.wait_for('the settings were read anew: names of channels, limits and alarms are taken')
         until(lambda: service.ask('.HEALTH')[1].endswith(' NEW'), 'the name is not taken')
         until(lambda: 'alarm silent: channel 5 NEW' in service.log(), 'the limit of an alarm is not taken')
-        must('want a restart of the service: setup; commit_ms' in service.log(), service.log())
+        until(lambda: service.figures()['commit_us'] == 30_000, 'a limit is not taken')
+        must('want a restart of the service: setup; prefix' in service.log(), service.log())
         (room.folder / 'settings.toml').write_text(changed.replace('"NEW"', '"NEWER"') + 'colour = 1\n')
         service.child.send_signal(signal.SIGHUP)
         service.wait_for('the settings stay as they were: the file is wrong')

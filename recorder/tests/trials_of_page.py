@@ -158,6 +158,16 @@ def the_page_shows_states_and_losses(room: Room) -> str:
     stale = json.loads(service.ask('.STANDING')[0])
     stale['standing_age_ms'] = 5000
     must('DISK' in browser.run(f'r10.show({json.dumps(stale)}), document.getElementById("state").innerText'), 'a stall')
+    # recorders of a group, one of which is not there
+    grouped = json.loads(service.ask('.STANDING')[0])
+    grouped['group'] = [
+        {'name': 'LEFT', 'state': 'recording', 'free': 1 << 30, 'lost': 3, 'alarms': ['channel 5 GPS: nothing came']},
+        {'name': 'RIGHT', 'error': 'no recorder at 10.0.0.5:8105'},
+    ]
+    shown = browser.run(f'r10.show({json.dumps(grouped)}), document.getElementById("group").innerText')
+    for it in ('LEFT', 'RECORDING', '1.00 GiB', 'nothing came', 'RIGHT', 'NO CONNECTION', 'no recorder at'):
+        must(it in shown, f'{it} is not in the group: {shown}')
+    seen += readable(browser, 'a group')
     must(browser.faults() == [], f'{browser.faults()}')
     outside = [it for it in browser.asked() if not it.startswith((f'http://{HOST}:{port}/', 'about:', 'data:'))]
     must(outside == [], f'the page asked for {outside}')
@@ -192,7 +202,7 @@ def the_page_loses_the_connection(room: Room) -> str:
     browser.until(lost, 'a service that is gone', 10)
     service = served(room, text)
     browser.until(f'!({lost})', 'another one')
-    must(browser.run('document.getElementById("state").innerText') == 'RECORDING', 'it records')
+    browser.until('document.getElementById("state").innerText === "RECORDING"', 'it records')
     browser.end()
     service.end()
     return 'lost and found twice'
