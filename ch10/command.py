@@ -254,7 +254,8 @@ SUMMARY_MORE = """Of each channel and type of data:
   entries/s       entries but one, over the time from the first to the last
   losses          packets that are flagged: messages were lost before them
   lost            how many messages, by the loss reports before those packets;
-                  3+ if a loss has no report: it counts as one
+                  3+ if a loss has no report: it counts as one. Those after the
+                  last message are taken in where the recorder has a log channel
   jumps           packets whose sequence number does not follow that of the
                   channel's packet before
   opaque          packets that are not read: stamps of another clock, a type

@@ -74,7 +74,7 @@ pub(crate) struct Note {
     line: Line,
     /// lines that were left out before it
     lost: u64,
-    /// it is not left out for others
+    /// it is left out after all others
     stays: bool,
 }
 
@@ -106,7 +106,7 @@ impl Board {
 fn push(to: &mut VecDeque<Note>, note: Note) {
     to.push_back(note);
     if to.len() > MOST
-        && let Some(at) = to.iter().position(|it| !it.stays)
+        && let Some(at) = to.iter().position(|it| !it.stays).or(Some(0))
         && let Some(gone) = to.remove(at)
         && let Some(next) = to.get_mut(at)
     {
@@ -286,5 +286,11 @@ mod tests {
         assert_eq!(all.len(), MOST);
         let found: Vec<_> = all.iter().take(3).map(|it| (it.count, it.lost)).collect();
         assert_eq!(found, [(0, 0), (6, 5), (7, 0)]);
+        // where all are to stay, the oldest goes
+        let mut all = VecDeque::new();
+        for count in 0..MOST + 3 {
+            push(&mut all, note(count, true));
+        }
+        assert_eq!((all.len(), all[0].count, all[0].lost), (MOST, 3, 3));
     }
 }
