@@ -9,8 +9,8 @@
 #                                                     # systemd, its user, and an example of settings; or says in a line why not
 #                                                     # (install.sh calls it)
 #     scripts/recorder.sh check [NAME..]              # what the gate runs: tests of its parts, and recordings through the running
-#                                                     # service, in under a minute; with names, as full-medium, those recordings
-#                                                     # alone
+#                                                     # service, also through its page in a browser; with names, as full-medium,
+#                                                     # those recordings alone
 #     scripts/recorder.sh long [WORDS..]              # 200 kills, 1,000 power cuts, failures at each operation, a flood:
 #                                                     # recorder/tests/long.py says more
 #     scripts/recorder.sh soak HOURS [RATE]           # records for so long, and draws memory and acknowledged messages

@@ -33,7 +33,7 @@ TRIALS = {
 }
 
 
-LONG_ONES = ('an-hour-of-a-clock', 'disk-failures', 'a-flood', 'power-cuts', 'kills', 'an-overload-and-sums',
+LONG_ONES = ('a-day-of-the-page', 'an-hour-of-a-clock', 'disk-failures', 'a-flood', 'power-cuts', 'kills', 'an-overload-and-sums',
              'losses-that-no-message-follows')
 # Trials of times compare them to a tenth of a millisecond. Where another program had the processor they are tried again: what is
 # wrong each time fails.
