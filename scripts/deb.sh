@@ -8,7 +8,8 @@
 #                                         # there
 #
 # Two packages of the same builds have the same bytes; times in them are the commit's. scripts/trials/same_package.sh builds two of
-# one commit in two folders, and compares them: on 1 December 2026 r10d and r10ctl differed, and nothing else. What `lintian` finds and is to stay, with its reasons, is in scripts/build/lintian.txt.
+# one commit in two folders, and compares them: on 1 December 2026 r10d and r10ctl differed, and nothing else. What `lintian` finds
+# and is to stay, with its reasons, is in scripts/build/lintian.txt.
 #
 # `try` wants root, for chroot, or leave to make a namespace (unshare); without either a line says NOT TRIED.
 set -eu
