@@ -47,6 +47,11 @@ def every_kind() -> bytes:
              packet(61, 0x1A, base, made.counted([made.message_16pp194(base + at, list(range(at)), at << 13) for at in range(4)])),
              packet(62, 0x58, base, made.firewire(2, [made.transaction(base + at, bytes(at)) for at in range(4)])),
              packet(63, 0x59, base, made.counted([made.physical(base + at, bytes(at), at, at, at) for at in range(4)]))]
+    other += [packet(65, 0x50, base, made.uart([(base + 500, b'late'), (base + 400, b'early')]), 0, 0x10)]  # after a loss
+    for place in range(4):  # more than one part
+        now = base + 10 ** 6 * place
+        other += [packet(64, 0x50, now, made.uart([(now + at, bytes(60000)) for at in range(8)]), place), packet(
+            66, 0x19, now, made.bus_1553([made.message_1553(now + at, [0x2862, place, at]) for at in range(5)]), place)]
     return b''.join(parts + other + segments_of(b'in two parts', (6, 6), 0, base + 50))
 
 
