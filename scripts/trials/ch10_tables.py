@@ -7,6 +7,7 @@ import json
 import os
 import pathlib
 import random
+import shutil
 import subprocess
 import sys
 import tempfile
@@ -285,6 +286,32 @@ def as_pip_installs() -> Found:
     return with_file(data, look), (3, 'ch10 %s\n' % (TOP / 'VERSION').read_text().strip(), '2 True\n')
 
 
+def as_debian_has_it() -> Found:
+    """The Debian package has the package where the distribution's Python finds it, with its version, for all users."""
+    if shutil.which('dpkg-deb') is None:
+        print('NOT TRIED: a Debian package (no dpkg-deb here)')
+        return TRIED
+
+    def look(path: str) -> Any:
+        room = pathlib.Path(path).parent
+        call = [str(TOP / 'scripts' / 'python_deb.sh'), str(room)]
+        package = subprocess.run(call, capture_output=True, text=True).stdout.strip()
+        subprocess.run(['dpkg-deb', '-x', package, str(room / 'root')], check=True)
+        modes = {line.split()[0][1:] for line in subprocess.run(['dpkg-deb', '-c', package], capture_output=True,
+                                                               text=True).stdout.splitlines()}
+        depends = subprocess.run(['dpkg-deb', '-f', package, 'Depends'], capture_output=True, text=True).stdout.strip()
+        place = room / 'root' / 'usr' / 'lib' / 'python3' / 'dist-packages'
+        said = subprocess.run([sys.executable, '-c', 'import sys, ch10\nfrom ch10.command import version\n'
+                               'print(len(ch10.open(sys.argv[1]).recordings[0].table("uart")), version())', path],
+                              capture_output=True, text=True, cwd='/', env=dict(os.environ, PYTHONPATH=str(place)))
+        return os.path.basename(package), modes, depends, said.stdout + said.stderr[-300:]
+
+    number = (TOP / 'VERSION').read_text().strip()
+    data = b''.join(opened() + [packet(5, 0x50, 2000, made.uart([(2000, b'x'), (2001, b'y')]))])
+    return with_file(data, look), ('python3-ch10_%s_all.deb' % number, {'rw-r--r--', 'rwxr-xr-x'},
+                                   'python3 (>= 3.7), python3-numpy', '2 %s\n' % number)
+
+
 def documented() -> Found:
     """Every public class and function of the interface has a docstring."""
     from ch10 import tables
@@ -295,4 +322,4 @@ def documented() -> Found:
 
 
 TRIALS: List[Callable[[], Found]] = [tables_of_kinds, channels_of_a_recording, words_and_arrays, opened_wrongly, files_of_columns,
-                                     files_of_columns_of_many, as_pip_installs, documented]
+                                     files_of_columns_of_many, as_pip_installs, as_debian_has_it, documented]
