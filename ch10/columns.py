@@ -47,7 +47,8 @@ class Batch:
         self.octets = octets
         self.starts, self.ends = numpy.array(starts, numpy.int64), numpy.array(ends, numpy.int64)
         self.words, self.counters = numpy.array(words, numpy.int64), numpy.array(counters, numpy.int64)
-        self.forms = self.told = None
+        self.forms: Array = None
+        self.told: Array = None
         if seconds and any(seconds):
             self.forms = numpy.array([NONE if one is None else one[0] for one in seconds], numpy.int64)
             self.told = numpy.array([0 if one is None else one[1] for one in seconds], numpy.int64)
@@ -336,8 +337,7 @@ class Octets(Group):
     """Bytes as hex digits, `source`, of which an entry's begin at a place, two digits for each byte, and are so many; or two such
     stretches, one after the other."""
 
-    def __init__(self, source: Array, start: Array, size: Array, then: Optional[Array] = None,
-                 rest: Optional[Array] = None) -> None:
+    def __init__(self, source: Array, start: Array, size: Array, then: Array = None, rest: Array = None) -> None:
         self.source, self.start, self.size, self.then, self.rest = source, start, size, then, rest
 
     def values(self) -> List[Any]:

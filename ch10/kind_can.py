@@ -32,7 +32,7 @@ def number_in(data: Any, at: int, size: int, word: int) -> int:
     return word & NUMBER
 
 
-def fields(block: Block) -> List[Group]:
+def fields(block: Block) -> List[Any]:
     """Subchannel and errors together, identifier, whether that is long, whether the frame asks for one."""
     head, mark = block.numbers(8, 4), block.numbers(12, 4)
     identifier = numpy.where(mark >> 31 != 0, mark & 0x1FFFFFFF, mark & 0x7FF)

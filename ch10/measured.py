@@ -60,9 +60,13 @@ class Measured:
         numbers = self.by_kind.get(block.kind)
         if not numbers:
             return None
-        found, none = self.by_entry(block, numbering), (None,) * len(numbers)
-        return lambda place: none if place not in found else tuple(
-            float(said(found[place][one])) if one in found[place] else None for one in numbers)
+        found, places = self.by_entry(block, numbering), list(numbers)
+
+        def row(place: int) -> Tuple[Optional[float], ...]:
+            values = found.get(place, {})
+            return tuple([float(said(values[one])) if one in values else None for one in places])
+
+        return row
 
     def by_frame(self, found: Frames, layout: Layout, channel: int) -> List[Values]:
         """The values in each minor frame of a packet of PCM."""

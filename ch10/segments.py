@@ -95,4 +95,6 @@ class Segments:
 
     def among(self, some: Iterable[Packet]) -> Iterator[Packet]:
         """The same of each of some packets."""
-        return map(self.joined, some) if self.whole else iter(some)
+        if not self.whole:
+            return iter(some)
+        return map(self.joined, some)

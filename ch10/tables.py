@@ -66,7 +66,7 @@ class Channel(NamedTuple):
 class Entry(NamedTuple):
     """An entry: its count, its time (a datetime64[ns]), how many messages were lost before it (-1: not known), its channel, and
     the columns of its kind by their names."""
-    count: int
+    count: int  # type: ignore[assignment]
     time: Any
     lost: int
     channel: int
@@ -96,7 +96,7 @@ class Table:
     def frame(self) -> Any:
         """The columns as a DataFrame of pandas; a Wrong where that is not installed. Words are lists of numbers in it."""
         try:
-            from pandas import DataFrame
+            from pandas import DataFrame  # type: ignore
         except ImportError:
             raise Wrong('pandas is not installed: apt-get install python3-pandas')
         return DataFrame({name: [None if one is None else one.tolist() if isinstance(one, numpy.ndarray) else one for one in column]
