@@ -7,9 +7,8 @@
 #     scripts/deb.sh try PACKAGE          # unpacks it into a root of its own, which has a C library and nothing else, and runs r10
 #                                         # there
 #
-# Two packages of the same builds have the same bytes; times in them are the commit's. scripts/trials/same_package.sh builds two of
-# one commit in two folders, and compares them: on 1 December 2026 r10d and r10ctl differed, and nothing else. What `lintian` finds
-# and is to stay, with its reasons, is in scripts/build/lintian.txt.
+# Two packages of one commit have the same bytes; times in them are the commit's. scripts/trials/same_package.sh builds two in two
+# folders, and compares them. What `lintian` finds and is to stay, with its reasons, is in scripts/build/lintian.txt.
 #
 # `try` wants root, for chroot, or leave to make a namespace (unshare); without either a line says NOT TRIED.
 set -eu

@@ -49,9 +49,14 @@ fi
 # The crate in a folder of its own, with the sources as links: cargo writes sums into Cargo.lock, and Debian's crates have not all
 # of them. The versions are those of the tree's Cargo.lock; where the packages of another Debian have others, those are taken.
 crate() {
-    local to=$top/out/recorder/crate
+    local to=$top/out/recorder/crate name
     mkdir -p "$to" && ln -sfn "$top/recorder/src" "$to/src" && ln -sfn "$top/recorder/examples" "$to/examples" || return
-    sed 's|path = "\.\./ffi/|path = "'"$(for_sed "$top")"'/ffi/|' "$top/recorder/Cargo.toml" >"$to/Cargo.toml.new" || return
+    # (crates of the tree are links in it too: cargo names what it builds by their paths, and those below this folder are the same
+    # wherever it lies)
+    for name in r10 r10-sys kernel-clock; do
+        ln -sfn "$top/ffi/rust/$name" "$to/$name" || return
+    done
+    sed 's|path = "\.\./ffi/rust/|path = "|' "$top/recorder/Cargo.toml" >"$to/Cargo.toml.new" || return
     cmp -s "$to/Cargo.toml.new" "$to/Cargo.toml" || cp "$to/Cargo.toml.new" "$to/Cargo.toml" || return
     if ! cmp -s "$top/recorder/Cargo.lock" "$to/Cargo.lock.of_tree"; then
         cp "$top/recorder/Cargo.lock" "$to/Cargo.lock" && cp "$to/Cargo.lock" "$to/Cargo.lock.of_tree" || return
