@@ -88,7 +88,11 @@ def sums(image: bytes, channels: list[int]) -> dict[int, Sums]:
             told, earlier, carried = (before.number(key) if before else 0 for key in ('told', 'lost', 'waiting'))
             recorded += len(of_channel)
             total = every.get((file, number))
-            must(total, f'file {file} has no total of channel {number}')
+            if total is None:
+                # the disk failed as the file was begun: nothing came into it
+                is_cut = any(it.word == 'cut' and it.number('file') == file + 1 for part in of for it in part)
+                must(is_cut and not of_channel, f'file {file} has no total of channel {number}')
+                continue
             must(total.keys['name'] == files(image)[file][0], f'{total}: another name')
             must(total.number('recorded') == len(of_channel), f'file {file}: {len(of_channel)} entries, {total}')
             must(

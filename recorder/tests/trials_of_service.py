@@ -12,6 +12,7 @@ import threading
 import time
 from typing import Optional
 
+from trials_of_losses import sums, system_totals
 from trying import (
     HOST,
     LONG,
@@ -375,6 +376,8 @@ def the_end_and_the_manager(room: Room, limit: float = LONG) -> str:
             pass
     must('READY=1' in seen and 'STOPPING=1' in seen and 'EXTEND_TIMEOUT_USEC=60000000' in seen, f'{seen}')
     must(took < limit, f'the end took {took:.2f} s')
+    added = sums((room.folder / 'medium').read_bytes(), [5])[5]
+    must(added.recorded > 0 and added[:2] == tuple(system_totals(service)[5][1:3]), f'{added}, {service.log()}')
     must(files((room.folder / 'medium').read_bytes())[0][3] == '1', 'the file is not closed')
     service = Service(room)
     service.wait_for(': recording')
