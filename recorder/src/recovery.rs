@@ -77,7 +77,8 @@ impl Owner {
         }
         let was_cut = cut.is_some();
         // (after a failure of the disk the totals say it)
-        if self.file.is_none() && (was_cut || self.medium.goes_on()) {
+        let is_known = |it: &r10::File| self.file.as_ref().is_some_and(|own| own.number + 1 == files.len() && own.name == it.name);
+        if cut.map_or(self.file.is_none() && self.medium.goes_on(), |it| !is_known(it)) {
             self.log_cut(&mut recorder, &files, was_cut).map_err(failed)?;
         }
         if self.failures.tries() > 0 {
