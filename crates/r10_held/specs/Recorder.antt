@@ -2,7 +2,7 @@
 pub use Rattle.r10_cursor.specs.Replays.{Reading}
 pub use Rattle.r10_cursor.specs.Standing.{fresh_slot}
 pub use Rattle.r10_cursor.specs.declared.cursor.Cursor.{Cursor}
-pub use Rattle.r10_refinement.specs.Kept.{Kept, Work, failed}
+pub use Rattle.r10_refinement.specs.Kept.{Kept, Work, failed, idle, recording, unmounted}
 pub use Rattle.r10_refinement.specs.Left.{AnswersSafely}
 pub use Rattle.r10_control.specs.Calls.{EffectBy, OwnsBy, RefusesBy}
 pub use Rattle.r10_control.specs.Checks.{recorder_refusal}

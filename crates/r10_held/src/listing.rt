@@ -1,6 +1,6 @@
 //! The calls that only tell, on the recorder under the lock.
 
-ghost use Rattle.std.specs.Prelude.{IfOk, map, ◌≡◌};
+ghost use Rattle.std.specs.Prelude.{IfOk, IsTrue, map, ◌↔◌, ◌≡◌};
 ghost use Rattle.r10_control.specs.Calls.{OnlyTells};
 ghost use Rattle.r10_control.specs.Checks.{listing_checks};
 ghost use Rattle.r10_control.specs.Checks.{files_of};
@@ -9,6 +9,8 @@ ghost use Rattle.r10_machine.specs.declared.event.Event.TheVariants as events;
 ghost use Rattle.r10_machine.specs.declared.reply.Reply.TheVariants as replies;
 ghost use Rattle.r10_held.specs.Outlets.{TellsOutlets};
 ghost use Rattle.r10_held.specs.Publishing.{StaysPublished};
+ghost use Rattle.r10_held.specs.Recorder.{failed};
+ghost use Rattle.r10_held.specs.State.{is_failed as told_failed};
 
 use crate::held::Held;
 use crate::rings::Rings;
@@ -67,4 +69,21 @@ impl<M: BlockMedium, N: Rings> Held<M, N> {
     {
         self.recorder.erased(channel)
     }
+
+    /// Whether the recorder failed. It takes no memory.
+    pub fn has_failed(&self) -> bool
+        ensures { IsTrue result ↔ (self.now.recorder.kept.work ≡ failed) }
+    {
+        match self.recorder.generation() {
+            Ok(_) => false,
+            Err(refusal) => is_failed(refusal),
+        }
+    }
+}
+
+/// Whether a refusal is that the recorder failed.
+fn is_failed(refusal: Refusal) -> bool
+    ensures { result ≡ told_failed refusal }
+{
+    matches!(refusal, Refusal::Failed)
 }

@@ -71,7 +71,7 @@ impl Player {
         rt: &R,
         cabinet: &Cabinet<M, N>,
     ) -> Result<usize, Refusal>
-        requires { self.old.pass.cell ≡ cabinet.now }
+        requires { self.old.pass.cell ≡ cabinet.now.gauge }
         ensures { AdvancesPlayer M.disk N.rings self.old self.new result }
     {
         let _seen = cabinet.glance(rt, &mut self.pass);

@@ -59,7 +59,7 @@ pub(crate) fn run_tables<N: Rings + Send + Sync, T: Threads + Wait + Sync>(
     requires named { All (IsRingNamed N.rings) senders.items }
     requires there { AllByRecursion (λ table. HasSender senders.items table.channel) tables.items }
     requires apart { AreApart tables.items }
-    requires players { All (λ player. player.pass.cell ≡ cabinet) players.items }
+    requires players { All (λ player. player.pass.cell ≡ cabinet.gauge) players.items }
     ensures feeds { (specs : List SpecValue) → All (IsFresh specs) senders.items → IfOk result
         (λ report. (own : List EntryValue) × AreOwn report.recorder.kept (memory_disk report.recorder.medium).blocks own
         × AllZip (FeedCame specs own) tables.items (map feed_end report.feeds.items)) }

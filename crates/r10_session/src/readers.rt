@@ -117,9 +117,9 @@ pub(crate) fn players_of<M: BlockMedium, N: Rings>(
     pass: &mut Pass,
     cursors: Vec<Cursor>,
 ) -> Result<Vec<Player>, AllocError>
-    requires { pass.old.cell ≡ cabinet.now }
-    ensures pass { pass.new.cell ≡ cabinet.now }
-    ensures passes { IfOk result (λ players. All (λ player. player.pass.cell ≡ cabinet.now) players.items) }
+    requires { pass.old.cell ≡ cabinet.now.gauge }
+    ensures pass { pass.new.cell ≡ cabinet.now.gauge }
+    ensures passes { IfOk result (λ players. All (λ player. player.pass.cell ≡ cabinet.now.gauge) players.items) }
     ensures cursors { IfOk result (λ players. map (λ player. player.cursor) players.items ≡ cursors.items) }
 {
     let mut players = Vec::new(alloc);

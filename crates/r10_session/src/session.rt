@@ -44,7 +44,7 @@ pub(crate) fn run_to_end<N: Rings + Send + Sync, T: Threads + Wait + Sync>(
     orders: Vec<Order>,
     players: Vec<Player>,
 ) -> Result<SessionReport<Memory>, SessionFault>
-    requires { All (λ player. player.pass.cell ≡ cabinet) players.items }
+    requires { All (λ player. player.pass.cell ≡ cabinet.gauge) players.items }
     ensures feeds { IfOk result
         (λ report. (own : List EntryValue) × AreOwn report.recorder.kept (memory_disk report.recorder.medium).blocks own
         × Zipped feeds.items report.feeds.items (λ feed told. (items : List TurnValue)

@@ -14,3 +14,4 @@ pub mod Stepping
 pub mod Looks
 pub mod Given
 pub mod Channels
+pub mod Ended

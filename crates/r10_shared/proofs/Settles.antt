@@ -71,6 +71,7 @@ module _ (rings : List ChannelRing) (k : Kept) (lanes : List Receiving) (own : L
             erased_is = erased ∙ sym e ∙ a.account.erased_is;
             filed_is = filed ∙ ready.filed_is ∙ ap (λ (n : ℕ). n - report.erased) (sym t) ∙ ap (λ (n : ℕ). a.t - n) (sym e) ∙ count.filed_is;
             refused_is = ap (λ (r : FeedReport). r.refused) d.same ∙ ready.refused_is;
+            lost_is = ap (λ (r : FeedReport). r.lost) d.same ∙ ready.lost_is;
           },
           record {
             few = omega (arith, accepted, ready.few);
@@ -130,6 +131,7 @@ module _ (rings : List ChannelRing) (k : Kept) (lanes : List Receiving) (bounds 
           accepted_is = accepted ∙ exact;
           few = omega (arith, accepted, ready.few);
           refused_is = ap (λ (r : FeedReport). r.refused) d.same ∙ ready.refused_is;
+          lost_is = ap (λ (r : FeedReport). r.lost) d.same ∙ ready.lost_is;
           erased_is = ready.erased_is ∙ ap (λ (n : ℕ). Some n) (sym erased);
           taken = ready.taken;
           taken_is = ready.taken_is;

@@ -1,5 +1,5 @@
 -- What became of the messages of a session whose recorder failed.
-use Rattle.std.specs.Prelude.{◌≡◌, ℕ, ◌-◌, ◌^◌, ◌<◌, ◌≤◌, List, ◌++◌, length, Some, IsSomeAnd, slice_index_or}
+use Rattle.std.specs.Prelude.{Bool, ◌≡◌, ℕ, ◌-◌, ◌^◌, ◌<◌, ◌≤◌, List, ◌++◌, length, Some, IsSomeAnd, slice_index_or}
 use Rattle.r10_body.specs.declared.entry.Sample.{Sample}
 use Rattle.r10_held.specs.Naming.{ChannelRing}
 use Rattle.r10_held.specs.Recorder.{Kept, RecorderState, Work, failed, number_on}
@@ -27,6 +27,7 @@ pub record IsFailedReport (k : Kept) (lanes : List Receiving) (line : SendingLin
   pub accepted_is : report.accepted ≡ length (sent line.port)
   pub few : report.accepted < 2 ^ 64 - 1
   pub refused_is : report.refused ≡ tally.refused
+  pub lost_is : report.lost ≡ line.port.lane.lost
   pub erased_is : number_on line.channel k.config.channels k.erased ≡ Some report.erased
   pub taken : ℕ
   pub taken_is : number_on line.channel k.config.channels k.taken ≡ Some taken
@@ -42,3 +43,7 @@ pub record FailedSettles {F : Type 0} (line_of : F → SendingLine) (tally_of : 
 abbrev pub IsNotEnded : Work → NotEnded → Type 0
 IsNotEnded failed n = n ≡ OutOfMemory
 IsNotEnded work n = n ≡ Works
+
+-- the same by whether the recorder had failed when its cabinet was made
+abbrev pub why_not_ended : Bool → NotEnded
+why_not_ended had_failed = elim had_failed [ Bool.true ↦ OutOfMemory | Bool.false ↦ Works ]

@@ -30,6 +30,7 @@ pub record IsSettledReport (own : List Entry) (line : SendingLine) (tally : Tall
   pub erased_is : report.erased ≡ saturated (length gone)
   pub filed_is : report.filed ≡ saturated (length kept)
   pub refused_is : report.refused ≡ tally.refused
+  pub lost_is : report.lost ≡ line.port.lane.lost
 
 -- The report's numbers are those that the recorder kept: so many erased of the feed's channel, and as filed what it took in there less those. Fewer than 2^64 - 1 were sent, so that none of these numbers represents a larger one:
 -- it is known then how many are gone and how many kept, and the rest is what stands after them, all that was sent and not taken in. A message that was left in a ring can't be reported as erased.
@@ -49,13 +50,14 @@ pub record Settles {F : Type 0} (line_of : F → SendingLine) (tally_of : F → 
   pub each : (place : ℕ) (f : F) (r : FeedReport) → place < length feeds → IsSettledReport own (line_of (slice_index_or feeds place f)) (tally_of (slice_index_or feeds place f)) (slice_index_or reports place r)
   pub numbers : (place : ℕ) (f : F) (r : FeedReport) → place < length feeds → TellsKept k (line_of (slice_index_or feeds place f)) (slice_index_or reports place r)
 
-abbrev pub is_failed : Refusal → Bool
-is_failed r = elim r [ Failed ↦ Bool.true | _ ↦ Bool.false ]
-
 -- an end is refused Failed where the recorder failed; else for want of memory
 abbrev pub IsEndRefusal : Work → Refusal → Type 0
 IsEndRefusal failed r = r ≡ Failed
 IsEndRefusal work r = r ≡ OutOfMemory
+
+-- the same by whether the recorder had failed when its cabinet was made
+abbrev pub end_refusal : Bool → Refusal
+end_refusal had_failed = elim had_failed [ Bool.true ↦ Failed | Bool.false ↦ OutOfMemory ]
 
 -- ---- transcripts
 
@@ -87,6 +89,7 @@ pub record IsReportReady (rings : List ChannelRing) (k : Kept) (line : SendingLi
   pub accepted_is : report.accepted ≡ saturated (length (sent line.port))
   pub few : report.accepted < 2 ^ 64 - 1
   pub refused_is : report.refused ≡ tally.refused
+  pub lost_is : report.lost ≡ line.port.lane.lost
   pub erased_is : number_on line.channel k.config.channels k.erased ≡ Some report.erased
   pub taken : ℕ
   pub taken_is : number_on line.channel k.config.channels k.taken ≡ Some taken

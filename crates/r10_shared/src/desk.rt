@@ -1,7 +1,7 @@
 //! The recorder that the workers of a session share, as each of them asks of it.
 
 ghost use Rattle.std.specs.Prelude.{◌≡◌, refl};
-ghost use Rattle.std.proofs.Common.{◌∙◌, sym};
+ghost use Rattle.std.proofs.Common.{◌∙◌, ap, sym};
 ghost use Rattle.std.specs.List.{AllByRecursion};
 ghost use Rattle.r10_shared.specs.Desk.{DoesAll, WasAsked, WasTurned, channels_of};
 ghost use Rattle.r10_shared.specs.DeskLaws.{all_join, does_join, does_keep, does_none};
@@ -123,7 +123,7 @@ impl<'a, M: BlockMedium, N: Rings, R: Wait, D: SessionReader> Watching<D>
 
     ghost asked = { λ old asks new. new.cabinet.now ≡ old.cabinet.now };
 
-    ghost is_of = { λ desk reading. D.gauge reading ≡ desk.cabinet.now };
+    ghost is_of = { λ desk reading. D.gauge reading ≡ desk.cabinet.now.gauge };
 
     ghost reads_on = { D.reads_on };
 
@@ -151,7 +151,7 @@ impl<'a, M: BlockMedium, N: Rings, R: Wait, D: SessionReader> Watching<D>
 
     ghost joins = { λ a b c xs ys first then. then ∙ first };
 
-    ghost keeps = { λ a b xs r s same reads is. D.stays_at r s reads ∙ is ∙ sym same };
+    ghost keeps = { λ a b xs r s same reads is. D.stays_at r s reads ∙ is ∙ sym (ap (λ v. v.gauge) same) };
 
     ghost reads_none = { D.reads_none };
 

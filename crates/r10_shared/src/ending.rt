@@ -1,10 +1,9 @@
 //! The end of a session.
 
-ghost use Rattle.std.specs.Prelude.{◌≡◌, ◌⊎◌, ◌↔◌, IfErr, IfOk, IsTrue};
-ghost use Rattle.r10_body.specs.declared.refusal.Refusal.TheVariants as refusals;
+ghost use Rattle.std.specs.Prelude.{◌≡◌, IfErr, IfOk};
 ghost use Rattle.r10_held.specs.Recorder.{failed};
 ghost use Rattle.r10_shared.specs.Failing.{AreMoved};
-ghost use Rattle.r10_shared.specs.Settling.{AreWrittenDown, IsEndRefusal, Settles, is_failed as told_failed};
+ghost use Rattle.r10_shared.specs.Settling.{AreWrittenDown, IsEndRefusal, Settles, end_refusal};
 
 use crate::report::SessionReport;
 use crate::room::{drain_all, hand_over, rooms_for, transcripts_for};
@@ -13,23 +12,7 @@ use r10_body::Refusal;
 use r10_held::{Cabinet, Held, Rings};
 use r10_medium::BlockMedium;
 use std::alloc::Global;
-
-/// Whether a refusal is that the recorder failed.
-fn is_failed(refusal: Refusal) -> bool
-    ensures { result ≡ told_failed refusal }
-{
-    matches!(refusal, Refusal::Failed)
-}
-
-/// Whether the recorder failed.
-pub(crate) fn has_failed<M: BlockMedium, N: Rings>(held: &Held<M, N>) -> bool
-    ensures { IsTrue result ↔ (held.now.recorder.kept.work ≡ failed) }
-{
-    match held.files() {
-        Ok(_) => false,
-        Err(refusal) => is_failed(refusal),
-    }
-}
+use std::snapshot::Snapshot;
 
 /// The recorder out of the lock, and of each feed what was left of its lane, whether the recorder failed or not. Where memory is
 /// refused, all comes back as it was.
@@ -42,6 +25,7 @@ pub(crate) fn settle<M: BlockMedium, N: Rings>(
         (λ report. AreMoved (λ feed. feed.line) (λ feed. feed.tally) N.rings held.recorder session.feeds.items report.feeds.items) }
     ensures recorder { IfOk result
         (λ report. (report.recorder.kept ≡ held.recorder.kept) × (report.recorder.medium ≡ held.recorder.medium)) }
+    ensures lanes { IfOk result (λ report. report.lanes.value.items ≡ held.recorder.lanes) }
     ensures transcripts { IfOk result (λ report. AreWrittenDown session.readings.items report.transcripts.items) }
     ensures refused { IfErr result (λ back. (back.0 ≡ held) × (back.1 ≡ session)) }
 {
@@ -60,12 +44,14 @@ pub(crate) fn settle<M: BlockMedium, N: Rings>(
             let mut readings = readings;
             let mut reports = reports;
             let mut transcripts = transcripts;
+            let lanes = Snapshot::of(&outlets);
             drain_all(&mut outlets, &mut feeds, &mut reports);
             hand_over(&mut transcripts, &mut readings);
             Ok(SessionReport {
                 recorder,
                 feeds: reports,
                 transcripts,
+                lanes,
             })
         }
         Err(back) => Err((back, session)),
@@ -83,11 +69,12 @@ pub fn end_held<M: BlockMedium, N: Rings>(
         (M.disk report.recorder.medium).blocks session.feeds.items report.feeds.items) }
     ensures recorder { IfOk result
         (λ report. (report.recorder.kept ≡ held.recorder.kept) × (report.recorder.medium ≡ held.recorder.medium)) }
+    ensures works { IfOk result (λ report. report.recorder.kept.work ≡ failed → ⊥) }
     ensures transcripts { IfOk result (λ report. AreWrittenDown session.readings.items report.transcripts.items) }
     ensures refused { IfErr result (λ back. (back.0 ≡ held) × (back.1 ≡ session) × IsEndRefusal held.recorder.kept.work back.2) }
 {
     held.look();
-    if has_failed(&held) {
+    if held.has_failed() {
         return Err((held, session, Refusal::Failed));
     }
     match settle(alloc, held, session) {
@@ -96,7 +83,8 @@ pub fn end_held<M: BlockMedium, N: Rings>(
     }
 }
 
-/// The end of a session, once no thread shares the cabinet any more. Refused: Failed, OutOfMemory; then all comes back as it was.
+/// The end of a session, once no thread shares the cabinet any more. Refused: Failed where the recorder failed, else OutOfMemory;
+/// then all comes back as it was, and the cabinet that comes back was made of that recorder.
 pub fn end_session<M: BlockMedium, N: Rings>(
     alloc: Global,
     cabinet: Cabinet<M, N>,
@@ -104,9 +92,10 @@ pub fn end_session<M: BlockMedium, N: Rings>(
 ) -> Result<SessionReport<M>, (Cabinet<M, N>, Session<N>, Refusal)>
     ensures settled { IfOk result (λ report. Settles (λ feed. feed.line) (λ feed. feed.tally) report.recorder.kept
         (M.disk report.recorder.medium).blocks session.feeds.items report.feeds.items) }
+    ensures works { IfOk result (λ report. report.recorder.kept.work ≡ failed → ⊥) }
     ensures transcripts { IfOk result (λ report. AreWrittenDown session.readings.items report.transcripts.items) }
-    ensures refused { IfErr result
-        (λ back. (back.0 ≡ cabinet) × (back.1 ≡ session) × ((back.2 ≡ refusals.Failed) ⊎ (back.2 ≡ refusals.OutOfMemory))) }
+    ensures refused { IfErr result (λ back. (back.0.gauge ≡ cabinet.gauge) × (back.1 ≡ session)
+        × (back.2 ≡ end_refusal back.0.had_failed)) }
 {
     let (held, watch) = cabinet.into_parts();
     match end_held(alloc, held, session) {

@@ -1,12 +1,11 @@
 //! The end of a session whose recorder failed.
 
-ghost use Rattle.std.specs.Prelude.{◌≡◌, List, IfErr, IfOk};
+ghost use Rattle.std.specs.Prelude.{◌≡◌, IfErr, IfOk};
 ghost use Rattle.r10_held.specs.Recorder.{failed};
-ghost use Rattle.r10_port.specs.Ends.{Receiving};
-ghost use Rattle.r10_shared.specs.Failing.{FailedSettles, IsNotEnded};
+ghost use Rattle.r10_shared.specs.Failing.{FailedSettles, IsNotEnded, why_not_ended};
 ghost use Rattle.r10_shared.specs.Settling.{AreWrittenDown};
 
-use crate::ending::{has_failed, settle};
+use crate::ending::settle;
 use crate::report::SessionReport;
 use crate::session::Session;
 use r10_held::{Cabinet, Held, Rings};
@@ -34,11 +33,12 @@ pub fn end_failed_held<M: BlockMedium, N: Rings>(
     ensures fails { IfOk result (λ report. report.recorder.kept.work ≡ failed) }
     ensures recorder { IfOk result
         (λ report. (report.recorder.kept ≡ held.recorder.kept) × (report.recorder.medium ≡ held.recorder.medium)) }
+    ensures lanes { IfOk result (λ report. report.lanes.value.items ≡ held.recorder.lanes) }
     ensures transcripts { IfOk result (λ report. AreWrittenDown session.readings.items report.transcripts.items) }
     ensures refused { IfErr result (λ back. (back.0 ≡ held) × (back.1 ≡ session) × IsNotEnded held.recorder.kept.work back.2) }
 {
     held.look();
-    if !has_failed(&held) {
+    if !held.has_failed() {
         return Err((held, session, NotEnded::Works));
     }
     match settle(alloc, held, session) {
@@ -48,17 +48,18 @@ pub fn end_failed_held<M: BlockMedium, N: Rings>(
 }
 
 /// The end of a session whose recorder failed, once no thread shares the cabinet any more. Where it did not fail, and where memory
-/// is refused, all comes back as it was.
+/// is refused, all comes back as it was, and the cabinet that comes back was made of that recorder.
 pub fn end_failed_session<M: BlockMedium, N: Rings>(
     alloc: Global,
     cabinet: Cabinet<M, N>,
     session: Session<N>,
 ) -> Result<SessionReport<M>, (Cabinet<M, N>, Session<N>, NotEnded)>
-    ensures settled { IfOk result (λ report. (lanes : List Receiving) × FailedSettles (λ feed. feed.line)
-        (λ feed. feed.tally) report.recorder.kept lanes session.feeds.items report.feeds.items) }
+    ensures settled { IfOk result (λ report. FailedSettles (λ feed. feed.line)
+        (λ feed. feed.tally) report.recorder.kept report.lanes.value.items session.feeds.items report.feeds.items) }
     ensures fails { IfOk result (λ report. report.recorder.kept.work ≡ failed) }
     ensures transcripts { IfOk result (λ report. AreWrittenDown session.readings.items report.transcripts.items) }
-    ensures refused { IfErr result (λ back. (back.0 ≡ cabinet) × (back.1 ≡ session)) }
+    ensures refused { IfErr result (λ back. (back.0.gauge ≡ cabinet.gauge) × (back.1 ≡ session)
+        × (back.2 ≡ why_not_ended back.0.had_failed)) }
 {
     let (held, watch) = cabinet.into_parts();
     match end_failed_held(alloc, held, session) {

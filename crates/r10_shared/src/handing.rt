@@ -63,7 +63,7 @@ fn hand_next<M: BlockMedium, N: Rings, R: Wait, K: Sink>(
     reading: &mut Transcribing,
     sink: &mut K,
 ) -> Result<(), Refusal>
-    requires { reading.old.player.pass.cell ≡ cabinet.now }
+    requires { reading.old.player.pass.cell ≡ cabinet.now.gauge }
     ensures { HandsTo K.accepted K.has_refused reading.old sink.old reading.new sink.new }
 {
     if !reading.instalments.is_empty() {
@@ -90,7 +90,7 @@ fn take_next<M: BlockMedium, N: Rings, R: Wait, K: Sink>(
     reading: &mut Transcribing,
     sink: &mut Option<K>,
 ) -> Result<(), Refusal>
-    requires { reading.old.player.pass.cell ≡ cabinet.now }
+    requires { reading.old.player.pass.cell ≡ cabinet.now.gauge }
     ensures { HandsOn K.accepted K.has_refused reading.old sink.old reading.new sink.new }
 {
     match sink {

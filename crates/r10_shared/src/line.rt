@@ -65,6 +65,13 @@ impl<N: Rings> ChannelPort<N> {
         self.port.sent()
     }
 
+    /// How many messages were lost, up to `u64::MAX`.
+    pub(crate) fn lost(&self) -> u64
+        ensures { result ≡ self.now.port.lane.lost }
+    {
+        self.port.lost()
+    }
+
     /// The ring of the sending end is the one that is named for the channel.
     pub(crate) fn is_named(&self)
         ensures { ring_for self.now.channel N.rings ≡ Some self.now.port.ring }

@@ -33,7 +33,7 @@ pub(crate) trait SessionReader {
         alloc: Global,
         cabinet: &Cabinet<M, N>,
     ) -> Result<(), Refusal>
-        requires { gauge self.old ≡ cabinet.now }
+        requires { gauge self.old ≡ cabinet.now.gauge }
         ensures { reads_on self.old self.new };
 
     /// A law: it looks at the same gauge then.

@@ -26,7 +26,7 @@ fn read<M: BlockMedium, N: Rings, R: Wait, G: Gate, D: SessionReader>(
     reading: &mut D,
     progress: &Progress,
 )
-    requires { D.gauge reading.old ≡ cabinet.now }
+    requires { D.gauge reading.old ≡ cabinet.now.gauge }
     ensures watches { Worked (G.answers gate.now worker) IsWatching IsNoted }
     ensures reads { D.reads_on reading.old reading.new }
 {
@@ -59,7 +59,7 @@ pub(crate) fn read_all<
     readings: &mut [D],
     progress: &Progress,
 )
-    requires { All (λ reading. D.gauge reading ≡ cabinet.now) readings.old }
+    requires { All (λ reading. D.gauge reading ≡ cabinet.now.gauge) readings.old }
     ensures watch { (i : ℕ) → i < length readings.old → Worked (G.answers gate.now (number_after first i)) IsWatching IsNoted }
     ensures read { (i : ℕ) (d : _) → i < length readings.old
         → D.reads_on (slice_index_or readings.old i d) (slice_index_or readings.new i d) }
@@ -71,7 +71,7 @@ pub(crate) fn read_all<
             readings,
             threads,
             &|place: usize, reading: &mut D|
-                requires { D.gauge reading.old ≡ cabinet.now }
+                requires { D.gauge reading.old ≡ cabinet.now.gauge }
                 ensures { Worked (G.answers gate.entry.now (number_after first place)) IsWatching IsNoted
                     × D.reads_on reading.old reading.new }
             {

@@ -45,7 +45,7 @@ impl Transcribing {
         alloc: Global,
         cabinet: &Cabinet<M, N>,
     ) -> Result<(), Refusal>
-        requires { self.old.player.pass.cell ≡ cabinet.now }
+        requires { self.old.player.pass.cell ≡ cabinet.now.gauge }
         ensures reads { ReadsOn self.old self.new }
         ensures one { length self.new.instalments.items ≤ length self.old.instalments.items + 1 }
     {

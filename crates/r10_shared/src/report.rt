@@ -9,7 +9,9 @@ use r10_body::{Refusal, Sample};
 use r10_held::{Recorder, Transcript, audit_all};
 use r10_lane::Spent;
 use r10_medium::BlockMedium;
+use r10_port::Outlet;
 use std::alloc::Global;
+use std::snapshot::Snapshot;
 
 /// What became of the messages of a feed, each number up to `u64::MAX`. Of a session whose recorder failed, `erased` and `filed`
 /// are what the recorder had counted: what the failed call took is in neither, and what was not committed may be in no file.
@@ -20,6 +22,8 @@ pub struct FeedReport {
     pub accepted: u64,
     /// The messages that the port refused.
     pub refused: u64,
+    /// The messages that were lost: refused because the port was full, or lost before they were offered.
+    pub lost: u64,
     /// The messages that erases took.
     pub erased: u64,
     /// The messages in the recorder's own files.
@@ -43,6 +47,8 @@ pub struct SessionReport<M: BlockMedium> {
     pub recorder: Recorder<M, Spent>,
     pub feeds: Vec<FeedReport>,
     pub transcripts: Vec<Transcript>,
+    /// The recorder's lanes before the rest was taken out of them, for contracts alone: it has no bytes.
+    pub lanes: Snapshot<Vec<Outlet>>,
 }
 
 /// Whether what the players wrote down agrees with the recorder's files as they stand: each transcript's file is there, each
@@ -58,7 +64,8 @@ pub fn audit<M: BlockMedium>(alloc: Global, report: &mut SessionReport<M>) -> Re
         (IsFirstRefused report.old.recorder.kept.work (M.disk report.old.recorder.medium).blocks report.old.transcripts.items)
         report.old.recorder.kept report.new.recorder.kept report.old.recorder.medium report.new.recorder.medium) }
     ensures reads { OnlyReads M.disk report.old.recorder report.new.recorder result }
-    ensures same { (report.new.feeds ≡ report.old.feeds) × (report.new.transcripts ≡ report.old.transcripts) }
+    ensures same { (report.new.feeds ≡ report.old.feeds) × (report.new.transcripts ≡ report.old.transcripts)
+        × (report.new.lanes ≡ report.old.lanes) }
 {
     audit_all(alloc, &mut report.recorder, report.transcripts.as_slice())
 }

@@ -40,6 +40,7 @@ fn room_for<M: BlockMedium, N: Rings>(
         channel,
         accepted,
         refused: feed.tally.refused,
+        lost: feed.line.lost(),
         erased,
         filed: taken.saturating_sub(erased),
         rest,

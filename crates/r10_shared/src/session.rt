@@ -74,7 +74,7 @@ fn write_and_read<
     readings: &mut [D],
     progress: &Progress,
 )
-    requires { All (λ reading. D.gauge reading ≡ cabinet.now) readings.old }
+    requires { All (λ reading. D.gauge reading ≡ cabinet.now.gauge) readings.old }
     ensures writes { Worked (G.answers gate.now first) IsWriting (WasTurned M.disk N.rings) }
     ensures gives { Worked (G.answers gate.now (number_after first 1)) (GivesInTurn orders.now) (WasAsked M.disk N.rings) }
     ensures watch { (i : ℕ) → i < length readings.old
@@ -93,7 +93,7 @@ fn write_and_read<
         );
     };
     let mut reading = ||
-        requires { All (λ reading. D.gauge reading ≡ cabinet.now) readings.now }
+        requires { All (λ reading. D.gauge reading ≡ cabinet.now.gauge) readings.now }
         ensures { ((i : ℕ) → i < length readings.entry.now
             → Worked (G.answers gate.entry.now (number_after (number_after first 2) i)) IsWatching IsNoted)
             × ((i : ℕ) (d : _) → i < length readings.entry.now
@@ -130,7 +130,7 @@ fn run_all<
     orders: &[Order],
     readings: &mut [D],
 )
-    requires { All (λ reading. D.gauge reading ≡ cabinet.now) readings.old }
+    requires { All (λ reading. D.gauge reading ≡ cabinet.now.gauge) readings.old }
     ensures feeds { (i : ℕ) (d : _) → i < length feeds.old
         → HasRun (λ s. rest s) (slice_index_or feeds.old i d).source (slice_index_or feeds.old i d).line
         (slice_index_or feeds.old i d).tally (slice_index_or feeds.new i d).line (slice_index_or feeds.new i d).tally }
@@ -165,7 +165,7 @@ fn run_all<
             (slice_index_or feeds.exit.now i d).tally (slice_index_or feeds.exit.now i d).gauge) }
     { run_feeds(rt, gate, stop, feeds, along) };
     let mut others = ||
-        requires { All (λ reading. D.gauge reading ≡ cabinet.now) readings.now }
+        requires { All (λ reading. D.gauge reading ≡ cabinet.now.gauge) readings.now }
         ensures { Worked (G.answers gate.entry.now first) IsWriting (WasTurned M.disk N.rings)
             × Worked (G.answers gate.entry.now (number_after first 1)) (GivesInTurn orders.entry.now) (WasAsked M.disk N.rings)
             × ((i : ℕ) → i < length readings.entry.now
@@ -216,7 +216,7 @@ pub fn run_session_handing<
     orders: &[Order],
     players: &mut [Handing<K>],
 )
-    requires { All (λ handing. handing.reading.player.pass.cell ≡ cabinet.now) players.old }
+    requires { All (λ handing. handing.reading.player.pass.cell ≡ cabinet.now.gauge) players.old }
     ensures feeds { (i : ℕ) (d : _) → i < length feeds.old
         → HasRun (λ s. rest s) (slice_index_or feeds.old i d).source (slice_index_or feeds.old i d).line
         (slice_index_or feeds.old i d).tally (slice_index_or feeds.new i d).line (slice_index_or feeds.new i d).tally }
@@ -259,7 +259,7 @@ pub fn run_session_until<
     orders: Vec<Order>,
     players: Vec<Player>,
 ) -> Result<Session<N>, (Vec<Feed<N>>, Vec<Order>, Vec<Player>)>
-    requires { All (λ player. player.pass.cell ≡ cabinet.now) players.items }
+    requires { All (λ player. player.pass.cell ≡ cabinet.now.gauge) players.items }
     ensures feeds { IfOk result (λ session. (length session.feeds.items ≡ length feeds.items)
         × ((i : ℕ) (d : _) → i < length feeds.items → HasRun (λ s. rest s) (slice_index_or feeds.items i d).source
         (slice_index_or feeds.items i d).line (slice_index_or feeds.items i d).tally (slice_index_or session.feeds.items i d).line
@@ -322,7 +322,7 @@ pub fn run_session<
     orders: Vec<Order>,
     players: Vec<Player>,
 ) -> Result<Session<N>, (Vec<Feed<N>>, Vec<Order>, Vec<Player>)>
-    requires { All (λ player. player.pass.cell ≡ cabinet.now) players.items }
+    requires { All (λ player. player.pass.cell ≡ cabinet.now.gauge) players.items }
     ensures feeds { IfOk result (λ session. (length session.feeds.items ≡ length feeds.items)
         × ((i : ℕ) (d : _) → i < length feeds.items → HasRun (λ s. rest s) (slice_index_or feeds.items i d).source
         (slice_index_or feeds.items i d).line (slice_index_or feeds.items i d).tally (slice_index_or session.feeds.items i d).line

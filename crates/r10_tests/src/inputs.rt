@@ -111,7 +111,7 @@ pub fn cabinet_of<N: Rings>(gauged: Gauged<Memory>) -> (Cabinet<Memory, N>, Pass
     requires new { IsNew memory_disk outlet_spec outlet_received gauged.recorder }
     requires named { AreNamed N.rings gauged.recorder.lanes }
     requires gauge { gauged.cell ≡ N.gauge }
-    ensures { result.1.cell ≡ result.0 }
+    ensures { result.1.cell ≡ result.0.gauge }
 {
     new_recorders_account_for_their_lanes::<Memory, N>();
     Cabinet::<Memory, N>::new(gauged)

@@ -45,7 +45,7 @@ fn open<N: Rings, R: Wait>(
 
 /// Looks beside the lock.
 fn look<N: Rings, R: Wait>(rt: &R, cabinet: &Cabinet<Memory, N>, pass: &mut Pass) -> Glance
-    requires { pass.old.cell ≡ cabinet.now }
+    requires { pass.old.cell ≡ cabinet.now.gauge }
     ensures { pass.new.cell ≡ pass.old.cell }
 {
     cabinet.glance(rt, pass)
@@ -66,7 +66,7 @@ fn read<N: Rings, R: Wait>(
     cabinet: &Cabinet<Memory, N>,
     player: &mut Player,
 ) -> AdvanceAnswer
-    requires { player.old.pass.cell ≡ cabinet.now }
+    requires { player.old.pass.cell ≡ cabinet.now.gauge }
     ensures { player.new.pass.cell ≡ player.old.pass.cell }
 {
     let answer = player.advance(rt, cabinet);

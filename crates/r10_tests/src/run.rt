@@ -62,8 +62,8 @@ fn advanced<N: Rings, R: Wait>(
     cursor: Cursor,
     pass: Pass,
 ) -> Result<Vec<Player>, Fail>
-    requires { pass.cell ≡ cabinet.now }
-    ensures { IfOk result (λ players. All (λ player. player.pass.cell ≡ cabinet.now) players.items) }
+    requires { pass.cell ≡ cabinet.now.gauge }
+    ensures { IfOk result (λ players. All (λ player. player.pass.cell ≡ cabinet.now.gauge) players.items) }
 {
     let mut players = Vec::with_capacity(alloc, 1)?;
     let mut player = Player::new(cursor, pass);
@@ -116,7 +116,7 @@ pub fn run_and_end<N: Rings + Send + Sync, R: Threads + Wait + Sync, G: Gate + S
     orders: Vec<Order>,
     players: Vec<Player>,
 ) -> Result<SessionReport<Memory>, Fail>
-    requires { All (λ player. player.pass.cell ≡ cabinet) players.items }
+    requires { All (λ player. player.pass.cell ≡ cabinet.gauge) players.items }
 {
     let Ok(session) = run_session(rt, alloc, &cabinet, gate, feeds, orders, players) else {
         return Err(Fail::new("no memory"));

@@ -121,8 +121,8 @@ fn begin<N: Rings, R: Wait>(
     call: u64,
     notes: &mut Notes,
 ) -> Result<Vec<Player>, AllocError>
-    requires { pass.cell ≡ cabinet.now }
-    ensures { IfOk result (λ players. All (λ player. player.pass.cell ≡ cabinet.now) players.items) }
+    requires { pass.cell ≡ cabinet.now.gauge }
+    ensures { IfOk result (λ players. All (λ player. player.pass.cell ≡ cabinet.now.gauge) players.items) }
 {
     let mut players = Vec::with_capacity(alloc, 1)?;
     give_all(rt, alloc, &mut cabinet.hold(rt), call, notes)?;
@@ -167,7 +167,7 @@ fn run_in<N: Rings + Send + Sync, R: Threads + Wait + Sync>(
     call: u64,
     notes: &mut Notes,
 ) -> Result<Session<N>, AllocError>
-    requires { pass.cell ≡ cabinet.now }
+    requires { pass.cell ≡ cabinet.now.gauge }
 {
     let players = begin(rt, alloc, cabinet, pass, call, notes)?;
     let orders = plan.orders(alloc)?;

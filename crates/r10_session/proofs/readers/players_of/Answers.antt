@@ -11,6 +11,6 @@ loop-cursor-preserved g c =
     let at = c.loop-cursor.invariant in
     record {
       here = ap (λ (p : LookingEnd). p.cell) split.stays ∙ at.here;
-      passes = rw c.in_ok-push.ensures.items (All-push (λ (player : Player). player.pass.cell ≡ c.args.cabinet.now) c.loop-cursor.players.items c.new.result at.passes (ap (λ (p : LookingEnd). p.cell) (c.new.ensures.1 ∙ split.other) ∙ at.here));
+      passes = rw c.in_ok-push.ensures.items (All-push (λ (player : Player). player.pass.cell ≡ c.args.cabinet.now.gauge) c.loop-cursor.players.items c.new.result at.passes (ap (λ (p : LookingEnd). p.cell) (c.new.ensures.1 ∙ split.other) ∙ at.here));
       done = rw c.in_ok-push.ensures.items (one_more c.loop-cursor.players.items _ _ _ _ _ at.done c.in-Some.ensures.steps.0 c.new.ensures.0);
     }
