@@ -5,12 +5,12 @@ set -u
 # shellcheck disable=SC2016,SC2317 source=scripts/tests/kit.sh
 . "$(dirname "$(readlink -f "${BASH_SOURCE[0]}")")/kit.sh"
 tree="$room/tree" high="$room/tree/crates/r10_high" user="$room/tree/crates/r10_user"
-export PATH="$room/kit:$PATH" GIT_AUTHOR_NAME=a GIT_AUTHOR_EMAIL=a@a GIT_COMMITTER_NAME=a GIT_COMMITTER_EMAIL=a@a
+export PATH="$room/kit/bin:$PATH" GIT_AUTHOR_NAME=a GIT_AUTHOR_EMAIL=a@a GIT_COMMITTER_NAME=a GIT_COMMITTER_EMAIL=a@a
 
 # (it refuses the body of `count` with `wrong` in it by the clause `counted`, as long as that says something, and one with `false`
 # by the clause `same`; answers about a clause that says nothing it does not read)
-mkdir -p "$room/kit"
-cat >"$room/kit/rt" <<'RT'
+mkdir -p "$room/kit/bin"
+cat >"$room/kit/bin/rt" <<'RT'
 #!/usr/bin/env bash
 cp src/lib.rt "$(dirname "$0")/seen"
 bad=0
@@ -27,8 +27,8 @@ echo "only=1 proved=$((1 - bad))"
 exit "$bad"
 RT
 printf '%s\n' 'def crates_below(top):' '    return []' '' '' 'class Crate:' '    def stamp(self):' '        return ""' \
-    >"$room/kit/rtlib.py"
-chmod +x "$room/kit/rt"
+    >"$room/kit/bin/rtlib.py"
+chmod +x "$room/kit/bin/rt"
 
 mkdir -p "$tree/docs" "$high"/{src,specs,guards,proofs/count} "$user"/{src,proofs/twice,proofs/thrice}
 take_scripts "$tree" proofs/{slips,wrong_bodies,reads,promises,emptied,above}.py build/{rt_once,share_libraries,toolchain}.py
@@ -106,8 +106,8 @@ check "it is kept" is "$(cut -d ' ' -f 1-3,8 "$tree/scripts/proofs/emptied.txt")
 emptied --table
 check "the table says so" says "$(cat "$tree/docs/SLIPS.md")" '| `count` | `counted` | let through | not tried | 20'
 check "and leaves the rest of the page" is "$(tail -n 1 "$tree/docs/SLIPS.md")" '## Next'
-check "the clause was emptied, and the edit there" is "$(grep -c 'ensures counted { result ≡ result }\|wrong' "$room/kit/seen")" 2
-check "and the other function is as it was" is "$(grep -c 'a ≡ result' "$room/kit/seen")" 1
+check "the clause was emptied, and the edit there" is "$(grep -c 'ensures counted { result ≡ result }\|wrong' "$room/kit/bin/seen")" 2
+check "and the other function is as it was" is "$(grep -c 'a ≡ result' "$room/kit/bin/seen")" 1
 sed -i 's/new: wrong/new: wrong + false/' "$high/guards/g.edit" && commit false
 emptied
 check "what else refuses it is said" ends 0 "count, counted: helper,returns-clause-same"

@@ -5,11 +5,11 @@ set -u
 # shellcheck disable=SC2016,SC2317 source=scripts/tests/kit.sh
 . "$(dirname "$(readlink -f "${BASH_SOURCE[0]}")")/kit.sh"
 tree="$room/tree" low="$room/tree/crates/r10_low" high="$room/tree/crates/r10_high"
-export PATH="$room/kit:$PATH" GIT_AUTHOR_NAME=a GIT_AUTHOR_EMAIL=a@a GIT_COMMITTER_NAME=a GIT_COMMITTER_EMAIL=a@a
+export PATH="$room/kit/bin:$PATH" GIT_AUTHOR_NAME=a GIT_AUTHOR_EMAIL=a@a GIT_COMMITTER_NAME=a GIT_COMMITTER_EMAIL=a@a
 
 # (it refuses a body with `wrong` in it, or by a name one with `renamed`; of one with `broken` it reads nothing)
-mkdir -p "$room/kit"
-cat >"$room/kit/rt" <<'RT'
+mkdir -p "$room/kit/bin"
+cat >"$room/kit/bin/rt" <<'RT'
 #!/usr/bin/env bash
 echo "${PWD##*/} $*" >>"$(dirname "$0")/calls"
 awk -v words="$*" '
@@ -26,8 +26,8 @@ awk -v words="$*" '
     /nowhere/ { print "this is no body"; unread = 1 }
     END { if (!unread) print "only=" n " proved=" n - bad; exit unread || bad > 0 }' src/lib.rt
 RT
-printf 'def crates_below(top):\n    return []\n\n\nclass Crate:\n    def stamp(self):\n        return ""\n' >"$room/kit/rtlib.py"
-chmod +x "$room/kit/rt"
+printf 'def crates_below(top):\n    return []\n\n\nclass Crate:\n    def stamp(self):\n        return ""\n' >"$room/kit/bin/rtlib.py"
+chmod +x "$room/kit/bin/rt"
 
 mkdir -p "$tree/docs" "$low/src" "$low/specs" "$high/src" "$high/slips" "$high/must-fail" "$high/guards"
 take_scripts "$tree" proofs/{slips,mutants,wrong_bodies}.py build/{rt_once,share_libraries,toolchain}.py
@@ -49,7 +49,7 @@ echo 0 >"$tree/scripts/proofs/slips_stale.txt"
 commit first
 
 slips() {
-    : >"$room/kit/calls"
+    : >"$room/kit/bin/calls"
     said=$("$tree/scripts/proofs/slips.py" --lanes 1 "$@" 2>&1)
     status=$?
 }
@@ -73,12 +73,12 @@ check "it does not compile" is "$(verdict unread 'this is no body')" 1
 check "two are let through, one of them two changes of one function" is "$(verdict passed '')" 2
 check "a note names what is let through" is "$(verdict passed 'four: < four -> < four + 0')" 1
 check "the crate itself, a round, the same without what is no body, and two alone" is \
-    "$(sed 's/.*--jobs 1//; s/ --only//g' "$room/kit/calls" | tr '\n' ';')" \
+    "$(sed 's/.*--jobs 1//; s/ --only//g' "$room/kit/bin/calls" | tr '\n' ';')" \
     " five four one three two; five four one three two; five four one two; four; five;"
 check "lines are sorted" is "$(LC_ALL=C sort "$tree/scripts/proofs/slips.txt")" "$(cat "$tree/scripts/proofs/slips.txt")"
 slips
 check "what has a verdict is not tried again" ends 0 "0 tried, 0 left"
-check "nor is anything checked" is "$(wc -l <"$room/kit/calls")" 0
+check "nor is anything checked" is "$(wc -l <"$room/kit/bin/calls")" 0
 
 slips --check
 check "a page that has no table" ends 1 'docs/SLIPS.md, "Slips", is not what scripts/proofs/slips.py --table writes'
@@ -174,7 +174,7 @@ check "an edit of the gate is refused by its clause" ends 0 \
     "refused: r10_high seven, clause it: It is wrong. (returns-in-Ok-clause-it)"
 check "the gate counts them" ends 0 "1 edits of the gate are refused by the clause that each names, 0 are not"
 slips --gate
-check "what was refused so is kept" is "$(grep -c seven "$room/kit/calls")" 0
+check "what was refused so is kept" is "$(grep -c seven "$room/kit/bin/calls")" 0
 guard 'seven other' '< false_it'
 check "an edit that another clause refuses fails" ends 1 \
     "NOT REFUSED by its clause: r10_high seven, clause other: It is wrong.: refused by returns-in-Ok-clause-it"
@@ -206,7 +206,7 @@ mkdir -p "$high/slips" && mv "$room/away"/* "$high/slips"
 rm "$high/guards/g.edit" && sed -i '/^pub fn seven/,$d' "$high/src/lib.rt" && commit back
 
 mutants() {
-    : >"$room/kit/calls"
+    : >"$room/kit/bin/calls"
     said=$("$tree/scripts/proofs/mutants.py" --lanes 1 --count 8 "$@" 2>&1)
     status=$?
 }
@@ -223,7 +223,7 @@ mutants
 check "all are let through" ends 1 "0 of 8 refused"
 check "and stand in the results" is "$(grep -c ' passed ' "$tree/scripts/proofs/mutants.txt")" 8
 mutants
-check "none is tried again" is "$(wc -l <"$room/kit/calls")" 0
+check "none is tried again" is "$(wc -l <"$room/kit/bin/calls")" 0
 mutants --check
 check "they want a table and an explanation" ends 1 '"Mutants", is not what scripts/proofs/mutants.py --table writes'
 mutants --table
