@@ -106,7 +106,8 @@ check "it is kept" is "$(cut -d ' ' -f 1-3,8 "$tree/scripts/proofs/emptied.txt")
 emptied --table
 check "the table says so" says "$(cat "$tree/docs/SLIPS.md")" '| `count` | `counted` | let through | not tried | 20'
 check "and leaves the rest of the page" is "$(tail -n 1 "$tree/docs/SLIPS.md")" '## Next'
-check "the clause was emptied, and the edit there" is "$(grep -c 'ensures counted { result ≡ result }\|wrong' "$room/kit/bin/seen")" 2
+check "the clause was emptied, and the edit there" is \
+    "$(grep -c 'ensures counted { result ≡ result }\|wrong' "$room/kit/bin/seen")" 2
 check "and the other function is as it was" is "$(grep -c 'a ≡ result' "$room/kit/bin/seen")" 1
 sed -i 's/new: wrong/new: wrong + false/' "$high/guards/g.edit" && commit false
 emptied

@@ -26,7 +26,8 @@ awk -v words="$*" '
     /nowhere/ { print "this is no body"; unread = 1 }
     END { if (!unread) print "only=" n " proved=" n - bad; exit unread || bad > 0 }' src/lib.rt
 RT
-printf 'def crates_below(top):\n    return []\n\n\nclass Crate:\n    def stamp(self):\n        return ""\n' >"$room/kit/bin/rtlib.py"
+printf 'def crates_below(top):\n    return []\n\n\nclass Crate:\n    def stamp(self):\n        return ""\n' \
+    >"$room/kit/bin/rtlib.py"
 chmod +x "$room/kit/bin/rt"
 
 mkdir -p "$tree/docs" "$low/src" "$low/specs" "$high/src" "$high/slips" "$high/must-fail" "$high/guards"
