@@ -92,7 +92,8 @@ static void status(void) {
 }
 
 static void losses_of_3(void) {
-    r10_losses_info info = {0};
+    r10_losses_info info;
+    memset(&info, 0, sizeof info);
     say("losses of ID 3", r10_losses_of(&recorder, 3, &info));
     printf("  missed %" PRIu64 " waiting_lost %" PRIu64 " erased_lost %" PRIu64, info.missed, info.waiting_lost, info.erased_lost);
     printf(" handed %" PRIu64 " handed_lost %" PRIu64 "\n", info.handed, info.handed_lost);
@@ -279,8 +280,15 @@ int main(void) {
     say("taken, none", r10_taken(&recorder, bytes, sizeof bytes, words, 36));
     say("account of ID 3", r10_account_of(&recorder, 3, &account));
     say("losses of ID 3", r10_losses_of(&recorder, 3, &losses));
-    account = (r10_account_info){.accepted = 100, .erased = 10, .lost = 50, .channel = 3};
-    losses = (r10_losses_info){.missed = 4, .erased_lost = 5, .handed = 3, .handed_lost = 2, .channel = 3};
+    memset(&account, 0, sizeof account);
+    memset(&losses, 0, sizeof losses);
+    account.accepted = 100;
+    account.erased = 10;
+    account.lost = 50;
+    losses.missed = 4;
+    losses.erased_lost = 5;
+    losses.handed = 3;
+    losses.handed_lost = 2;
     printf("untold %" PRIu64 " %" PRIu64 "\n", r10_untold(&account, &losses, 60, 30), r10_untold(&account, &losses, 200, 30));
     say("queue", r10_queue(&recorder, &queue));
     printf("  waiting %zu\n", queue.waiting);
