@@ -72,7 +72,7 @@ build_by() {
     flags=$(printf -- '--remap-path-prefix=%s=/r10\x1f--remap-path-prefix=%s=/cargo' "$top" \
         "${CARGO_HOME:-${HOME:-/root}/.cargo}")
     CARGO_ENCODED_RUSTFLAGS=$flags R10_LIB_DIR=$library R10_STATIC=1 CARGO_TARGET_DIR=$top/out/recorder/target \
-        nice -n 5 cargo "$1" "${from[@]}" "${@:2}" --manifest-path "$manifest"
+        nice -n 5 cargo "$1" --manifest-path "$manifest" "${from[@]}" "${@:2}"
 }
 
 # The folder with libr10.a: one of its own, in which the file changes only if its bytes do, so that nothing is built anew. The note
