@@ -267,7 +267,8 @@ def an_overload_and_sums(room: Room, count: int = 20_000, slow: int = 200_000, b
         must(sum(causes.values()) == lost and (line, disk) == (0, 0), f'{causes}, {totals[number]}')
         must((system, queue) == (causes['system'], causes['queue']), f'{causes}, {totals[number]}')
     recorded, lost, passed = (sum(it[at] for it in totals.values()) for at in (1, 2, 7))
-    must(lost > 0 and passed > 0, f'{totals}')
+    # (whether something comes between the two recordings depends on how quick the machine is)
+    must(lost > 0, f'{totals}')
     return f'{sent} sent, {recorded} recorded, {lost} lost, {passed} passed'
 
 

@@ -127,7 +127,7 @@ def the_page_shows_states_and_losses(room: Room) -> str:
         # the medium fills up, and what comes is lost
         body = 'ab' * 1000
         try:
-            for _ in range(4000):
+            for _ in range(40000):
                 pipe.write(f'bytes = "{body}"\n')
             pipe.flush()
         except BrokenPipeError:
