@@ -285,6 +285,14 @@ uint32_t r10_check_script(const void *script, size_t script_length, r10_script_i
  * R10_MEDIUM or R10_NO_MEMORY the region may have the new directory. R10_MEDIUM, R10_NO_MEMORY, R10_SCRIPT, R10_BLOCKS, R10_OPEN. */
 uint32_t r10_format(r10_region region, size_t room, const void *script, size_t script_length, r10 *recorder);
 
+/* Sets the last file of the medium aside where it was left open, and opens a recorder over it, not mounted, with empty lanes. For a file that r10_seal
+ * refuses (R10_BAD_FILE, R10_MEDIUM_FULL, R10_MEDIUM), or that would take too long to read: its directory entry is closed as it is, with the bytes that it
+ * shows and the close time 99999999, which no clock gives. No byte of the file is read or changed, however long it is. One block of the directory is written,
+ * and waits, as operations do after every call; a loss of power leaves the old list of files or the new one. Then a mounted recorder can start the next file;
+ * reading this one answers R10_BAD_FILE. `was_open` is whether there was one: where there was not, nothing is written.
+ * R10_BAD_DIRECTORY, R10_MEDIUM, R10_NO_MEMORY, R10_SCRIPT, R10_BLOCKS, R10_OPEN. */
+uint32_t r10_set_aside(r10_region region, size_t room, const void *script, size_t script_length, r10 *recorder, bool *was_open);
+
 /* Opens a recorder, not mounted, with empty lanes. R10_NO_MEMORY, R10_SCRIPT, R10_BLOCKS, R10_OPEN. */
 uint32_t r10_open(r10_region region, size_t room, const void *script, size_t script_length, r10 *recorder);
 
@@ -930,6 +938,15 @@ static inline uint32_t r10_checked_open(r10_region region, size_t room, const vo
     return r10_open(region, room, script, script_length, recorder);
 }
 
+static inline uint32_t r10_checked_set_aside(r10_region region, size_t room, const void *script, size_t script_length, r10 *recorder,
+                                             bool *was_open) {
+    if (recorder == NULL)
+        return R10_CLOSED;
+    if ((region.at == NULL && region.blocks > 0) || (script == NULL && script_length > 0) || was_open == NULL)
+        return R10_ROOM;
+    return r10_set_aside(region, room, script, script_length, recorder, was_open);
+}
+
 static inline uint32_t r10_checked_orders(r10 *recorder, r10_run_info *run, uint8_t *bytes, size_t byte_room) {
     if (recorder == NULL)
         return R10_CLOSED;
@@ -1297,6 +1314,7 @@ static inline uint32_t r10_checked_count_at(r10 *recorder, size_t file, const r1
 #define r10_check_script r10_checked_check_script
 #define r10_format r10_checked_format
 #define r10_open r10_checked_open
+#define r10_set_aside r10_checked_set_aside
 #define r10_orders r10_checked_orders
 #define r10_order r10_checked_order
 #define r10_queue r10_checked_queue

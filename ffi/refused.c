@@ -154,6 +154,7 @@ static void nulls(void) {
     /* no recorder */
     expect("format", r10_format(region, 64, script, strlen(script), NULL), R10_CLOSED);
     expect("open", r10_open(region, 64, script, strlen(script), NULL), R10_CLOSED);
+    expect("set_aside", r10_set_aside(region, 64, script, strlen(script), NULL, &there), R10_CLOSED);
     expect("orders", r10_orders(NULL, &run, bytes, 600), R10_CLOSED);
     expect("order", r10_order(NULL, &order, bytes, 600), R10_CLOSED);
     expect("queue", r10_queue(NULL, &queue), R10_CLOSED);
@@ -212,6 +213,9 @@ static void nulls(void) {
     expect("check_script", r10_check_script(script, 4, &told, NULL, 600), R10_ROOM);
     expect("open", r10_open(region, 64, NULL, 4, &recorder), R10_ROOM);
     expect("open", r10_open((r10_region){NULL, 64}, 64, script, strlen(script), &recorder), R10_ROOM);
+    expect("set_aside", r10_set_aside(region, 64, NULL, 4, &recorder, &there), R10_ROOM);
+    expect("set_aside", r10_set_aside((r10_region){NULL, 64}, 64, script, strlen(script), &recorder, &there), R10_ROOM);
+    expect("set_aside", r10_set_aside(region, 64, script, strlen(script), &recorder, NULL), R10_ROOM);
     expect("format", r10_format(region, 64, NULL, 4, &recorder), R10_ROOM);
     expect("format", r10_format((r10_region){NULL, 64}, 64, script, strlen(script), &recorder), R10_ROOM);
     expect("format", r10_format(region, 64, script, strlen(script), &recorder), R10_OK);

@@ -53,6 +53,11 @@ impl Acknowledge {
         }
     }
 
+    /// The files of the lines that follow are on this medium of a row.
+    pub fn medium(&mut self, place: usize, volume: &str) {
+        let _ = writeln!(self.lines, "medium {} {volume}", place + 1);
+    }
+
     /// So many messages of a channel are durable in the file of this number, from 0.
     pub fn line(&mut self, file: usize, channel: u16, messages: u64) {
         let _ = writeln!(self.lines, "durable {file} {channel} {messages}");

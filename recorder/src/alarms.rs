@@ -25,6 +25,8 @@ const SEEN: Duration = Duration::from_secs(5);
 /// Over so long the rate is taken at which the medium fills up, and so long it is looked at before anything is said.
 const WINDOW: Duration = Duration::from_mins(1);
 const FIRST: Duration = Duration::from_secs(5);
+/// So much of the room is used, in percent: each is a warning once.
+const MARKS: [u64; 2] = [80, 95];
 /// How long a command for alarms may run, and how many changes may wait for it.
 pub const RUNS: Duration = Duration::from_secs(10);
 const WAITING: usize = 64;
@@ -137,6 +139,10 @@ pub struct Judge {
     failures: (u32, Option<Instant>),
     /// bytes that are free, once a second
     room: Vec<(Instant, u64)>,
+    /// in how many seconds all is full at this rate, where that is known
+    left: Option<f64>,
+    /// how many of [`MARKS`] were said
+    marks: usize,
     was_synchronised: bool,
     on: BTreeMap<(Kind, Option<usize>), Alarm>,
 }
@@ -219,9 +225,27 @@ impl Judge {
         }
     }
 
+    /// How much of the room is used, where that is a mark more than was said. It is said once the rate is known.
+    pub fn look_at_marks(&mut self, standing: &Standing) -> Option<String> {
+        let used = 100 * standing.medium_bytes.saturating_sub(standing.free) / standing.medium_bytes.max(1);
+        let marks = MARKS.iter().filter(|it| used >= **it).count();
+        if marks < self.marks {
+            // (there was an erase, or another medium was put in)
+            self.marks = marks;
+        }
+        let is_known = self.room.first().zip(self.room.last()).is_some_and(|(first, last)| last.0 - first.0 >= FIRST);
+        if standing.state != State::Recording || marks == self.marks || !is_known {
+            return None;
+        }
+        self.marks = marks;
+        let when = self.left.map_or(String::new(), |it| format!(": full in {:.0} minutes at this rate", (it / 60.0).ceil()));
+        Some(format!("{used} % of the room is used{when}"))
+    }
+
     /// Whether the medium is full, or will be at the rate of the last minute.
     fn look_at_room(&mut self, names: &Names, seen: &Seen) -> Option<String> {
         let (it, now) = (seen.standing, seen.now);
+        self.left = None;
         if it.state == State::Full {
             self.room.clear();
             return Some("the medium is full, and nothing is recorded; copy the files, then give .ERASE and .RECORD".to_string());
@@ -248,6 +272,7 @@ impl Judge {
             return None;
         }
         let left = past.as_secs_f64() * it.free as f64 / used as f64;
+        self.left = Some(left);
         // (one that is on ends a little later than it began, so that it does not come and go)
         let is_on = on.is_some();
         let limit = names.limits.full.as_secs_f64() * if is_on { 1.2 } else { 1.0 };
@@ -299,6 +324,10 @@ fn look_on(shared: &Shared, board: &Board, to: &SyncSender<(Vec<String>, Change)
             (before, at) = (came.iter().map(|it| it.0).collect(), Instant::now());
         }
         let changes = judge.look(&names, &Seen { now: Instant::now(), standing: &standing, came });
+        if let Some(text) = judge.look_at_marks(&standing) {
+            warning!("{text}");
+            board.put(Line::new("warning").with("text", text));
+        }
         for it in &changes {
             if it.is_on {
                 warning!("{}", it.line());
@@ -484,6 +513,30 @@ mod tests {
         // after an erase
         (it.standing.state, it.standing.free) = (State::Idle, 1000 * megabyte);
         assert_eq!(it.at(509), ["full None false"]);
+    }
+
+    /// Each mark is said once, with the time that is left, once the rate is known; and again after an erase.
+    #[test]
+    fn room_that_is_used_up() {
+        let mut it = Made::new();
+        let (megabyte, mut said) = (1u64 << 20, Vec::new());
+        it.standing.medium_bytes = 1000 * megabyte;
+        let mut step = |it: &mut Made, second: u64, used: u64| {
+            it.standing.free = (1000 - used) * megabyte;
+            it.at(second);
+            said.extend(it.judge.look_at_marks(&it.standing).map(|text| (second, text)));
+        };
+        (0..=960).for_each(|second| step(&mut it, second, second));
+        step(&mut it, 961, 0);
+        (962..=970).for_each(|second| step(&mut it, second, 900 + second - 962));
+        it.standing.state = State::Idle;
+        step(&mut it, 971, 999);
+        let wanted = [
+            (800, "80 % of the room is used: full in 4 minutes at this rate"),
+            (950, "95 % of the room is used: full in 1 minutes at this rate"),
+            (966, "90 % of the room is used: full in 1 minutes at this rate"),
+        ];
+        assert_eq!(said.iter().map(|it| (it.0, it.1.as_str())).collect::<Vec<_>>(), wanted);
     }
 
     #[test]

@@ -6,6 +6,7 @@ use std::time::{Duration, Instant};
 use crate::log;
 use crate::owner::{Owner, State, Trouble};
 use crate::settings;
+use crate::standing::Names;
 use crate::words::{health_of, in_words};
 
 /// A sync that takes longer is too slow for commits of the usual time.
@@ -58,7 +59,17 @@ impl Owner {
         match settings::of_file(path) {
             Ok(now) => {
                 let waits = self.settings.differ_for_good(&now);
-                if waits.is_empty() {
+                if waits.is_empty() && Names::of(&now) != *self.shared.names() {
+                    let what = "has other names, limits or alarms than the service runs by";
+                    let id = std::process::id();
+                    found.put(
+                        false,
+                        format!(
+                            "settings: {} {what}; SIGHUP takes them: `kill -HUP {id}`, `systemctl reload r10d`",
+                            path.display()
+                        ),
+                    );
+                } else if waits.is_empty() {
                     found.put(true, format!("settings: {} is what the service runs by", path.display()));
                 } else {
                     let what = waits.join("; ");

@@ -15,6 +15,8 @@ use crate::words::{Answer, No};
 const RELEASE: u32 = 12;
 /// Bits of `.HEALTH` that are critical, where nobody said otherwise: a full medium and a disk that failed.
 pub const CRITICAL: u32 = 0xc000_0000;
+/// The largest number of an event.
+const MOST: u16 = 4095;
 /// The longest text of an event, or of a note.
 const LONGEST: usize = 200;
 
@@ -48,7 +50,7 @@ impl Owner {
             };
             return Ok(Reply::Text(self.file.iter().flat_map(Current::events).fold(String::new(), line)));
         };
-        let Ok(number) = number.parse::<u16>() else {
+        let Some(number) = number.parse::<u16>().ok().filter(|it| *it <= MOST) else {
             return Err(No::Parameter(format!("{number} is no event: give 0 to 4095, and a text if you like")).into());
         };
         let text = text.join(" ");
@@ -57,6 +59,7 @@ impl Owner {
                 No::Parameter(format!("the text of an event has at most {LONGEST} bytes, and no control characters")).into()
             );
         }
+        self.begin_file()?;
         match self.state {
             State::Recording => self.note_event(number)?,
             State::Full => {
@@ -102,11 +105,12 @@ impl Owner {
     pub(crate) fn files(&mut self) -> Result<String, Trouble> {
         let files = self.recorder()?.files()?;
         let dates = self.recorder.as_ref().map(|it| Dates::read(it, files.len())).unwrap_or_default();
+        let volume = if self.settings.media.len() > 1 { format!(" {}", self.medium.volume) } else { String::new() };
         let mut text = String::new();
         for (number, file) in files.iter().enumerate() {
             let (first, name) = (self.medium.first_block(&files[..number]), printed(&file.name));
             let state = if file.closed { "closed" } else { "open" };
-            let _ = writeln!(text, "{} {name} {first} {} {state} {}", number + 1, file.size, dates.line(number));
+            let _ = writeln!(text, "{} {name} {first} {} {state} {}{volume}", number + 1, file.size, dates.line(number));
         }
         Ok(text)
     }
@@ -141,13 +145,13 @@ impl Owner {
     pub(crate) fn media(&mut self) -> Result<String, Trouble> {
         let files = self.recorder()?.files()?;
         let used = self.medium.first_block(&files).min(self.settings.blocks as u64);
-        Ok(format!("MEDIA 512 {used} {}\n", self.settings.blocks as u64 - used))
+        Ok(format!("MEDIA 512 {used} {}\n{}", self.settings.blocks as u64 - used, self.media_lines().concat()))
     }
 
     /// `.DISMOUNT`: the medium can be taken away then.
     pub(crate) fn dismount(&mut self) -> Answer {
-        if self.state == State::Recording {
-            return Err(No::Mode("a file is recorded; give .STOP first".to_string()).into());
+        if matches!(self.state, State::Ready | State::Recording) {
+            return Err(No::Mode("it is recording; give .STOP first".to_string()).into());
         }
         self.medium.keep(false);
         self.wish.wants = false;
@@ -156,6 +160,7 @@ impl Owner {
         self.recorder()?.dismount()?;
         self.settle()?;
         self.recorder = None;
+        self.row.let_go();
         self.file = None;
         self.state = State::Dismounted;
         self.failures.why = "the medium is dismounted; .MOUNT takes it up again".to_string();
@@ -200,7 +205,8 @@ impl Owner {
     /// `.VERSION`: of the service, and of the library below it.
     pub(crate) fn version() -> String {
         let it = r10::version();
-        format!("VERSION r10d {}\nVERSION libr10 {}.{}.{}\n", env!("CARGO_PKG_VERSION"), it / 10_000, it / 100 % 100, it % 100)
+        let library = format!("{}.{}.{}{}", it / 10_000, it / 100 % 100, it % 100, crate::NOT_PROVED);
+        format!("VERSION r10d {}\nVERSION libr10 {library}\n", crate::VERSION)
     }
 
     /// `.IRIG106`: the release that the setup record names.

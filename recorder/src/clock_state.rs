@@ -160,6 +160,18 @@ impl Known {
     }
 }
 
+/// What the kernel said before and after a look, so that it holds of the look: the clock may have been set between the two.
+fn worse(before: &Result<KernelClock, String>, after: Result<KernelClock, String>) -> Result<KernelClock, String> {
+    let (Ok(one), Ok(two)) = (before, &after) else { return after };
+    Ok(KernelClock {
+        is_synchronised: one.is_synchronised && two.is_synchronised,
+        most_error: one.most_error.max(two.most_error),
+        estimated_error: one.estimated_error.max(two.estimated_error),
+        leap: if two.leap == 0 { one.leap } else { two.leap },
+        ..*two
+    })
+}
+
 /// A time for the recorder: a count, its civil time, and the pair that they are from.
 pub struct Look {
     pub count: u64,
@@ -186,6 +198,8 @@ pub struct Keeper {
     /// the count of the last tick
     last: u64,
     stepped: Option<Instant>,
+    /// what the kernel said right before the last look
+    asked: Result<KernelClock, String>,
     pub last_step: f64,
     /// steps of the system's clock since the start
     pub steps_seen: u64,
@@ -214,6 +228,7 @@ impl Keeper {
             drift: Drift::default(),
             last: 0,
             stepped: None,
+            asked: Err("it was not asked yet".to_string()),
             last_step: 0.0,
             steps_seen: 0,
             known,
@@ -240,6 +255,7 @@ impl Keeper {
     /// back that may take some milliseconds.
     pub fn look(&mut self) -> Look {
         loop {
+            self.asked = kernel_clock::ask().map_err(|it| it.to_string());
             let pair = Pair::with_system(self.counter);
             let (count, civil) = pair.hundredth(self.counter);
             let short = self.last.saturating_sub(count);
@@ -277,7 +293,8 @@ impl Keeper {
         let counts = |at: Instant| now.duration_since(at) < OLD && self.stepped.is_none_or(|it| at > it);
         self.known = Known {
             at: now,
-            kernel: kernel_clock::ask().map_err(|it| it.to_string()),
+            // (of a thread that had to wait between the look and here: it has to hold of the look)
+            kernel: worse(&self.asked, kernel_clock::ask().map_err(|it| it.to_string())),
             program: heard.program.filter(|it| counts(it.1)),
             pulse: heard.pulse,
             wants_pulse: self.wants_pulse,

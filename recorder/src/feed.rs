@@ -7,7 +7,7 @@ use std::sync::atomic::{AtomicBool, AtomicU64, AtomicUsize, Ordering::Relaxed, O
 use std::sync::mpsc::{Receiver, Sender, channel};
 use std::sync::{Arc, Mutex};
 use std::thread::Thread;
-use std::time::Duration;
+use std::time::{Duration, Instant};
 
 use nix::poll::{PollFd, PollFlags, poll};
 
@@ -90,7 +90,22 @@ pub struct Feed {
     arrived: u64,
     before: u64,
     unsure: bool,
+    /// how far that arrival may be off, in nanoseconds
+    off: i128,
+    inexact: Option<Inexact>,
+    /// when the last line of such messages was written
+    said: Option<Instant>,
 }
+
+/// Messages whose times may be off by more than the clock is: from a count to a count, by so many nanoseconds at most.
+struct Inexact {
+    from: u64,
+    to: u64,
+    off: i128,
+}
+
+/// Lines of these lie so far apart at least.
+const APART: Duration = Duration::from_secs(1);
 
 struct Ending {
     place: usize,
@@ -155,6 +170,9 @@ pub fn feed(owner: Thread, counter: Counter, limit: usize, channels: &[(usize, A
         arrived: 0,
         before: 0,
         unsure: false,
+        off: 0,
+        inexact: None,
+        said: None,
     };
     (feed, Outlet { from, queued, source })
 }
@@ -208,6 +226,36 @@ impl Feed {
     /// What is handed over next arrived at a count.
     pub fn arrives(&mut self, count: u64) {
         self.before = std::mem::replace(&mut self.arrived, count);
+        self.off = 0;
+    }
+
+    /// That count may be off by so many nanoseconds.
+    pub fn may_be_off(&mut self, nanos: i128) {
+        self.off = nanos;
+    }
+
+    /// Keeps that a message of the arrival's count has another one, and that this may be off. Those that follow one that is too
+    /// late are moved with it.
+    fn keep_inexact(&mut self, arrived: u64, count: u64) {
+        let moved = if self.inexact.is_some() { 100 * i128::from(count - arrived) } else { 0 };
+        let off = self.off + moved;
+        if off > 0 {
+            let it = self.inexact.get_or_insert(Inexact { from: count, to: count, off });
+            *it = Inexact { from: it.from.min(count), to: it.to.max(count), off: it.off.max(off) };
+        }
+    }
+
+    /// Puts a line into the log channel where times of messages of these channels may be off by more than the clock is.
+    pub fn say_stamps(&mut self, ids: &[u16]) {
+        if self.said.is_none_or(|it| it.elapsed() >= APART)
+            && let Some(it) = self.inexact.take()
+            && let Some(board) = &self.board
+        {
+            let ids: Vec<String> = ids.iter().map(u16::to_string).collect();
+            let line = Line::new("stamps").with("channels", ids.join(",")).with("from", it.from).with("to", it.to);
+            board.put(line.with("off_ns", it.off));
+            self.said = Some(Instant::now());
+        }
     }
 
     /// A message came now: see [`Feed::message_at`].
@@ -239,15 +287,19 @@ impl Feed {
             it.came.moved.fetch_add(1, Relaxed);
         }
         it.last = count.max(it.last + 1);
+        let last = it.last;
         self.batch.items.push(Item {
             place: it.place as u32,
             length: bytes.len() as u32,
-            count: it.last,
+            count: last,
             arrived: self.arrived,
             lost: std::mem::take(&mut it.lost),
             head,
         });
         self.batch.bytes.extend_from_slice(bytes);
+        if count == self.arrived {
+            self.keep_inexact(count, last);
+        }
         if self.batch.items.len() >= MOST_ITEMS || self.batch.bytes.len() >= MOST_BYTES {
             self.flush();
         }

@@ -121,6 +121,8 @@ impl Commits {
 pub struct Failures {
     count: u32,
     tries: u32,
+    /// a medium was opened, since the service was started
+    pub was_opened: bool,
     /// why recording failed last, or is down
     pub why: String,
 }
@@ -147,10 +149,14 @@ impl Failures {
     }
 }
 
-/// Whether a recording is to go on after a failure, and whether it has to wait for the clock.
+/// Whether a recording is to go on after a failure, whether it has to wait for the clock, and for what its file begins.
 #[derive(Default)]
 pub struct Wish {
     pub wants: bool,
+    /// a file is to begin now: messages were lost since the last one began, or the disk failed as one was begun
+    pub begins: bool,
+    /// lines wait that tell of a file that was cut off: a stop begins a file for them
+    pub owes: bool,
     /// it begins by itself once the clock is in sync, at this moment at the latest
     pub waits: Option<Instant>,
 }

@@ -4,6 +4,18 @@
 //! things. One thread owns it: [`owner`].
 #![forbid(unsafe_code)]
 
+/// What a version ends with where the library below these programs is not known to be proved. For a build over a proved one
+/// `scripts/recorder.sh` sets `R10_PROVED`.
+pub const NOT_PROVED: &str = match option_env!("R10_PROVED") {
+    Some(_) => "",
+    None => " (not proved)",
+};
+/// The version of `r10d` and `r10ctl`, with that ending.
+pub const VERSION: &str = match option_env!("R10_PROVED") {
+    Some(_) => env!("CARGO_PKG_VERSION"),
+    None => concat!(env!("CARGO_PKG_VERSION"), " (not proved)"),
+};
+
 pub mod acknowledge;
 pub mod alarms;
 pub mod bit;
@@ -37,6 +49,8 @@ pub mod pipe;
 pub mod readers;
 pub mod recording;
 pub mod recovery;
+pub mod room;
+pub mod row;
 pub mod serial;
 pub mod settings;
 pub mod setup_text;

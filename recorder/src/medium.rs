@@ -44,6 +44,9 @@ fn is_mark(path: &Path) -> bool {
 }
 
 pub struct Medium {
+    /// its place among those of the settings, from 0
+    pub place: usize,
+    pub volume: String,
     path: PathBuf,
     blocks: usize,
     directory: usize,
@@ -75,12 +78,15 @@ impl Refusal {
 }
 
 impl Medium {
-    pub fn new(settings: &Settings) -> Medium {
+    /// The one at a place among those of the settings.
+    pub fn at(settings: &Settings, place: usize) -> Medium {
         Medium {
-            path: settings.medium.clone(),
+            place,
+            volume: settings.volume_at(place),
+            path: settings.media[place].clone(),
             blocks: settings.blocks,
             directory: settings.directory,
-            script: settings.script.clone(),
+            script: settings.script_at(place),
             opened: None,
             gone: Seldom::default(),
             ahead: 0,
@@ -194,20 +200,31 @@ impl Medium {
         }
     }
 
-    /// Writes an empty directory, as a block device needs it once. A medium that has a directory is left as it is.
-    pub fn format(&self) -> Result<(), Refusal> {
+    /// Writes an empty directory, as a block device needs it once. A medium that has a directory is left as it is; so is one with
+    /// something else in its front, unless that is to go by force. What went so.
+    pub fn format(&self, force: bool) -> Result<Option<String>, Refusal> {
         let disk = self.take()?;
         let mut recorder = Recorder::open(disk.into(), ROOM, &self.script).map_err(|it| Refusal::Wrong(it.0.to_string()))?;
-        if recorder.mount() != Err(Error::BAD_DIRECTORY) {
-            return Err(Refusal::Wrong(format!(
-                "the medium {} has a recorder's directory already: to empty it, start the service and give .ERASE",
-                self.name()
-            )));
-        }
-        if self.has_letters()? {
-            return Err(self.does_not_fit());
-        }
-        if self.has_others()? {
+        // (nothing of a mount is on the disk before it is settled)
+        let gone = match recorder.mount() {
+            Ok(()) if force => Some(files_of(&mut recorder).map_err(|it| Refusal::Failed(it.to_string()))?),
+            Err(Error::BAD_DIRECTORY) if self.has_letters()? => Some(
+                "a directory that does not fit these settings, or is damaged; `ch10 rescue` finds recordings without one"
+                    .to_string(),
+            ),
+            Err(Error::BAD_DIRECTORY) if self.has_others()? => Some(format!("something else in its first {} KiB", FRONT >> 10)),
+            Err(Error::BAD_DIRECTORY) => None,
+            _ => {
+                return Err(Refusal::Wrong(format!(
+                    "the medium {} has a recorder's directory already: to empty it, start the service and give .ERASE",
+                    self.name()
+                )));
+            }
+        };
+        if gone.is_some() && !force {
+            if self.has_letters()? {
+                return Err(self.does_not_fit());
+            }
             return Err(Refusal::Wrong(format!(
                 "the medium {} has something else in its first {} KiB, as a table of partitions or files: nothing is written over it; \
                  if nobody wants it, wipe it first: `dd if=/dev/zero of=MEDIUM bs={}K count=1 conv=notrunc,fsync`",
@@ -218,7 +235,8 @@ impl Medium {
         }
         let region = recorder.close();
         let mut recorder = Recorder::format(region, ROOM, &self.script).map_err(|it| Refusal::Wrong(it.0.to_string()))?;
-        recorder.settle().map_err(|it| Refusal::Failed(format!("the medium {} cannot be written: {it}", self.name())))
+        self.settle(&mut recorder)?;
+        Ok(gone)
     }
 
     /// Whether block 1 begins as a directory does, whatever follows.
@@ -353,12 +371,37 @@ impl Medium {
         })
     }
 
-    /// Opens a recorder over the medium and mounts it. The directory is read plainly first: a block of a mapping that cannot be
-    /// read ends a program.
+    /// The files that it has, of which none is there where nothing has its path yet. Nothing is written to it.
+    pub fn look(&self) -> Result<Vec<r10::File>, Refusal> {
+        if self.path.symlink_metadata().is_err() && !self.is_of_devices() {
+            return Ok(Vec::new());
+        }
+        self.mounted()?.files().map_err(|it| Refusal::Failed(format!("the medium {} cannot be read: {it}", self.name())))
+    }
+
+    /// Opens a recorder over the medium and mounts it.
     pub fn mount(&self) -> Result<Recorder, Refusal> {
+        let mut recorder = self.mounted()?;
+        let start = Instant::now();
+        self.settle(&mut recorder)?;
+        info!(
+            "medium {}: mounted; to write its directory and sync took {:.1} ms",
+            self.name(),
+            start.elapsed().as_secs_f64() * 1e3
+        );
+        Ok(recorder)
+    }
+
+    /// The medium's blocks, of which the directory was read plainly: a block of a mapping that cannot be read ends a program.
+    fn region(&self) -> Result<Region, Refusal> {
         let region = Region::from(self.take()?);
         self.read_by(0..1 + self.directory as u64, |bytes, at| region.read_plainly(bytes, at))?;
-        let mut recorder = Recorder::open(region, ROOM, &self.script)
+        Ok(region)
+    }
+
+    /// Opens a recorder and mounts it, without a write yet.
+    fn mounted(&self) -> Result<Recorder, Refusal> {
+        let mut recorder = Recorder::open(self.region()?, ROOM, &self.script)
             .map_err(|(error, _)| Refusal::Wrong(format!("the recorder cannot be opened: {error}")))?;
         match recorder.mount() {
             Ok(()) => (),
@@ -371,14 +414,22 @@ impl Medium {
             }
             Err(error) => return Err(Refusal::Failed(format!("the medium {} cannot be mounted: {error}", self.name()))),
         }
-        let start = Instant::now();
-        recorder.settle().map_err(|it| Refusal::Failed(format!("the medium {} cannot be written: {it}", self.name())))?;
-        info!(
-            "medium {}: mounted; to write its directory and sync took {:.1} ms",
-            self.name(),
-            start.elapsed().as_secs_f64() * 1e3
-        );
         Ok(recorder)
+    }
+
+    /// Closes the entry of the last file, which was left open, as it is: unread, and no byte of it changes. Opens a recorder and mounts
+    /// it then.
+    pub fn set_aside(&self) -> Result<Recorder, Refusal> {
+        let (mut recorder, _) = Recorder::set_aside(self.region()?, ROOM, &self.script)
+            .map_err(|(error, _)| Refusal::Failed(format!("the last file cannot be set aside: {error}")))?;
+        self.settle(&mut recorder)?;
+        recorder.mount().map_err(|it| Refusal::Failed(format!("the medium {} cannot be mounted: {it}", self.name())))?;
+        self.settle(&mut recorder)?;
+        Ok(recorder)
+    }
+
+    fn settle(&self, recorder: &mut Recorder) -> Result<(), Refusal> {
+        recorder.settle().map_err(|it| Refusal::Failed(format!("the medium {} cannot be written: {it}", self.name())))
     }
 
     /// The first block of a file, by the blocks of those before it.
@@ -392,9 +443,20 @@ impl Medium {
         self.read_by(blocks, |bytes, at| recorder.read_plainly(bytes, at))
     }
 
+    /// The same up to a moment, if one is given: it is an error where blocks are left then.
+    pub fn read_until(&self, recorder: &Recorder, blocks: Range<u64>, until: Option<Instant>) -> Result<(), Refusal> {
+        self.read_by(blocks, |bytes, at| match until {
+            Some(until) if Instant::now() > until => Err(io::ErrorKind::TimedOut.into()),
+            _ => recorder.read_plainly(bytes, at),
+        })
+    }
+
     fn read_by(&self, blocks: Range<u64>, read: impl Fn(&mut [u8], u64) -> io::Result<()>) -> Result<(), Refusal> {
         match first_unreadable(blocks.start * 512..blocks.end.min(self.blocks as u64) * 512, read) {
             None => Ok(()),
+            Some((_, error)) if error.kind() == io::ErrorKind::TimedOut => {
+                Err(Refusal::Failed("to read it takes too long".to_string()))
+            }
             Some((block, error)) => Err(Refusal::Failed(format!(
                 "block {block} of the medium {} cannot be read: {error}; record on another disk, and copy this one with ddrescue",
                 self.name()
@@ -405,6 +467,17 @@ impl Medium {
     pub fn path(&self) -> &Path {
         &self.path
     }
+}
+
+/// The files of a mounted medium in words.
+fn files_of(recorder: &mut Recorder) -> Result<String, Error> {
+    let files = recorder.files()?;
+    let names: Vec<String> = files.iter().map(|it| printed(&it.name)).collect();
+    let bytes: u64 = files.iter().map(|it| it.size).sum();
+    Ok(match files.len() {
+        0 => "a directory without files".to_string(),
+        count => format!("a directory of {count} files with {bytes} bytes: {}", names.join(", ")),
+    })
 }
 
 /// What a disk with sectors of so many bytes may do to blocks of 512.
@@ -452,6 +525,8 @@ mod tests {
     #[test]
     fn a_path_with_an_end_of_a_line_does_not_end_an_answer() {
         let medium = Medium {
+            place: 0,
+            volume: "V".to_string(),
             path: "a\n*\nb".into(),
             blocks: 99,
             directory: 1,

@@ -35,7 +35,7 @@ enum Is {
 
 const WHOLE: [(&str, &str, Is, &str); 9] = [
     ("files", "files", Is::Gauge, "Files on the medium."),
-    ("free", "free_bytes", Is::Gauge, "Bytes of the medium that no file has, or that are left for the one that is recorded."),
+    ("free", "free_bytes", Is::Gauge, "Bytes of the media that no file has, or that are left for the one that is recorded."),
     ("commits", "commits_total", Is::Counter, "Commits."),
     ("failures", "disk_failures_total", Is::Counter, "Failures of the disk."),
     ("clock_steps", "clock_steps_total", Is::Counter, "Steps of the system's clock."),
@@ -96,10 +96,21 @@ fn of(value: &Value) -> prometheus::Result<String> {
     let registry = Registry::new();
     let one = |name: &str, help: &str, is: Is, value: f64| add(&registry, name, help, is, &[], &[(Vec::new(), value)]);
     let number = |it: &Value| it.as_f64().unwrap_or(0.0);
-    one("recording", "Whether a file is recorded.", Is::Gauge, f64::from(u8::from(value["state"] == "recording")))?;
+    one(
+        "recording",
+        "Whether it records, also where its file begins with the first message.",
+        Is::Gauge,
+        f64::from(u8::from(value["state"] == "recording")),
+    )?;
     for (key, name, is, help) in WHOLE {
         one(name, help, is, number(&value[key]))?;
     }
+    let medium = &value["medium"];
+    let text = |key: &str| medium[key].as_str().unwrap_or("").to_string();
+    let labels = vec![medium["number"].to_string(), text("volume"), text("path")];
+    let help = "The medium in use: its number, volume and path.";
+    add(&registry, "medium", help, Is::Gauge, &["number", "volume", "path"], &[(labels, 1.0)])?;
+    one("media_left", "Media after the one in use that have no file.", Is::Gauge, number(&medium["left"]))?;
     one("commit_age_seconds", "How long ago the last commit was.", Is::Gauge, number(&value["commit_age_ms"]) / 1e3)?;
     one(
         "standing_age_seconds",
@@ -170,6 +181,7 @@ mod tests {
     #[test]
     fn figures_become_lines() {
         let value = serde_json::json!({ "state": "recording", "free": 512, "commit_age_ms": 1500,
+            "medium": { "number": 2, "of": 3, "volume": "V-002", "path": "/m", "left": 1 },
             "clock": { "synchronised": true, "error_ns": 1500 },
             "alarms": [{ "alarm": "silent", "channel": 5, "text": "x" }],
             "channels": [{ "id": 5, "name": "GPS \"1\"\n", "came": 7, "lost": 2, "lost_by": { "disk": 2 }, "last": { "age_ms": 2000 } }] });
@@ -177,6 +189,8 @@ mod tests {
         for line in [
             "r10_recording 1",
             "r10_free_bytes 512",
+            "r10_medium{number=\"2\",path=\"/m\",volume=\"V-002\"} 1",
+            "r10_media_left 1",
             "r10_commit_age_seconds 1.5",
             "r10_clock_synchronised 1",
             "r10_clock_error_seconds 0.0000015",
@@ -190,6 +204,6 @@ mod tests {
         ] {
             assert!(text.lines().any(|it| it == line), "{line} in\n{text}");
         }
-        assert_eq!(text.lines().filter(|it| it.starts_with("# TYPE")).count(), 1 + 2 + 2 + WHOLE.len() + OF_CHANNELS.len() + 3);
+        assert_eq!(text.lines().filter(|it| it.starts_with("# TYPE")).count(), 1 + 2 + 2 + 2 + WHOLE.len() + OF_CHANNELS.len() + 3);
     }
 }

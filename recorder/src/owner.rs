@@ -24,11 +24,12 @@ use crate::medium::{Medium, Refusal};
 use crate::notes::{self, Board, Line, Notes};
 use crate::readers::Reader;
 use crate::recording::Ended;
+use crate::row::{First, Row};
 use crate::settings::{self, Begin, Log, Settings};
 use crate::standing::Shared;
 use crate::stop::{Base, End};
 use crate::words::Point;
-use crate::{warning, watchdog};
+use crate::{room, warning, watchdog};
 
 /// What stops the thread in what it does.
 #[derive(Debug)]
@@ -68,7 +69,7 @@ impl State {
     pub fn word(self) -> &'static str {
         match self {
             State::Idle => "idle",
-            State::Recording => "recording",
+            State::Ready | State::Recording => "recording",
             State::Full => "full",
             State::Failed(Some(_)) => "retrying",
             State::Failed(None) => "failed",
@@ -80,6 +81,8 @@ impl State {
 #[derive(Clone, Copy, Debug, PartialEq, Eq)]
 pub enum State {
     Idle,
+    /// it records, and its file begins with the first message, event or note
+    Ready,
     Recording,
     /// it recorded, and there is no room for more
     Full,
@@ -174,6 +177,7 @@ pub struct Owner {
     pub settings: Settings,
     pub(crate) counter: Counter,
     pub medium: Medium,
+    pub(crate) row: Row,
     pub recorder: Option<Recorder>,
     pub state: State,
     /// those of the settings' channels, and then that of the log channel where there is one
@@ -181,24 +185,14 @@ pub struct Owner {
     pub(crate) notes: Option<Notes>,
     pub(crate) intake: Intake,
     pub(crate) commands: Receiver<Command>,
-    pub ending: Arc<AtomicBool>,
-    /// up to when a stop takes what came, as the inputs know it
-    pub(crate) moment: Moment,
-    /// while a stop drains the queues: what arrived after this count has passed
-    pub(crate) limit: Option<u64>,
-    /// what comes out of the queues is left out, as a stop's time is over
-    pub(crate) leaves: bool,
-    /// while a stop goes on: how many that came before it are in no file
-    pub(crate) stopping: Option<u64>,
+    pub(crate) stop: Stopping,
     pub(crate) losses_logged: Instant,
     pub point: Point,
     pub readers: Vec<Reader>,
     pub live: Live,
     pub(crate) acknowledge: Option<Acknowledge>,
     pub file: Option<Current>,
-    pub(crate) ticked: Instant,
-    /// the count of the last tick
-    pub(crate) ticked_count: u64,
+    pub(crate) ticked: Ticked,
     /// by feature, which bits of its health are critical
     pub(crate) critical: Vec<u32>,
     pub(crate) wish: Wish,
@@ -206,6 +200,26 @@ pub struct Owner {
     pub failures: Failures,
     pub commits: Commits,
     pub(crate) shared: Arc<Shared>,
+}
+
+/// How far a stop is, and whether the service is to end.
+pub(crate) struct Stopping {
+    /// the service is to end
+    pub(crate) ending: Arc<AtomicBool>,
+    /// up to when a stop takes what came, as the inputs know it
+    pub(crate) moment: Moment,
+    /// while a stop drains the queues: what arrived after this count has passed
+    pub(crate) limit: Option<u64>,
+    /// what comes out of the queues is left out, as a stop's time is over
+    pub(crate) leaves: bool,
+    /// while a stop goes on: how many that came before it are in no file
+    pub(crate) missed: Option<u64>,
+}
+
+/// The last tick: when, and its count.
+pub(crate) struct Ticked {
+    pub(crate) at: Instant,
+    pub(crate) count: u64,
 }
 
 /// What ties the recorder's thread to the others.
@@ -243,7 +257,8 @@ impl Owner {
         clock.start(&settings)?;
         Ok(Owner {
             clock,
-            medium: Medium::new(&settings),
+            medium: Medium::at(&settings, 0),
+            row: Row::default(),
             lanes,
             notes,
             live: Live::new(settings.publish)?,
@@ -257,17 +272,12 @@ impl Owner {
             state: State::Failed(None),
             intake: Intake::default(),
             commands,
-            ending,
-            moment,
-            limit: None,
-            leaves: false,
-            stopping: None,
+            stop: Stopping { ending, moment, limit: None, leaves: false, missed: None },
             losses_logged: Instant::now(),
             point: Point::default(),
             readers: Vec::new(),
             file: None,
-            ticked: Instant::now(),
-            ticked_count: 0,
+            ticked: Ticked { at: Instant::now(), count: 0 },
             critical,
             wish: Wish::default(),
             failures: Failures::default(),
@@ -279,14 +289,12 @@ impl Owner {
     /// Takes up the medium at the start of the service, and says whether a recording begins by itself. Only a medium that another
     /// program has, or that cannot be made, is no start.
     pub fn begin(&mut self) -> Result<bool, Refusal> {
-        self.medium.make()?;
-        self.medium.describe();
         let look = self.clock.look();
         let found = self.clock.judge(&look.pair);
-        let goes_on = self.medium.goes_on();
+        let First { opened, goes_on } = self.open_first()?;
+        room::say(&self.settings);
         let begins = |was_cut: bool, begin: Begin| begin == Begin::Record || begin == Begin::Resume && (was_cut || goes_on);
-        let opened = self.open();
-        let (version, sum) = (env!("CARGO_PKG_VERSION"), self.settings.sum.clone());
+        let (version, sum) = (crate::VERSION, self.settings.sum.clone());
         let id = self.settings.log.id().unwrap_or(0);
         self.log_for_sure(Line::new("start").with("version", version).with("settings", sum).with("log", id));
         self.log_clock(&found);
@@ -313,7 +321,7 @@ impl Owner {
             let done = self.turn();
             self.mind(done);
             self.put_up();
-            if self.ending.load(Relaxed) {
+            if self.stop.ending.load(Relaxed) {
                 return self.end();
             }
         }
@@ -350,9 +358,13 @@ impl Owner {
         if self.losses_logged.elapsed() >= Duration::from_secs(1) {
             self.log_losses();
         }
+        self.go_on_next()?;
+        if self.wish.begins || self.waiting() > 0 {
+            self.begin_file()?;
+        }
         self.write_lines()?;
         let now = Instant::now();
-        if self.recorder.is_some() && now >= self.ticked + Duration::from_secs(1) {
+        if self.recorder.is_some() && now >= self.ticked.at + Duration::from_secs(1) {
             self.tick()?;
         }
         if self.state == State::Recording {
@@ -377,7 +389,7 @@ impl Owner {
         let now = Instant::now();
         let mut until = now + Duration::from_millis(250);
         if self.recorder.is_some() {
-            until = until.min(self.ticked + Duration::from_secs(1));
+            until = until.min(self.ticked.at + Duration::from_secs(1));
         }
         if self.state == State::Recording
             && let Some(due) = self.commits.due(self.settings.commit)
@@ -455,7 +467,7 @@ impl Owner {
             self.lanes[place].pool += causes;
         }
         while let Some(item) = self.intake.item() {
-            if self.limit.is_some_and(|it| item.arrived > it) {
+            if self.stop.limit.is_some_and(|it| item.arrived > it) {
                 self.pass(item);
             } else {
                 self.offer(item)?;
@@ -484,20 +496,23 @@ impl Owner {
 
     fn offer(&mut self, item: Item) -> Result<(), Trouble> {
         let place = item.place as usize;
-        // a lane that is full is pumped first, which may meet trouble: until then nothing is changed, so that the message can be
-        // offered again
-        let is_recording = self.state == State::Recording && !self.leaves;
+        // a file is begun for it, and a lane that is full is pumped first. Both may meet trouble: until then nothing is changed, so that
+        // the message can be offered again
+        if !self.stop.leaves {
+            self.begin_file()?;
+        }
+        let is_recording = self.state == State::Recording && !self.stop.leaves;
         if is_recording && self.lanes[place].waiting >= self.lanes[place].channel.capacity {
             self.pump(place)?;
             // (a stop commits once, at its end)
-            if self.limit.is_none() && self.commits.age() >= self.settings.commit / 4 {
+            if self.stop.limit.is_none() && self.commits.age() >= self.settings.commit / 4 {
                 self.commit()?;
             }
         }
         self.never_came(place, item.lost);
         self.lanes[place].came_in += 1;
-        if self.leaves && self.loses() {
-            self.stopping = self.stopping.map(|it| it + 1);
+        if self.stop.leaves && self.loses() {
+            self.stop.missed = self.stop.missed.map(|it| it + 1);
         }
         let bytes = self.intake.bytes();
         let lane = &mut self.lanes[place];
@@ -537,7 +552,7 @@ impl Owner {
 
     /// Whether what is in no file is lost: a file is recorded, or is to be.
     fn loses(&self) -> bool {
-        matches!(self.state, State::Recording | State::Full) || self.wish.wants
+        matches!(self.state, State::Ready | State::Recording | State::Full) || self.wish.wants
     }
 
     /// So many messages of a channel were lost before they came to this thread.
@@ -556,6 +571,8 @@ impl Owner {
         lane.causes += causes;
         lane.lost += count;
         lane.untold += count;
+        // (a file that is recorded says so itself)
+        self.wish.begins |= self.state != State::Recording;
         let (id, lost) = (lane.channel.id, lane.lost);
         lane.seldom.warn(|| format!("channel {id}: {count} messages were lost, {lost} since the start"));
     }
@@ -594,11 +611,16 @@ mod tests {
     impl Alone {
         /// One with a message channel whose lane holds so many, while a file is recorded.
         fn recording(name: &str, blocks: usize, capacity: usize) -> Alone {
+            Alone::with_media(name, "[\"medium\"]", blocks, capacity)
+        }
+
+        /// The same with several media in a row.
+        fn with_media(name: &str, media: &str, blocks: usize, capacity: usize) -> Alone {
             let folder = std::env::temp_dir().join(format!("r10d-{name}-{capacity}-{}", std::process::id()));
             let _ = std::fs::remove_dir_all(&folder);
             std::fs::create_dir(&folder).unwrap();
             let text = format!(
-                "medium = \"medium\"\nblocks = {blocks}\ndirectory = 8\nvolume = \"V\"\nstart = \"wait\"\n[control]\nsocket = \"c\"\n\
+                "media = {media}\nblocks = {blocks}\ndirectory = 8\nvolume = \"V\"\nstart = \"wait\"\n[control]\nsocket = \"c\"\n\
                  [[channel]]\nid = 5\nkind = \"message\"\ncapacity = {capacity}\nbytes = 4096\nnumber = 50\n"
             );
             let (counter, came) = (Counter::new(), Arc::new(Came::default()));
@@ -613,6 +635,28 @@ mod tests {
             let mut it = Alone { owner, feed, folder };
             assert_eq!(it.ask(".RECORD"), "");
             it
+        }
+
+        /// One that records by itself, and has no file yet. Its lane holds 64.
+        fn ready(name: &str, media: &str, blocks: usize) -> Alone {
+            let mut it = Alone::with_media(name, media, blocks, 64);
+            assert_eq!((it.ask(".STOP"), it.ask(".ERASE")), (String::new(), String::new()));
+            it.owner.settings.begin = Begin::Record;
+            it.owner.resume();
+            it
+        }
+
+        /// The counts of the entries of a channel, in the first file.
+        fn counts_of(&mut self, channel: u16) -> Vec<u64> {
+            let recorder = self.owner.recorder().unwrap();
+            let cursor = recorder.cursor(0, &[channel], ALL_COUNTS).unwrap();
+            recorder.advance(cursor).unwrap();
+            let mut found = Vec::new();
+            while let Some(entry) = recorder.next(cursor).unwrap() {
+                found.push(entry.count);
+            }
+            recorder.close_cursor(cursor).unwrap();
+            found
         }
 
         /// So many messages come, and are not taken in yet.
@@ -820,6 +864,110 @@ mod tests {
         assert_eq!(states, ["state=failed", "state=well"]);
     }
 
+    /// Starts and stops without a message take no place in the directory, which has 32 here; nor do failures of the disk.
+    #[test]
+    fn what_is_silent_takes_no_file() {
+        let mut it = Alone::ready("silent", "[\"medium\"]", 3000);
+        it.owner.settings.tries = 1000;
+        let files = |it: &mut Alone| it.owner.recorder().unwrap().files().unwrap().len();
+        for _ in 0..300 {
+            assert_eq!((it.owner.state, it.owner.wish.wants, it.owner.medium.goes_on()), (State::Ready, true, true));
+            assert!(it.ask(".STATUS").starts_with("S 05 ") && it.ask(".ERASE").starts_with("E 02"));
+            assert_eq!((it.ask(".STOP"), it.owner.state, it.owner.medium.goes_on()), (String::new(), State::Idle, false));
+            it.owner.resume();
+        }
+        for _ in 0..300 {
+            it.owner.fail("it was made to");
+            it.owner.retry();
+            assert_eq!(it.owner.state, State::Ready);
+        }
+        assert_eq!(files(&mut it), 0);
+        // one that was cut off by a failure is told of, once: at the stop
+        it.comes(2);
+        it.takes_in();
+        it.owner.commit().unwrap();
+        for _ in 0..300 {
+            it.owner.fail("it was made to");
+            it.owner.retry();
+        }
+        assert_eq!((it.owner.state, files(&mut it), it.lines("total").len()), (State::Ready, 1, 0));
+        assert_eq!((it.ask(".STOP"), files(&mut it)), (String::new(), 2));
+        assert!(it.lines("total")[0].ends_with("came=2 recorded=2 lost=0 after=0 waiting=0 carried=0 passed=0"));
+        assert_eq!((it.counts(), it.entries(5)), ((2, 0, 0, 0), vec![2, 0]));
+    }
+
+    /// A message, an event, a note and a loss begin a file each, and so does `.RECORD`, with its name; a clock and a command do not.
+    #[test]
+    fn what_comes_first_begins_the_file() {
+        type First = fn(&mut Alone) -> String;
+        let message: First = |it| {
+            it.comes(1);
+            it.takes_in();
+            String::new()
+        };
+        let loss: First = |it| {
+            it.feed.lost(0, Cause::System, 7);
+            it.feed.flush();
+            it.takes_in();
+            String::new()
+        };
+        let all: [(&str, First, &str); 5] = [
+            ("message", message, "came=1 recorded=1 lost=0"),
+            ("loss", loss, "came=0 recorded=0 lost=0 after=7"),
+            ("event", |it| it.ask(".EVENT 7"), "came=0 recorded=0 lost=0"),
+            ("note", |it| it.ask(".NOTE all well"), "came=0 recorded=0 lost=0"),
+            ("record", |it| it.ask(".RECORD FLT9"), "came=0 recorded=0 lost=0"),
+        ];
+        for (name, first, wanted) in all {
+            let mut it = Alone::ready(name, "[\"medium\"]", 3000);
+            assert!(it.ask(".EVENT 4096").starts_with("E 01") && it.ask(".NOTE").starts_with("E 01"));
+            assert!(it.ask(".RECORD A/B").starts_with("E 01") && it.ask(".DISMOUNT").starts_with("E 02"));
+            it.owner.log(Line::new("info").with("text", "a line"));
+            it.owner.tick().unwrap();
+            it.owner.turn().unwrap();
+            assert_eq!((it.owner.state, it.owner.wish.wants, it.owner.medium.goes_on()), (State::Ready, true, true), "{name}");
+            assert_eq!((first(&mut it), it.owner.recorder().unwrap().files().unwrap().len() < 2), (String::new(), true), "{name}");
+            it.owner.turn().unwrap();
+            assert_eq!(it.owner.state, State::Recording, "{name}");
+            let file = it.owner.recorder().unwrap().files().unwrap().pop().unwrap();
+            assert_eq!((file.name == "FLT9", it.ask(".STOP")), (name == "record", String::new()));
+            let total = it.lines("total").pop().unwrap();
+            assert!(total.contains(wanted), "{name}: {total}, wanted {wanted}");
+            assert_eq!((it.lines("note").len(), it.entries(2)[0]), (usize::from(name == "note"), usize::from(name == "event")));
+            // what waited for the file has the count at which it begins, and a message its own, after that of its first time
+            let (times, first_of) = (it.counts_of(1), it.counts_of(5));
+            assert!(first_of.iter().all(|it| *it >= times[0]), "{name}: {times:?} {first_of:?}");
+        }
+    }
+
+    /// After a medium that failed the next one has no file before something comes.
+    #[test]
+    fn a_next_medium_has_no_file_before_a_message() {
+        let mut it = Alone::ready("row", "[\"one\", \"two\", \"three\"]", 3000);
+        it.comes(1);
+        it.takes_in();
+        // (the first medium fails for good)
+        it.owner.commit().unwrap();
+        assert!(it.owner.leave_failed("it was made to"));
+        assert_eq!((it.owner.state, it.owner.medium.place), (State::Ready, 1));
+        assert_eq!((it.owner.recorder().unwrap().files().unwrap().len(), it.owner.medium.goes_on()), (0, true));
+        it.comes(3);
+        it.takes_in();
+        assert_eq!((it.owner.state, it.ask(".STOP"), it.entries(5)), (State::Recording, String::new(), vec![3]));
+        assert_eq!((it.counts(), it.owner.medium.place), ((4, 0, 0, 0), 1));
+    }
+
+    /// A medium that has no room for a file is full at once, and not when a message comes.
+    #[test]
+    fn a_full_medium_is_found_without_a_message() {
+        let mut it = Alone::ready("no-room", "[\"medium\"]", 3000);
+        for _ in 0..32 {
+            assert_eq!((it.ask(".RECORD"), it.ask(".STOP")), (String::new(), String::new()));
+        }
+        it.owner.resume();
+        assert_eq!((it.owner.state, it.owner.medium.goes_on()), (State::Full, true));
+    }
+
     /// Lines of the log are nothing for which a file is begun or ended.
     #[test]
     fn lines_are_no_messages() {
@@ -914,6 +1062,70 @@ mod tests {
         assert_eq!((it.ask(".STOP"), it.owner.state, it.owner.medium.goes_on()), (String::new(), State::Idle, false));
         assert!(it.ask(".STATUS").starts_with(&format!("S 01 {warnings} 0 ")));
         assert_eq!((it.ask(".ERASE"), it.ask(".RECORD"), it.ask(".EVENT 1")), (String::new(), String::new(), String::new()));
+    }
+
+    /// At the end of a medium what waits goes on to the next one, each message after the losses before it; and so do losses that no
+    /// message follows yet. Nothing of it is counted twice.
+    #[test]
+    fn a_seam_hands_on_what_waits_and_what_was_lost() {
+        let mut it = Alone::with_media("seam", "[\"one\", \"two\"]", 1500, 5_000);
+        let (mut came, mut lost) = (0, 0);
+        while it.owner.medium.place == 0 {
+            it.comes(40);
+            // (one that is refused: the recorder was given the losses before it, and has no message for them)
+            it.feed.lost(0, Cause::Line, 3);
+            it.feed.message(0, 0, HEAD, &[7; 5000]);
+            (came, lost) = (came + 40, lost + 4);
+            it.feed.flush();
+            it.takes_in();
+            if came % 400 == 0 {
+                let done = it.owner.commit();
+                it.owner.mind(done);
+            }
+        }
+        assert_eq!((it.owner.state, it.owner.medium.volume.as_str(), it.owner.row.left()), (State::Recording, "V-002", 0));
+        // those that were lost last stand before the next one that comes
+        it.comes(1);
+        assert_eq!((it.ask(".STOP"), it.counts()), (String::new(), (came + 1, lost, 0, 0)));
+        let mut found = Vec::new();
+        let (two, one) = (it.owner.recorder.take(), Medium::at(&it.owner.settings, 0).mount());
+        for mut recorder in one.into_iter().chain(two) {
+            for file in 0..recorder.files().unwrap().len() {
+                let cursor = recorder.cursor(file, &[5], ALL_COUNTS).unwrap();
+                recorder.advance(cursor).unwrap();
+                while let Some(entry) = recorder.next(cursor).unwrap() {
+                    found.push((entry.count, entry.gap));
+                }
+                recorder.close_cursor(cursor).unwrap();
+            }
+        }
+        assert!(found.windows(2).all(|it| it[0].0 < it[1].0), "{} messages are not in order", found.len());
+        let of_gaps = found.iter().map(|it| if let r10::Gap::Lost(lost) = it.1 { lost } else { 0 });
+        assert_eq!((found.len() as u64, of_gaps.clone().sum::<u64>(), of_gaps.max()), (came + 1, lost, Some(4)));
+    }
+
+    /// A medium takes about as many messages as a line says at the start: so many are in a packet as come for a commit.
+    #[test]
+    fn a_medium_takes_what_is_said() {
+        for (blocks, number, length) in [(3000, 50, 60), (1000, 4, 60), (3000, 50, 300)] {
+            let mut it = Alone::recording("room", blocks, 5_000 + length);
+            it.owner.settings.commit = Duration::from_hours(1);
+            let takes = room::takes(Kind::Message, length as u64);
+            while matches!(it.owner.state, State::Ready | State::Recording) {
+                for _ in 0..number {
+                    it.feed.message(0, 0, HEAD, &vec![7; length]);
+                }
+                it.feed.flush();
+                it.takes_in();
+                let done = it.owner.commit();
+                it.owner.mind(done);
+            }
+            let (durable, said) = (it.owner.lanes[0].durable, room::room(blocks, 8, &takes));
+            assert!(said.contains(&durable), "{durable} messages of {length}, and {said:?}");
+            let each = takes.start() + (takes.end() - takes.start()) / number;
+            let wanted = *room::room(blocks, 8, &(each..=each)).end();
+            assert!((wanted * 9 / 10..=wanted * 11 / 10).contains(&durable), "{durable} messages of {length}, and {wanted}");
+        }
     }
 
     /// An event that has no room in the file comes into the next one, until the medium is full.

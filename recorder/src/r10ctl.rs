@@ -16,7 +16,7 @@ use serde_json::{Value, json};
 #[derive(Parser)]
 #[command(
     name = "r10ctl",
-    version,
+    version = r10_recorder::VERSION,
     about = "Asks and controls a recorder: r10ctl status, record FLT1, watch, follow 5.",
     after_help = words_in_lines()
 )]
@@ -231,9 +231,16 @@ fn of_line(word: &str, line: &str) -> Value {
             "state": number(state), "name": state_name(state), "warnings": number(warnings), "critical": number(critical),
             "used_percent": number(used.trim_end_matches('%')),
         }),
-        ("files", [file, name, block, bytes, state, date, begin, end]) => {
-            json!({ "file": number(file), "name": name, "block": number(block), "bytes": number(bytes),
-            "closed": *state == "closed", "date": date, "begin": begin, "end": end })
+        ("files", [file, name, block, bytes, state, date, begin, end, volume @ ..]) => {
+            let mut it = json!({ "file": number(file), "name": name, "block": number(block), "bytes": number(bytes),
+            "closed": *state == "closed", "date": date, "begin": begin, "end": end });
+            if let [volume] = volume {
+                it["volume"] = (*volume).into();
+            }
+            it
+        }
+        ("media", ["MEDIUM", place, volume, state, ..]) if parts.len() > 4 => {
+            json!({ "medium": number(place), "volume": volume, "state": state, "path": parts[4..].join(" ") })
         }
         ("media", ["MEDIA", size, used, left]) => {
             json!({ "block_bytes": number(size), "used_blocks": number(used), "left_blocks": number(left) })
@@ -326,13 +333,21 @@ fn drawn(it: &Value, before: Option<(f64, &Value)>) -> String {
     let number = |value: &Value| value.as_u64().unwrap_or(0);
     let mib = |bytes: u64| format!("{:.1} MiB", bytes as f64 / 1_048_576.0);
     let file = match &it["file"] {
+        Value::Null if it["state"] == "recording" => ", no file before the first message".to_string(),
         Value::Null => String::new(),
         file => {
             format!(", file {} {} of {}", number(&file["number"]), file["name"].as_str().unwrap_or(""), mib(number(&file["bytes"])))
         }
     };
+    let medium = match &it["medium"] {
+        row if number(&row["of"]) > 1 => {
+            let volume = row["volume"].as_str().unwrap_or("");
+            format!(", medium {volume}, {} of {}, {} more have no file", number(&row["number"]), row["of"], number(&row["left"]))
+        }
+        _ => String::new(),
+    };
     let mut out = format!(
-        "{}{file}; {} free of {}\n",
+        "{}{file}{medium}; {} free of {}\n",
         it["state"].as_str().unwrap_or("?").to_uppercase(),
         mib(number(&it["free"])),
         mib(number(&it["medium_bytes"]))
@@ -416,6 +431,15 @@ mod tests {
             "begin": "12:34:56.78", "end": "-" })
         );
         assert_eq!(of_line("health", "0 80000001 a b"), json!({ "feature": 0, "bits": 0x8000_0001u32, "text": "a b" }));
+        assert_eq!(
+            of_line("media", "MEDIUM 2 V-002 next /a b/m"),
+            json!({ "medium": 2, "volume": "V-002", "state": "next", "path": "/a b/m" })
+        );
+        let file = |more: &str| of_line("files", &format!("1 F 9 512 closed 2026-12-01 12:00:00.00 -{more}"));
+        assert_eq!(
+            (&file(" V-002")["volume"], &file("")["volume"], &file("")["end"]),
+            (&json!("V-002"), &Value::Null, &json!("-"))
+        );
         assert_eq!(of_line("medium", "/a b/m 99 2"), json!({ "path": "/a b/m", "blocks": 99, "directory": 2 }));
         assert_eq!(
             of_entry("entry 5 7 1+ message 0 1 3 -"),
@@ -435,7 +459,7 @@ mod tests {
                            "last_count": 9, "last_length": 2, "last_bytes": "4142" }] })
         };
         let text = drawn(&figures(300), Some((2.0, &figures(100))));
-        assert!(text.starts_with("RECORDING; 1.0 MiB free of 2.0 MiB\n"), "{text}");
+        assert!(text.starts_with("RECORDING, no file before the first message; 1.0 MiB free of 2.0 MiB\n"), "{text}");
         assert!(text.contains("\nclock NOT IN SYNC (the kernel), error not known, steered by -3.2 ppm\n"), "{text}");
         assert!(
             text.contains("    5 GPS          message         100     100.0          300        3        0  2 bytes 4142\n"),

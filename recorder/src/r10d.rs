@@ -31,7 +31,7 @@ use signal_hook::iterator::Signals;
 #[derive(Parser)]
 #[command(
     name = "r10d",
-    version,
+    version = r10_recorder::VERSION,
     about = "Records live inputs as IRIG 106 chapter 10 files on a disk, and can be watched and controlled meanwhile (r10ctl).",
     after_help = "SIGTERM and SIGINT end the file, and then the service. SIGHUP reads the settings anew: names of channels, limits and alarms are taken,
 and the log says what wants a restart.
@@ -48,6 +48,9 @@ struct Words {
     /// Writes an empty directory to a medium that has none, as a new block device, and ends
     #[arg(long)]
     format: bool,
+    /// With --format: also over a directory or something else, and says what went
+    #[arg(long, requires = "format")]
+    force: bool,
 }
 
 /// Statuses: 0 all went well, 2 the settings are wrong, 3 the service cannot start, 4 it ended with a file that is not closed, 5 what
@@ -82,13 +85,18 @@ fn main() -> ExitCode {
         };
     }
     if words.format {
-        return match Medium::new(&settings).format() {
-            Ok(()) => ExitCode::SUCCESS,
-            Err(refusal) => {
-                complain(refusal.text());
-                NO_START.into()
+        let mut status = ExitCode::SUCCESS;
+        for place in 0..settings.media.len() {
+            let medium = Medium::at(&settings, place);
+            match medium.format(words.force) {
+                Ok(gone) => gone.iter().for_each(|it| complain(&format!("the medium {} had {it}; it is empty now", medium.name()))),
+                Err(refusal) => {
+                    complain(refusal.text());
+                    status = NO_START.into();
+                }
             }
-        };
+        }
+        return status;
     }
     let status = match serve(settings) {
         Ok(End::Well) => ExitCode::SUCCESS,
@@ -189,7 +197,7 @@ fn serve(settings: Settings) -> Result<End, String> {
         .map_err(|it| it.to_string())?;
     info!(
         "r10d {} is ready: {} channels, control at {}",
-        env!("CARGO_PKG_VERSION"),
+        r10_recorder::VERSION,
         settings.channels.len(),
         settings.socket.display()
     );

@@ -130,19 +130,16 @@ impl Owner {
         Ok(false)
     }
 
-    /// The disk failed: who follows goes on with the next file, and hears so; a replay ends.
-    pub(crate) fn interrupt_readers(&mut self) {
+    /// The disk failed, or the recording goes on on another medium: who follows goes on with the next file, and hears why; a replay ends.
+    pub(crate) fn interrupt_readers(&mut self, why: &str) {
         self.readers.retain_mut(|it| match &mut it.what {
             What::Follow { cursor, .. } => {
                 // (the recorder is gone, and its cursors with it)
                 *cursor = None;
-                it.give(
-                    "skipped: the disk failed; what became durable meanwhile is in the files, and the next one follows\n"
-                        .to_string(),
-                )
+                it.give(format!("skipped: {why}; what became durable meanwhile is in the files, and the next one follows\n"))
             }
             What::Replay { .. } => {
-                it.give(words::No::Failed("the disk failed; give .FIND and .REPLAY again".to_string()).line());
+                it.give(words::No::Failed(format!("{why}; give .FIND and .REPLAY again")).line());
                 false
             }
         });

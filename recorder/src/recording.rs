@@ -17,12 +17,16 @@ const PUMPED: usize = 4 << 20;
 /// Operations that may wait before the disk does them.
 const OPERATIONS: usize = 8192;
 /// Blocks that are read plainly at a time before they are written: a mapped one that cannot be read would end the process.
-const AHEAD: u64 = 8 << 11;
+pub(crate) const AHEAD: u64 = 8 << 11;
 
 /// What an entry may need in a file beside its bytes, at most.
 const ENTRY: u64 = 128;
 /// Bytes that are kept in a file for the totals of a channel, and for what else its end has to say.
 const TOTAL: u64 = 512;
+/// Where a medium has less room than this beside the setup text, a file is begun at once: so a full one is known before a message comes.
+const FRONT: u64 = 64 << 10;
+/// Files of a block of the directory.
+const ENTRIES: usize = 4;
 
 /// Why a file ends, or is to.
 #[derive(Clone, Copy, Debug, PartialEq, Eq)]
@@ -121,13 +125,16 @@ impl Owner {
         self.commits.done();
         for (place, lane) in self.lanes.iter_mut().enumerate() {
             let count = lane.pending.len() - lane.waiting.min(lane.pending.len());
-            lane.pending.drain(..count).for_each(|it| self.commits.times.add(now.saturating_sub(it.count)));
+            let durable = lane.pending.drain(..count);
             lane.durable += count as u64;
             lane.durable_in_file += count as u64;
+            // (lines of the log did not come in: how long one waited says nothing of messages)
             if let Some(notes) = self.notes.as_mut().filter(|it| it.place == place) {
+                drop(durable);
                 notes.are_durable(count);
                 continue;
             }
+            durable.for_each(|it| self.commits.times.add(now.saturating_sub(it.count)));
             if count > 0
                 && let (Some(to), Some(Current { number, .. })) = (&mut self.acknowledge, &self.file)
             {
@@ -141,8 +148,8 @@ impl Owner {
 
     pub(crate) fn tick(&mut self) -> Result<(), Trouble> {
         let look = self.clock.look();
-        self.ticked_count = look.count;
-        self.ticked = Instant::now();
+        self.ticked.count = look.count;
+        self.ticked.at = Instant::now();
         self.recorder()?.tick(look.count, &look.civil)?;
         // (a time that has no room in the file comes again at the begin of the next one: so it is looked at for a step after it)
         let found = self.clock.judge(&look.pair);
@@ -198,6 +205,7 @@ impl Owner {
         let mut done = self.recorder()?.event(number, count);
         if done == Err(Error::MEDIUM_FULL) {
             self.next_file(Ended::Full)?;
+            self.begin_file()?;
             if self.state == State::Recording {
                 count = self.count();
                 done = self.recorder()?.event(number, count);
@@ -212,11 +220,45 @@ impl Owner {
         Ok(())
     }
 
+    /// Records from now on. The file begins with the first message, event or note, so that a start without one takes no place in the
+    /// directory: at once where messages wait, or some were lost, or where there is little room.
+    pub(crate) fn record_on(&mut self) -> Result<(), Trouble> {
+        let files = self.recorder()?.files()?.len();
+        let has_room = files < ENTRIES * self.settings.directory
+            && self.recorder()?.status()?.free >= self.settings.setup.len() as u64 + FRONT;
+        if self.waiting() > 0 || self.wish.begins || !has_room {
+            return self.start(None);
+        }
+        self.tick()?;
+        self.medium.keep(true);
+        (self.state, self.wish.wants) = (State::Ready, true);
+        if let Some(it) = &mut self.file {
+            it.is_ended = true;
+        }
+        let text = format!("file {}: recording, from the first message, event or note on", files + 1);
+        info!("{text}");
+        let _ = sd_notify::notify(false, &[sd_notify::NotifyState::Status(&text)]);
+        self.open_ahead();
+        Ok(())
+    }
+
+    /// Begins the file for which something is there now. Where there is no room for one, nothing is recorded until an erase.
+    pub(crate) fn begin_file(&mut self) -> Result<(), Trouble> {
+        while self.state == State::Ready {
+            match self.start(None) {
+                Err(Trouble::Full(error)) => self.has_no_room(error)?,
+                other => other?,
+            }
+        }
+        Ok(())
+    }
+
     /// Begins a file. One without a name gets the settings' and the time.
     pub fn start(&mut self, name: Option<&str>) -> Result<(), Trouble> {
         let done = self.start_by(name);
         // where the disk fails in it, it is begun again
         self.wish.wants = matches!(done, Ok(()) | Err(Trouble::Failed(_)));
+        self.wish.begins = matches!(done, Err(Trouble::Failed(_)));
         if !self.wish.wants {
             self.medium.keep(false);
         }
@@ -224,7 +266,10 @@ impl Owner {
     }
 
     pub(crate) fn start_by(&mut self, name: Option<&str>) -> Result<(), Trouble> {
-        self.tick()?;
+        // (what came just now is not before the file's first time, where that is known)
+        if self.state != State::Ready {
+            self.tick()?;
+        }
         let files = self.recorder()?.files()?;
         let first = self.medium.first_block(&files);
         self.read_plainly(first..first + AHEAD)?;
@@ -240,18 +285,25 @@ impl Owner {
         info!("{text}");
         let (number, id) = (files.len() + 1, self.settings.log.id().unwrap_or(0));
         let line = Line::new("file").with("number", number).with("name", &name).with("log", id);
+        let is_row = self.settings.media.len() > 1;
+        let line = if is_row { line.with("volume", &self.medium.volume).with("path", self.medium.name()) } else { line };
         let line = self.with_clock(line);
         self.log(line);
         let _ = sd_notify::notify(false, &[sd_notify::NotifyState::Status(&text)]);
-        self.file = Some(Current::new(files.len(), name, self.ticked_count));
+        self.file = Some(Current::new(files.len(), name, self.ticked.count));
         self.live.begin();
         if let Some(to) = &mut self.acknowledge {
             to.begin();
+            if is_row {
+                to.medium(self.medium.place, &self.medium.volume);
+            }
         }
         self.state = State::Recording;
+        self.wish.owes = false;
         self.commits.has_more();
         self.lanes.iter_mut().for_each(|it| it.durable_in_file = 0);
         self.log_before();
+        self.open_ahead();
         Ok(())
     }
 
@@ -299,6 +351,9 @@ impl Owner {
                 return Ok(());
             }
             let begun = if self.has_taken() { self.start(None) } else { Err(Trouble::Full(Error::MEDIUM_FULL)) };
+            if matches!(begun, Err(Trouble::Full(_))) && self.next_medium(None)? {
+                continue;
+            }
             if let Err(Trouble::Full(error)) = begun {
                 warning!("{error}: {left} messages wait in memory; .ERASE and .RECORD take them into a file");
                 return Ok(());
@@ -307,24 +362,27 @@ impl Owner {
         }
     }
 
-    /// Ends the file and begins the next. Where there is no room for one, nothing is recorded until an erase.
+    /// Ends the file, and records on in the next. Where there is no room for one, nothing is recorded until an erase.
     pub(crate) fn next_file(&mut self, why: Ended) -> Result<(), Trouble> {
         if self.state == State::Recording {
             self.stop(why)?;
         }
         let is_all = !self.has_taken() && self.file.is_some() && why == Ended::Full;
-        let begun = if is_all { Err(Trouble::Full(Error::MEDIUM_FULL)) } else { self.start(None) };
+        let begun = if is_all { Err(Trouble::Full(Error::MEDIUM_FULL)) } else { self.record_on() };
         match begun {
-            Err(Trouble::Full(error)) => {
-                self.state = State::Full;
-                self.medium.keep(true);
-                error!(
-                    "{error}: nothing is recorded, and what comes is counted as lost; copy the files, then give .ERASE and .RECORD"
-                );
-                Ok(())
-            }
+            Err(Trouble::Full(error)) => self.has_no_room(error),
             other => other,
         }
+    }
+
+    /// The medium has no room for a file: it goes on on the next one, or nothing is recorded until an erase.
+    pub(crate) fn has_no_room(&mut self, error: Error) -> Result<(), Trouble> {
+        if !self.next_medium(None)? {
+            self.state = State::Full;
+            self.medium.keep(true);
+            error!("{error}: nothing is recorded, and what comes is counted as lost; copy the files, then give .ERASE and .RECORD");
+        }
+        Ok(())
     }
 }
 

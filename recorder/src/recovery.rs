@@ -1,10 +1,12 @@
 //! When the disk fails: the recorder and the mapping go, all is opened again, a file that was cut off is closed, and what is lost
 //! is counted.
+use std::ops::Range;
 use std::time::{Duration, Instant};
 
 use r10::{Content, Error, Recorder};
 
 use crate::clock::{self, COUNTS};
+use crate::keeps::Current;
 use crate::losses::Causes;
 use crate::medium::{Refusal, printed};
 use crate::notes::{self, Line};
@@ -12,6 +14,9 @@ use crate::owner::{Owner, State, Trouble};
 use crate::recording::Ended;
 use crate::settings::Begin;
 use crate::{error, info, warning};
+
+/// How many bytes of a file are judged in a millisecond, on a slow machine under load.
+const JUDGED: u128 = 400_000;
 
 /// Of a channel in a file the count of its last message, and how many it has.
 fn last_of(recorder: &mut Recorder, file: usize, channel: u16) -> Result<Option<(u64, usize)>, Error> {
@@ -38,70 +43,123 @@ fn last_time(recorder: &mut Recorder, file: usize, channel: u16) -> Result<Optio
 }
 
 impl Owner {
-    /// Mounts the medium, and closes a file that was cut off. Whether there was one.
+    /// Mounts the medium, and closes a file that was cut off, or sets it aside. Whether there was one.
     pub(crate) fn open(&mut self) -> Result<bool, Refusal> {
         let failed = |it: Error| Refusal::Failed(it.to_string());
         let mut recorder = self.medium.mount()?;
         self.medium.is_opened();
-        let look = self.clock.look();
-        recorder.tick(look.count, &look.civil).map_err(failed)?;
+        self.tick_now(&mut recorder)?;
         let files = recorder.files().map_err(failed)?;
-        let (start, cut) = (Instant::now(), files.last().filter(|it| !it.closed));
-        // what is closed now, or looked into for messages that were not committed, is read plainly first
-        if let Some(file) = files.last()
-            && (cut.is_some() || self.lanes.iter().any(|it| !it.pending.is_empty()))
-        {
-            let first = self.medium.first_block(&files[..files.len() - 1]);
-            self.medium.read_plainly(&recorder, first..first + file.blocks)?;
-        }
-        if let Some(file) = cut {
-            match recorder.seal() {
-                Ok(()) => (),
-                Err(Error::BAD_FILE) => {
-                    return Err(Refusal::Wrong(format!(
-                        "the last file, {}, was cut off and cannot be closed: it is not as this recorder writes it; \
-                         copy the medium, then record on another one",
-                        printed(&file.name)
-                    )));
-                }
-                Err(error) => return Err(failed(error)),
-            }
-            recorder.settle().map_err(|it| Refusal::Failed(format!("the medium cannot be written: {it}")))?;
-            info!(
-                "file {} {}: it was cut off, and is closed now, {} bytes in {} ms",
-                files.len(),
-                printed(&file.name),
-                file.size,
-                start.elapsed().as_millis()
-            );
-        }
+        let cut = files.last().filter(|it| !it.closed);
         let was_cut = cut.is_some();
+        self.wish.owes |= was_cut;
+        let mut reads = true;
+        if let Some(file) = cut {
+            (recorder, reads) = self.close_cut(recorder, &files, file)?;
+        } else if let Some(file) = files.last()
+            && self.lanes.iter().any(|it| !it.pending.is_empty())
+        {
+            // what is looked into for messages that were not committed is read plainly first
+            let first = self.medium.first_block(&files[..files.len() - 1]);
+            if let Err(refusal) = self.medium.read_plainly(&recorder, first..first + file.blocks) {
+                warning!("{}; what was not committed counts as lost", refusal.text());
+                reads = false;
+            }
+        }
         // (after a failure of the disk the totals say it)
         let is_known = |it: &r10::File| self.file.as_ref().is_some_and(|own| own.number + 1 == files.len() && own.name == it.name);
-        if cut.map_or(self.file.is_none() && self.medium.goes_on(), |it| !is_known(it)) {
-            self.log_cut(&mut recorder, &files, was_cut).map_err(failed)?;
+        let was_kept = self.file.is_none() && !self.failures.was_opened && self.medium.goes_on();
+        if cut.map_or(was_kept, |it| !is_known(it)) {
+            self.log_cut(&mut recorder, &files, was_cut, reads).map_err(failed)?;
         }
         if self.failures.tries() > 0 {
             self.log_disk("well", "");
         }
-        self.account(&mut recorder, &files).map_err(failed)?;
+        self.account(&mut recorder, &files, reads).map_err(failed)?;
         self.recorder = Some(recorder);
         self.state = State::Idle;
+        self.failures.was_opened = true;
         Ok(was_cut)
+    }
+
+    fn tick_now(&mut self, recorder: &mut Recorder) -> Result<(), Refusal> {
+        let look = self.clock.look();
+        recorder.tick(look.count, &look.civil).map_err(|it| Refusal::Failed(it.to_string()))
+    }
+
+    /// Closes a file that was cut off; where that cannot be, it is set aside: its bytes stay, and the next file can begin. Whether it
+    /// can be read.
+    fn close_cut(&mut self, mut recorder: Recorder, files: &[r10::File], file: &r10::File) -> Result<(Recorder, bool), Refusal> {
+        let (start, first) = (Instant::now(), self.medium.first_block(&files[..files.len() - 1]));
+        let (number, name) = (files.len(), printed(&file.name));
+        let Some(why) = self.seal(&mut recorder, first..first + file.blocks)? else {
+            let took = start.elapsed().as_millis();
+            info!("file {number} {name}: it was cut off, and is closed now, {} bytes in {took} ms", file.size);
+            return Ok((recorder, true));
+        };
+        drop(recorder);
+        let mut recorder = self.medium.set_aside()?;
+        self.tick_now(&mut recorder)?;
+        warning!(
+            "file {number} {name}: it was cut off, and cannot be closed: {why}; it is set aside, with its {} bytes from block {first} on as \
+             they are, and recording goes on after it; `ch10 mend` reads them",
+            file.size
+        );
+        self.log_for_sure(Line::new("aside").with("file", number).with("name", name).with("why", why));
+        Ok((recorder, false))
+    }
+
+    /// Closes the last file, whose blocks these are, with its index; or why that cannot be. Where a write fails it is tried again, as the
+    /// disk is, before the file is given up.
+    fn seal(&self, recorder: &mut Recorder, blocks: Range<u64>) -> Result<Option<String>, Refusal> {
+        // half of the time is for reading, and half for judging
+        let half = self.settings.seal_for.map(|it| it / 2);
+        let bytes = 512 * (blocks.end - blocks.start);
+        if half.is_some_and(|it| u128::from(bytes) > JUDGED * it.as_millis()) {
+            return Ok(Some(format!("with {bytes} bytes it would take longer than `seal_seconds`")));
+        }
+        // a block of the mapping that cannot be read would end the service
+        if let Err(refusal) = self.medium.read_until(recorder, blocks, half.map(|it| Instant::now() + it)) {
+            return Ok(Some(refusal.text().to_string()));
+        }
+        match recorder.seal() {
+            Ok(()) => (),
+            Err(Error::BAD_FILE) => {
+                let at = recorder.fault().ok().flatten().map_or(String::new(), |it| format!(", {it}"));
+                return Ok(Some(format!("it is not as this recorder writes it{at}")));
+            }
+            Err(error @ Error::MEDIUM_FULL) => return Ok(Some(error.to_string())),
+            Err(Error::MEDIUM) => return self.is_last_try("the medium cannot be written".to_string()),
+            Err(error) => return Err(Refusal::Failed(error.to_string())),
+        }
+        match recorder.settle() {
+            Ok(()) => Ok(None),
+            Err(it) => self.is_last_try(format!("the medium cannot be written: {it}")),
+        }
+    }
+
+    /// A failure of the disk: the file is given up for it once there is no other try.
+    fn is_last_try(&self, why: String) -> Result<Option<String>, Refusal> {
+        if self.failures.tries() < self.settings.tries { Err(Refusal::Failed(why)) } else { Ok(Some(why)) }
     }
 
     /// What of the messages that waited for a commit, when the recorder failed, is in its file after all: the rest is lost, and
     /// is said so.
-    pub(crate) fn account(&mut self, recorder: &mut Recorder, files: &[r10::File]) -> Result<(), Error> {
-        let file =
-            self.file.as_ref().filter(|it| files.get(it.number).is_some_and(|file| file.name == it.name)).map(|it| it.number);
+    pub(crate) fn account(&mut self, recorder: &mut Recorder, files: &[r10::File], reads: bool) -> Result<(), Error> {
+        let is_its = |it: &&Current| files.get(it.number).is_some_and(|file| file.name == it.name);
+        let mut file = self.file.as_ref().filter(is_its).filter(|_| reads).map(|it| it.number);
         for place in 0..self.lanes.len() {
             let lane = &self.lanes[place];
             let mut is_there = |count: u64| -> Result<bool, Error> {
-                Ok(match file {
-                    Some(file) => recorder.find(file, lane.channel.id, count)?.is_some(),
-                    None => false,
-                })
+                let Some(number) = file else { return Ok(false) };
+                match recorder.find(number, lane.channel.id, count) {
+                    // it is damaged: what was not committed is found nowhere
+                    Err(Error::BAD_FILE) => {
+                        file = None;
+                        Ok(false)
+                    }
+                    other => Ok(other?.is_some()),
+                }
             };
             // what is in the file is a front of what was accepted, and counts rise: so the first that is not there is found by
             // halves
@@ -125,7 +183,7 @@ impl Owner {
                 continue;
             }
             if lost > 0 {
-                self.stopping = self.stopping.map(|it| it + lost as u64);
+                self.stop.missed = self.stop.missed.map(|it| it + lost as u64);
                 self.note_lost(place, Causes { disk: lost as u64, ..Causes::default() });
             }
         }
@@ -144,7 +202,7 @@ impl Owner {
         error!("{why}; what was not committed may be lost; the medium is opened again (try {} of {})", tries, self.settings.tries);
         self.log_disk("failed", why);
         self.recorder = None;
-        self.interrupt_readers();
+        self.interrupt_readers("the disk failed");
         self.state = State::Failed((tries <= self.settings.tries).then(Instant::now));
         if tries > self.settings.tries {
             self.down(&Refusal::Failed(why.to_string()));
@@ -159,15 +217,15 @@ impl Owner {
     }
 
     /// Puts into the log channel that a file was cut off by a kill or a loss of power: what each channel has of it, and how long
-    /// nothing was recorded.
-    fn log_cut(&mut self, recorder: &mut Recorder, files: &[r10::File], was_open: bool) -> Result<(), Error> {
+    /// nothing was recorded. Of one that cannot be read it is not known.
+    fn log_cut(&mut self, recorder: &mut Recorder, files: &[r10::File], was_open: bool, reads: bool) -> Result<(), Error> {
         let Some((number, file)) = files.len().checked_sub(1).and_then(|at| Some((at, files.get(at)?))) else { return Ok(()) };
         let mut found = Vec::new();
-        let ids: Vec<u16> = self.lanes.iter().map(|it| it.channel.id).collect();
+        let ids: Vec<u16> = self.lanes.iter().filter(|_| reads).map(|it| it.channel.id).collect();
         for id in ids {
             found.extend(last_of(recorder, number, id)?.map(|(count, messages)| (id, count, messages)));
         }
-        let time = last_time(recorder, number, self.settings.time)?;
+        let time = if reads { last_time(recorder, number, self.settings.time)? } else { None };
         let newest = found.iter().map(|it| it.1).chain(time.map(|it| it.0)).max();
         let at = |count: u64| time.map(|(base, at)| at + 100 * (i128::from(count) - i128::from(base)));
         let without = newest.and_then(at).map(|it| (clock::now() - it) as f64 / 1e9);
@@ -182,8 +240,11 @@ impl Owner {
     }
 
     pub(crate) fn down(&mut self, refusal: &Refusal) {
-        self.state = State::Failed(None);
         self.recorder = None;
+        if self.wish.wants && self.leave_failed(refusal.text()) {
+            return;
+        }
+        self.state = State::Failed(None);
         self.failures.why = refusal.text().to_string();
         self.log_disk("down", refusal.text());
         error!("recording is down: {}; once that is mended, give .RECORD", refusal.text());
@@ -221,7 +282,7 @@ impl Owner {
         if self.wish.waits.is_some() {
             return;
         }
-        let begun = self.start(None);
+        let begun = self.record_on();
         match begun {
             Err(Trouble::Full(_)) => {
                 let done = self.next_file(Ended::Full);

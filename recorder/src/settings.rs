@@ -120,7 +120,9 @@ pub struct Alarms {
 pub struct Settings {
     /// the file that they are of
     pub file: PathBuf,
-    pub medium: PathBuf,
+    /// the medium, or several in a row
+    pub media: Vec<PathBuf>,
+    /// of each medium
     pub blocks: usize,
     pub directory: usize,
     /// the settings as the text of a script, which the library takes
@@ -133,6 +135,8 @@ pub struct Settings {
     pub tries: u32,
     /// how long a stop takes in what came before it
     pub stop_for: Duration,
+    /// how long the closing of a file that was cut off may take, before that is set aside
+    pub seal_for: Option<Duration>,
     /// the channel of times
     pub time: u16,
     pub clock_event: u16,
@@ -186,19 +190,47 @@ impl Log {
 /// How many lines the log channel's lane has room for.
 pub const LOG_CAPACITY: usize = 1024;
 
+/// The name of a medium of a row, by its place from 0: its volume's, and its file's in a folder.
+fn volume_of(volume: &str, place: usize) -> String {
+    format!("{volume}-{:0DIGITS$}", place + 1)
+}
+
+/// How many blocks a size is, as "8 GiB" or "512 MiB".
+fn blocks_of(size: &str) -> Option<u64> {
+    let (number, unit) = size.trim().split_once(' ')?;
+    let shift = match unit.trim() {
+        "MiB" => 11,
+        "GiB" => 21,
+        _ => return None,
+    };
+    number.parse::<u64>().ok()?.checked_mul(1 << shift)
+}
+
 impl Settings {
+    /// The name of a medium's volume, by its place. The volumes of a row have numbers.
+    pub fn volume_at(&self, place: usize) -> String {
+        if self.media.len() > 1 { volume_of(&self.volume, place) } else { self.volume.clone() }
+    }
+
+    /// The text of a script for a medium, by its place: they differ in the volume alone.
+    pub fn script_at(&self, place: usize) -> String {
+        let line = |it: &str| format!("\nvolume = \"{it}\"\n");
+        self.script.replacen(&line(&self.volume), &line(&self.volume_at(place)), 1)
+    }
+
     /// The keys in which other settings differ that are taken at the start of the service alone. Names of channels, limits of the
     /// recording and all about alarms are taken at once.
     pub fn differ_for_good(&self, other: &Settings) -> Vec<&'static str> {
         let channel = |it: &Channel| (it.id, it.kind.name(), it.capacity, it.input.clone(), it.queue, it.sub, it.source);
         let channels = |it: &Settings| it.channels.iter().map(channel).collect::<Vec<_>>();
         [
-            ("medium", self.medium != other.medium),
+            ("medium or media", self.media != other.media),
             ("blocks, directory, volume, nodes, time, event or a channel's form", self.script != other.script),
             ("setup", self.setup != other.setup),
             ("start", self.begin != other.begin),
             ("prefix", self.prefix != other.prefix),
             ("stop_seconds", self.stop_for != other.stop_for),
+            ("seal_seconds", self.seal_for != other.seal_for),
             ("log", self.log != other.log),
             ("clock_event", self.clock_event != other.clock_event),
             ("wait_for_time", self.wait_for_time != other.wait_for_time),
@@ -237,8 +269,9 @@ impl fmt::Display for Fault {
 #[derive(Deserialize)]
 #[serde(deny_unknown_fields)]
 struct Document {
-    medium: Spanned<PathBuf>,
-    blocks: Spanned<u64>,
+    medium: Option<Spanned<PathBuf>>,
+    media: Option<Spanned<MediaKey>>,
+    blocks: Option<Spanned<u64>>,
     directory: Option<Spanned<u64>>,
     volume: Spanned<String>,
     nodes: Option<Spanned<u64>>,
@@ -251,6 +284,7 @@ struct Document {
     file_minutes: Option<Spanned<u64>>,
     tries: Option<Spanned<u64>>,
     stop_seconds: Option<Spanned<u64>>,
+    seal_seconds: Option<Spanned<u64>>,
     clock_event: Option<Spanned<u64>>,
     wait_for_time: Option<Spanned<u64>>,
     ask_for_time: Option<Vec<Spanned<String>>>,
@@ -268,6 +302,13 @@ struct Document {
     publish: Option<Spanned<String>>,
     log: Option<Spanned<u64>>,
     channel: Vec<ChannelTable>,
+}
+
+#[derive(Deserialize)]
+#[serde(untagged, deny_unknown_fields, expecting = "media: give a list of paths, or { folder = PATH, each = SIZE, keep = NUMBER }")]
+enum MediaKey {
+    List(Vec<PathBuf>),
+    Folder { folder: PathBuf, each: String, keep: u64 },
 }
 
 #[derive(Deserialize)]
@@ -326,6 +367,11 @@ struct InputTable {
 
 /// A recorder has no more channels.
 const MOST_CHANNELS: usize = 64;
+
+/// A row has no more media, and so many digits number them.
+const MOST_MEDIA: usize = 999;
+const DIGITS: usize = 3;
+const MOST_BLOCKS: u64 = 16_777_216;
 
 /// The system takes no longer path of a socket.
 const LONGEST_SOCKET: usize = 107;
@@ -490,8 +536,9 @@ impl Reader<'_> {
 
     fn settings(&mut self, it: Document) -> Settings {
         let directory = self.number_or("directory", &it.directory, 63, 1..=64);
-        let blocks = self.number("blocks", &it.blocks, directory + 2..=16_777_216);
-        let volume = self.word("volume", &it.volume, 32);
+        let (media, blocks) = self.media(&it, directory);
+        // (the number of a medium of a row has room after it)
+        let volume = self.word("volume", &it.volume, if media.len() > 1 { 31 - DIGITS } else { 32 });
         let nodes = self.number_or("nodes", &it.nodes, 1000, 1..=32_765);
         let time = self.number_or("time", &it.time, 1, 1..=65_535);
         let event = self.number_or("event", &it.event, 2, 1..=65_535);
@@ -512,7 +559,7 @@ impl Reader<'_> {
         let mut inputs = BTreeMap::new();
         let channels: Vec<Channel> = it.channel.iter().map(|it| self.channel(it, &mut taken, &mut inputs, &mut script)).collect();
         let log = self.log(&it, &taken, &mut script);
-        self.paths(&it);
+        self.paths(&it, &media);
         let setup = self.setup(&it, log);
         let begin = it.start.as_ref().map_or(Begin::Resume, |at| match at.get_ref().as_str() {
             "record" => Begin::Record,
@@ -563,7 +610,7 @@ impl Reader<'_> {
         }
         Settings {
             file: PathBuf::new(),
-            medium: self.path(it.medium.get_ref()),
+            media,
             blocks: blocks as usize,
             directory: directory as usize,
             script,
@@ -574,6 +621,7 @@ impl Reader<'_> {
             file_for: Duration::from_secs(60 * self.number_or("file_minutes", &it.file_minutes, 60, 1..=1440)),
             tries: self.number_or("tries", &it.tries, 5, 1..=100) as u32,
             stop_for: Duration::from_secs(self.number_or("stop_seconds", &it.stop_seconds, 30, 1..=600)),
+            seal_for: it.seal_seconds.as_ref().map(|at| Duration::from_secs(self.number("seal_seconds", at, 1..=3600))),
             time: time as u16,
             clock_event: self.number_or("clock_event", &it.clock_event, 4095, 0..=4095) as u16,
             wait_for_time: it.wait_for_time.as_ref().map(|at| Duration::from_secs(self.number("wait_for_time", at, 1..=86_400))),
@@ -666,9 +714,53 @@ impl Reader<'_> {
         names.iter().map(|it| it.get_ref().clone()).collect()
     }
 
+    /// The media in their order, and how many blocks each has.
+    fn media(&mut self, it: &Document, directory: u64) -> (Vec<PathBuf>, u64) {
+        let limit = directory + 2..=MOST_BLOCKS;
+        let blocks = it.blocks.as_ref().map(|at| self.number("blocks", at, limit.clone()));
+        let missing = |key: &str, what: &str| Fault { line: 1, text: format!("{key} is missing: give {what}") };
+        let (media, of_each) = match (&it.medium, it.media.as_ref().map(|at| (at, at.get_ref()))) {
+            (Some(at), None) => (vec![self.path(at.get_ref())], None),
+            (None, Some((at, MediaKey::List(paths)))) => {
+                if !(1..=MOST_MEDIA).contains(&paths.len()) {
+                    self.fault(at, format!("media has {} paths: give 1 to {MOST_MEDIA}", paths.len()));
+                }
+                (paths.iter().map(|it| self.path(it)).collect(), None)
+            }
+            (None, Some((at, MediaKey::Folder { folder, each, keep }))) => {
+                if !(1..=MOST_MEDIA as u64).contains(keep) {
+                    self.fault(at, format!("keep = {keep}: give a number from 1 to {MOST_MEDIA}"));
+                }
+                let size = blocks_of(each).filter(|it| limit.contains(it));
+                if size.is_none() {
+                    self.fault(at, format!("each = {each:?}: give a size up to \"8 GiB\", as \"512 MiB\""));
+                }
+                if let Some(at) = &it.blocks {
+                    self.fault(at, "blocks: `each` says how large a medium is; take the key out".to_string());
+                }
+                let name = |place| self.path(folder).join(volume_of(it.volume.get_ref(), place) + ".r10");
+                ((0..(*keep as usize).min(MOST_MEDIA)).map(name).collect(), Some(size.unwrap_or(MOST_BLOCKS)))
+            }
+            (Some(at), Some(_)) => {
+                self.fault(at, "medium: `media` is there too; take one of them out".to_string());
+                (Vec::new(), None)
+            }
+            (None, None) => {
+                self.faults.push(missing("medium", "a path, or `media` for several in a row"));
+                (Vec::new(), None)
+            }
+        };
+        let blocks = of_each.or(blocks).unwrap_or_else(|| {
+            self.faults.push(missing("blocks", "how many of 512 bytes the medium has"));
+            MOST_BLOCKS
+        });
+        (media, blocks)
+    }
+
     /// No two things have one path: what one writes the other would read, or take away.
-    fn paths(&mut self, it: &Document) {
-        let mut named = vec![("medium", &it.medium), ("control.socket", &it.control.socket)];
+    fn paths(&mut self, it: &Document, media: &[PathBuf]) {
+        let mut named: Vec<_> = it.medium.iter().map(|at| ("medium", at)).collect();
+        named.push(("control.socket", &it.control.socket));
         named.extend(it.setup.iter().map(|at| ("setup", at)));
         named.extend(it.acknowledge.iter().map(|at| ("acknowledge", at)));
         named.extend(it.control.token.iter().map(|at| ("control.token", at)));
@@ -678,6 +770,13 @@ impl Reader<'_> {
             named.extend(input.lines.iter().filter(|at| at.get_ref() != Path::new("-")).map(|at| ("lines", at)));
         }
         let mut taken = BTreeMap::new();
+        if let Some(at) = &it.media {
+            for path in media {
+                if taken.insert(path.clone(), "media").is_some() {
+                    self.fault(at, format!("media has {path:?} twice; give each a path of its own"));
+                }
+            }
+        }
         for (key, at) in named {
             let path = self.path(at.get_ref());
             if at.get_ref().as_os_str().is_empty() {
@@ -966,10 +1065,47 @@ input = { udp = \"127.0.0.1:20005\" }
     #[test]
     fn a_short_file_is_taken() {
         let it = read(GOOD, Path::new("/f")).unwrap();
-        assert_eq!((it.medium, it.socket), (PathBuf::from("/f/m"), PathBuf::from("/f/c")));
+        assert_eq!((it.media, it.socket), (vec![PathBuf::from("/f/m")], PathBuf::from("/f/c")));
         assert_eq!((it.commit, it.begin, it.channels.len()), (Duration::from_millis(100), Begin::Resume, 1));
         assert!(it.script.contains("blocks = 4096\ndirectory = 63\n"));
         assert!(it.setup.starts_with(b"G\\PN:VOL;\r\n"));
+    }
+
+    /// A list of media, or a folder that has so many: each has a number in its volume's name.
+    #[test]
+    fn media_in_a_row() {
+        let paths = |it: &[&str]| it.iter().map(PathBuf::from).collect::<Vec<_>>();
+        let with = |line: &str| GOOD.replace("medium = \"m\"", line);
+        let read = |text: &str| read(text, Path::new("/f"));
+        let list = read(&with("media = [\"a\", \"/dev/sdb\"]")).unwrap();
+        assert_eq!(list.media, paths(&["/f/a", "/dev/sdb"]));
+        assert_eq!((list.volume_at(1).as_str(), read(GOOD).unwrap().volume_at(0).as_str()), ("VOL-002", "VOL"));
+        assert!(list.script_at(1).contains("\nvolume = \"VOL-002\"\n") && is_taken(&list.script_at(1)));
+        let folder = "media = { folder = \"d\", each = \"3 MiB\", keep = 2 }";
+        let kept = read(&with(folder).replace("blocks = 4096\n", "")).unwrap();
+        assert_eq!((kept.media, kept.blocks), (paths(&["/f/d/VOL-001.r10", "/f/d/VOL-002.r10"]), 6144));
+        for (line, wanted) in [
+            ("media = []", "line 1: media has 0 paths: give 1 to 999"),
+            ("media = [\"a\", \"a\"]", "line 1: media has \"/f/a\" twice; give each a path of its own"),
+            ("media = [\"c\"]", "line 5: control.socket = \"/f/c\": media has this path; give each a path of its own"),
+            ("medium = \"m\"\nmedia = [\"a\"]", "line 1: medium: `media` is there too; take one of them out"),
+            ("", "line 1: medium is missing: give a path, or `media` for several in a row"),
+            (folder, "line 2: blocks: `each` says how large a medium is; take the key out"),
+        ] {
+            assert_eq!(faults(&with(line))[..], [wanted.to_string()], "{line}");
+        }
+        for each in ["9 GiB", "3", "3 KiB", "0 MiB", "-1 GiB", "99999999999999999999 GiB"] {
+            let text = with(&folder.replace("3 MiB", each)).replace("blocks = 4096\n", "");
+            assert_eq!(faults(&text), [format!("line 1: each = {each:?}: give a size up to \"8 GiB\", as \"512 MiB\"")]);
+        }
+        for line in [
+            "media = 5",
+            "media = { folder = \"d\", keep = 2 }",
+            "media = { folder = \"d\", each = \"3 MiB\", keep = 2, more = 1 }",
+        ] {
+            assert!(faults(&with(line))[0].contains("give a list of paths, or { folder"), "{:?}", faults(&with(line)));
+        }
+        assert!(faults(&GOOD.replace("blocks = 4096\n", ""))[0].contains("blocks is missing"));
     }
 
     /// The log channel has the highest ID that is free, or the one that is given, or is left out; and where there are 64 channels it has

@@ -2,10 +2,11 @@
 //!
 //! A clock is tied to the counter by a pair, which is looked at once a second, and sooner where it no longer holds. A stamp is
 //! taken if its count lies between the time at which nothing was left to be read, and now. Where the clock stepped between the two,
-//! the pair from before the step may be the right one.
+//! the pair from before the step may be the right one. How far a count may be off, where that cannot be known, goes with it.
 use std::convert::Infallible;
 use std::fs::File;
 use std::io;
+use std::ops::RangeInclusive;
 use std::os::fd::AsRawFd;
 use std::path::Path;
 
@@ -46,13 +47,22 @@ pub fn nanos(it: TimeSpec) -> i128 {
     i128::from(it.tv_sec()) * 1_000_000_000 + i128::from(it.tv_nsec())
 }
 
+/// When something came: a count, and how far that may be off, in nanoseconds, where it is not known better.
+#[derive(Clone, Copy, Debug, PartialEq, Eq)]
+pub struct Stamped {
+    pub count: u64,
+    pub off: i128,
+}
+
 /// Stamps of a clock, carried to the counter.
 pub struct Stamps {
     counter: Counter,
     clock: Clock,
     pair: Option<Pair>,
-    /// from before the last step
-    before: Option<Pair>,
+    /// when that pair was last seen to hold, in nanoseconds of the counter
+    held: i128,
+    /// from before the last step, and between which times of the counter that was
+    before: Option<(Pair, RangeInclusive<i128>)>,
     /// the last stamp was carried at this time of the counter, in nanoseconds
     read: i128,
     /// what is read from now on came later than this
@@ -62,7 +72,7 @@ pub struct Stamps {
 impl Stamps {
     /// Of the kernel's stamps, which are times of `CLOCK_REALTIME`.
     pub fn of_system(counter: Counter) -> Stamps {
-        Stamps { counter, clock: Clock::System, pair: None, before: None, read: 0, drained: 0 }
+        Stamps { counter, clock: Clock::System, pair: None, held: 0, before: None, read: 0, drained: 0 }
     }
 
     /// Of a card's own stamps, by its clock's device.
@@ -89,22 +99,46 @@ impl Stamps {
             && age - it.counter < kept
             && (other - age - it.ahead()).abs() < HOLDS
         {
+            self.held = age;
             return;
         }
         let Ok(fresh) = Pair::take(self.counter, || self.clock.now()) else { return };
         if let Some(old) = self.pair.replace(fresh)
             && (old.ahead() - fresh.ahead()).abs() >= HOLDS
         {
-            self.before = Some(old);
+            self.before = Some((old, self.held..=fresh.counter));
         }
+        self.held = fresh.counter;
     }
 
-    /// The count of a stamp, in nanoseconds of its clock. None where it can't be one of what was read just now.
-    pub fn count_of(&mut self, stamp: i128) -> Option<u64> {
+    /// Something is read now, and has a stamp in nanoseconds of the clock: its count. None where it can't be that of what is read.
+    pub fn count_of(&mut self, stamp: i128) -> Option<Stamped> {
+        // (a step since the last look would put the stamp of what came after it wrong; of a card that look takes too long)
+        if matches!(self.clock, Clock::System) {
+            self.look();
+        }
         self.read = self.now();
         let span = self.drained.saturating_sub(SLACK)..=self.read + SLACK;
-        let found = [self.pair, self.before].into_iter().flatten().map(|it| stamp - it.ahead()).find(|it| span.contains(it))?;
-        Some(self.counter.count_of(found))
+        let by = |it: &Pair| Some((stamp - it.ahead(), it.uncertainty)).filter(|(at, _)| span.contains(at));
+        let (mut after, mut before) = (self.pair.as_ref().and_then(by), None);
+        if let Some((old, step)) = &self.before {
+            // what came before the step has a stamp from before it
+            before = by(old).filter(|(at, off)| *at <= step.end() + HOLDS + off);
+            after = after.filter(|(at, off)| at + HOLDS + off >= *step.start());
+        }
+        // where both may be, it is the earlier one: so nothing that came later is put before it
+        let (at, other) = match (after, before) {
+            (Some(one), Some(two)) => (one.min(two), one.max(two)),
+            (one, two) => (one.or(two)?, one.or(two)?),
+        };
+        let off = other.0 - at.0 + at.1.max(other.1);
+        Some(Stamped { count: self.counter.count_of(at.0), off: if off < HOLDS { 0 } else { off } })
+    }
+
+    /// Something is read now, and has no stamp: it came since nothing was left to be read.
+    pub fn unstamped(&mut self) -> Stamped {
+        self.read = self.now();
+        Stamped { count: self.counter.count_of(self.read), off: (self.read - self.drained).max(0) }
     }
 }
 
@@ -185,7 +219,7 @@ mod tests {
         let mut it = Stamps::of_system(counter);
         it.look();
         let now = || counter.nanos_at(std::time::Instant::now());
-        let off = |count: Option<u64>, wanted: i128| (i128::from(count.unwrap()) - i128::from(counter.count_of(wanted))).abs();
+        let off = |it: Option<Stamped>, wanted: i128| (i128::from(it.unwrap().count) - i128::from(counter.count_of(wanted))).abs();
         let (stamp, at) = (clock::now(), now());
         assert!(off(it.count_of(stamp), at) < 10_000, "{:?}", it.count_of(stamp));
         const HOUR: i128 = 3_600_000_000_000;
@@ -201,6 +235,41 @@ mod tests {
         assert!(it.count_of(clock::now()).is_some());
         it.drained();
         assert_eq!((it.count_of(stamp), it.count_of(stamp - HOUR)), (None, None));
+    }
+
+    /// A stamp that may be from before a small step or after it has the earlier count, and says how far that may be off. One that lies
+    /// before the step's span, or after it, has one count.
+    #[test]
+    fn a_stamp_amid_a_step_says_how_far_it_may_be_off() {
+        const MILLI: i128 = 1_000_000;
+        let counter = Counter::new();
+        let mut it = Stamps::of_system(counter);
+        let now = || counter.nanos_at(std::time::Instant::now());
+        for step in [10 * MILLI, -10 * MILLI] {
+            it.look();
+            // as if the clock stepped so by now, within the last 50 ms, and nothing was read for longer
+            let (at, pair) = (now(), it.pair.unwrap());
+            (it.held, it.drained) = (at - 50 * MILLI, at - 100 * MILLI);
+            it.pair = Some(Pair { other: pair.other - step, ..pair });
+            it.look();
+            let ahead = it.pair.unwrap().ahead();
+            for (past, is_known) in [(20, false), (70, true), (-12, true)] {
+                // (the last one comes after the look)
+                std::thread::sleep(std::time::Duration::from_millis(5));
+                let came = at - past * MILLI;
+                let found = it.count_of(came + ahead - if past == 70 { step } else { 0 }).unwrap();
+                let wanted = if is_known { came } else { came.min(came + step) };
+                let far = (i128::from(found.count) - i128::from(counter.count_of(wanted))).abs();
+                assert!(far < 5000, "{step} {past}: {found:?}, {far} off");
+                let off = if is_known { 0 } else { 10 * MILLI };
+                assert!((off..=off + MILLI).contains(&found.off), "{step} {past}: {found:?}");
+            }
+        }
+        std::thread::sleep(std::time::Duration::from_millis(3));
+        let found = it.unstamped();
+        assert!(found.off >= 3 * MILLI, "{found:?}");
+        it.drained();
+        assert!(it.unstamped().off < found.off, "{found:?}");
     }
 
     #[test]

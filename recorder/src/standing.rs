@@ -46,8 +46,13 @@ pub struct Standing {
     /// number from 1, name, bytes, and since when
     pub file: Option<(usize, String, u64, Instant)>,
     pub files: usize,
+    /// of all media: what no file has, and what they have in all
     pub free: u64,
     pub medium_bytes: u64,
+    /// the medium in use: place from 0, volume and path
+    pub medium: (usize, String, String),
+    /// how many media there are, and how many after that one have no file
+    pub media: (usize, usize),
     pub commits: u64,
     pub committed: Instant,
     pub failures: u32,
@@ -74,6 +79,8 @@ impl Standing {
             files: 0,
             free: 0,
             medium_bytes: 0,
+            medium: Default::default(),
+            media: (0, 0),
             commits: 0,
             committed: now,
             failures: 0,
@@ -89,7 +96,7 @@ impl Standing {
 }
 
 /// What of the settings may change while the service runs.
-#[derive(Clone, Debug)]
+#[derive(Clone, Debug, PartialEq, Eq)]
 pub struct Names {
     pub limits: crate::settings::Alarms,
     /// by place: ID, name, kind, and after how long it is silent
@@ -223,7 +230,9 @@ impl Shared {
             standing.events.iter().map(|(number, time, text)| json!({ "number": number, "time": time, "text": text })).collect();
         json!({
             "state": standing.state.word(), "wants": standing.wants, "why": standing.why, "file": file, "files": standing.files,
-            "free": standing.free, "medium_bytes": standing.medium_bytes, "commits": standing.commits,
+            "free": standing.free, "medium_bytes": standing.medium_bytes,
+            "medium": { "number": standing.medium.0 + 1, "of": standing.media.0, "volume": standing.medium.1,
+            "path": standing.medium.2, "left": standing.media.1 }, "commits": standing.commits,
             "commit_age_ms": age(standing.committed), "standing_age_ms": age(standing.at), "failures": standing.failures,
             "clock": standing.clock, "clock_steps": standing.clock_steps, "queued_bytes": standing.queued,
             "datagrams_out": standing.datagrams.0, "datagrams_dropped": standing.datagrams.1, "events": events,
@@ -280,13 +289,15 @@ impl Owner {
             state: self.state,
             wants: self.wish.wants || self.wish.waits.is_some(),
             why: self.failures.why.clone(),
-            file: self.file.as_ref().map(|it| {
+            file: self.file.as_ref().filter(|_| self.state != State::Ready).map(|it| {
                 let size = files.get(it.number).map_or(0, |it| it.size);
                 (it.number + 1, it.name.clone(), size, began(it))
             }),
             files: files.len(),
-            free: if self.state == State::Recording { left } else { after },
-            medium_bytes: self.settings.blocks as u64 * 512,
+            free: if self.state == State::Recording { left } else { after } + self.free_after(),
+            medium_bytes: self.all_bytes(),
+            medium: (self.medium.place, self.medium.volume.clone(), self.medium.name()),
+            media: (self.settings.media.len(), self.row.left()),
             commits: self.commits.count(),
             committed: self.commits.last(),
             failures: self.failures.count(),

@@ -76,16 +76,23 @@ impl Owner {
     /// only passes from then on. How many that came before are in no file.
     pub(crate) fn finish(&mut self, why: Ended, moment: u64) -> Result<u64, Trouble> {
         let until = Instant::now() + self.settings.stop_for;
-        self.stopping = Some(0);
+        self.stop.missed = Some(0);
         if !self.drain(moment, until) {
             self.leave(moment);
         }
         let mut done = Ok(());
-        while self.state == State::Recording {
+        loop {
+            // what was lost without a message, and what was said of a file that was cut off, has to be in a file
+            if self.wish.begins || self.wish.owes {
+                done = self.begin_file();
+            }
+            if done.is_ok() && self.state != State::Recording {
+                break;
+            }
             if why == Ended::WithService {
                 ask_for_time(self.settings.stop_for);
             }
-            done = self.end_recording(why);
+            done = done.and_then(|()| self.end_recording(why));
             let Err(Trouble::Failed(text)) = &done else { break };
             if Instant::now() >= until {
                 break;
@@ -96,15 +103,15 @@ impl Owner {
             self.until_opened(until);
             done = Ok(());
         }
-        let lost = self.stopping.take().unwrap_or(0);
+        let lost = self.stop.missed.take().unwrap_or(0);
         self.log_losses();
-        if !self.ending.load(std::sync::atomic::Ordering::Relaxed) {
-            self.moment.clear();
+        if !self.stop.ending.load(std::sync::atomic::Ordering::Relaxed) {
+            self.stop.moment.clear();
         }
         self.say_totals();
         done?;
         self.medium.keep(false);
-        if matches!(self.state, State::Recording | State::Full) {
+        if matches!(self.state, State::Ready | State::Recording | State::Full) {
             self.state = State::Idle;
         }
         self.wish.wants = false;
@@ -123,7 +130,7 @@ impl Owner {
     /// Takes in all that came up to a moment, and what of it has no room in the file comes into the next one. Whether that is all of it.
     fn drain(&mut self, moment: u64, until: Instant) -> bool {
         let mut past = vec![false; self.intake.outlets.len()];
-        self.limit = Some(moment);
+        self.stop.limit = Some(moment);
         let is_all = loop {
             watchdog::beat();
             // while the disk is tried again what came stays in the queues
@@ -138,7 +145,7 @@ impl Owner {
                 break false;
             }
         };
-        self.limit = None;
+        self.stop.limit = None;
         is_all
     }
 
@@ -162,8 +169,8 @@ impl Owner {
 
     /// What is in the queues still, and came up to a moment, is in no file.
     fn leave(&mut self, moment: u64) {
-        self.limit = Some(moment);
-        self.leaves = true;
+        self.stop.limit = Some(moment);
+        self.stop.leaves = true;
         // (nothing of this needs the disk)
         for at in 0..self.intake.outlets.len() {
             let done = self.offer_taken();
@@ -177,13 +184,13 @@ impl Owner {
                 }
             }
         }
-        self.limit = None;
-        self.leaves = false;
+        self.stop.limit = None;
+        self.stop.leaves = false;
     }
 
     /// Ends the file and the use of the medium.
     pub(crate) fn end(&mut self) -> End {
-        let moment = self.moment.get().unwrap_or_else(|| self.count());
+        let moment = self.stop.moment.get().unwrap_or_else(|| self.count());
         let _ = sd_notify::notify(false, &[sd_notify::NotifyState::Stopping]);
         ask_for_time(self.settings.stop_for);
         if self.state == State::Dismounted {
@@ -257,6 +264,8 @@ impl Owner {
         for place in 0..self.listed().len() {
             let lane = &mut self.lanes[place];
             lane.base = Base { came: lane.came_in, lost: lane.lost, passed: lane.passed };
+            // (after an erase a file may have the number of one that is gone)
+            lane.total_logged = None;
             let (waiting, lost) = (lane.pending.len(), lane.before());
             let told = std::mem::take(&mut lane.after).min(lost);
             if waiting > 0 || lost > 0 {

@@ -15,7 +15,7 @@ use crate::feed::Feed;
 use crate::inputs::{AGAIN, Seldom};
 use crate::losses::Cause;
 use crate::settings::{Channel, Header, Input, Udp};
-use crate::stamps::{Stamps, nanos};
+use crate::stamps::{Stamped, Stamps, nanos};
 use crate::{chapter10, header};
 use crate::{info, warning};
 use std::sync::atomic::Ordering::Relaxed;
@@ -191,11 +191,15 @@ impl Clocks {
         self.card.iter_mut().for_each(Stamps::drained);
     }
 
-    fn count_of(&mut self, kernel: Option<TimeSpec>, card: Option<TimeSpec>) -> Option<u64> {
+    fn count_of(&mut self, kernel: Option<TimeSpec>, card: Option<TimeSpec>) -> Option<Stamped> {
         let of = |stamps: &mut Stamps, it: Option<TimeSpec>| stamps.count_of(it.map(nanos).filter(|it| *it != 0)?);
         let by_card = self.card.as_mut().and_then(|it| of(it, card));
         // (both are asked, so that both know what was read)
         of(&mut self.system, kernel).filter(|_| by_card.is_none()).or(by_card)
+    }
+
+    fn unstamped(&mut self) -> Stamped {
+        self.system.unstamped()
     }
 }
 
@@ -221,6 +225,7 @@ pub fn run(socket: UdpSocket, mut feed: Feed, channels: &[Channel]) {
         if is_empty {
             // what came goes over, and then the thread waits; after a while without any it asks what was dropped
             feed.is_unsure(heard.is_some());
+            feed.say_stamps(&ids);
             feed.waits();
             let most = if heard.is_some() { AFTER } else { SILENCE };
             let found = poll(&mut [PollFd::new(socket.as_raw_fd(), PollFlags::POLLIN)], most.as_millis() as i32);
@@ -273,12 +278,13 @@ pub fn run(socket: UdpSocket, mut feed: Feed, channels: &[Channel]) {
         taken = taken.wrapping_add(1);
         is_empty = false;
         heard = Some(Instant::now());
-        let count = clocks.count_of(kernel, card).unwrap_or_else(|| {
+        let it = clocks.count_of(kernel, card).unwrap_or_else(|| {
             feed.came(0).inspect(|it| _ = it.unstamped.fetch_add(1, Relaxed));
-            feed.counter().count()
+            clocks.unstamped()
         });
-        feed.arrives(count);
-        reader.datagram(&mut feed, channels, from, lost, count, &bytes[..length]);
+        feed.arrives(it.count);
+        feed.may_be_off(it.off);
+        reader.datagram(&mut feed, channels, from, lost, it.count, &bytes[..length]);
     }
 }
 

@@ -171,8 +171,8 @@ impl Owner {
             self.log(Line::new("refused").with("line", &command.line).with("answer", text.trim_end()));
         }
         // (a stop that was refused is none for the inputs)
-        if control::is_stop(&command.line) && !self.ending.load(Relaxed) {
-            self.moment.clear();
+        if control::is_stop(&command.line) && !self.stop.ending.load(Relaxed) {
+            self.stop.moment.clear();
         }
         // who is gone wants no answer
         let _ = command.reply.send(reply);
@@ -235,12 +235,16 @@ impl Owner {
             ".MEDIUM" => format!("{} {} {}\n", self.medium.name(), self.settings.blocks, self.settings.directory),
             ".SHUTDOWN" => {
                 info!("the service was asked to end");
-                self.moment.set(command.count);
-                self.ending.store(true, Relaxed);
+                self.stop.moment.set(command.count);
+                self.stop.ending.store(true, Relaxed);
                 String::new()
             }
             ".PUBLISH" => self.publish(&words)?,
-            ".NOTE" => self.note_of_crew(&words.join(" "), &command.by)?,
+            ".NOTE" => {
+                let text = self.note_of_crew(&words.join(" "), &command.by)?;
+                self.begin_file()?;
+                text
+            }
             _ if self.state == State::Dismounted => return Err(No::NoMedia(self.failures.why.clone()).into()),
             _ if self.recorder.is_none() && word != ".RECORD" => {
                 return Err(
@@ -248,7 +252,7 @@ impl Owner {
                 );
             }
             ".RECORD" => return self.record(&words),
-            ".STOP" if matches!(self.state, State::Recording | State::Full) => {
+            ".STOP" if matches!(self.state, State::Ready | State::Recording | State::Full) => {
                 let lost = self.finish(Ended::ByCommand, command.count)?;
                 if self.recorder.is_none() {
                     return Err(No::Failed("the disk failed, and the file may not be closed; see the log".to_string()).into());
@@ -266,8 +270,8 @@ impl Owner {
                 String::new()
             }
             ".STOP" => return Err(No::Mode("no file is recorded; .RECORD begins one".to_string()).into()),
-            ".ERASE" if self.state == State::Recording => {
-                return Err(No::Mode("a file is recorded; give .STOP first".to_string()).into());
+            ".ERASE" if matches!(self.state, State::Ready | State::Recording) => {
+                return Err(No::Mode("it is recording; give .STOP first".to_string()).into());
             }
             ".ERASE" => {
                 self.medium.keep(false);
@@ -319,7 +323,20 @@ impl Owner {
         if self.wish.waits.is_some() {
             return Ok(Reply::Text(String::new()));
         }
-        self.start(words.first().copied())?;
+        let (name, was_ready) = (words.first().copied(), self.state == State::Ready);
+        let begun = match self.start(name) {
+            Err(Trouble::Full(_)) if self.next_medium(name)? => self.begin_file(),
+            other => other,
+        };
+        // where a name is refused it records on as it did
+        if was_ready && matches!(begun, Err(Trouble::Refused(_))) {
+            self.wish.wants = true;
+            self.medium.keep(true);
+        }
+        if was_ready && matches!(begun, Err(Trouble::Full(_))) {
+            self.next_file(Ended::Full)?;
+        }
+        begun?;
         Ok(Reply::Text(String::new()))
     }
 
@@ -333,8 +350,8 @@ impl Owner {
         let state = match self.state {
             State::Failed(None) => "00",
             State::Failed(Some(_)) => "09",
-            State::Recording if self.is_read() => "07",
-            State::Recording => "05",
+            State::Ready | State::Recording if self.is_read() => "07",
+            State::Ready | State::Recording => "05",
             _ if self.is_read() => "06",
             _ => "01",
         };
@@ -513,7 +530,7 @@ impl Owner {
     fn figures(&mut self) -> Result<String, Trouble> {
         let files = self.recorder.as_mut().map_or(Ok(Vec::new()), r10::Recorder::files)?;
         let left = self.recorder.as_mut().map(r10::Recorder::status).transpose()?.map_or(0, |it| it.free);
-        let free = (self.settings.blocks as u64).saturating_sub(self.medium.first_block(&files)) * 512;
+        let free = (self.settings.blocks as u64).saturating_sub(self.medium.first_block(&files)) * 512 + self.free_after();
         let state = self.state.word();
         self.drop_gone();
         let mut channels = Vec::new();
@@ -550,14 +567,16 @@ impl Owner {
         });
         // times are those since the last question
         let times = std::mem::take(&mut self.commits.times);
-        let file = self
-            .file
-            .as_ref()
-            .map(|it| json!({ "number": it.number + 1, "name": it.name, "bytes": files.get(it.number).map_or(0, |it| it.size) }));
+        let file =
+            self.file.as_ref().filter(|_| self.state != State::Ready).map(
+                |it| json!({ "number": it.number + 1, "name": it.name, "bytes": files.get(it.number).map_or(0, |it| it.size) }),
+            );
         let all = json!({
             "state": state, "why": self.failures.why, "count": self.count(), "file": file, "files": files.len(), "free": free,
             "left_in_file": left,
-            "medium_bytes": self.settings.blocks as u64 * 512, "commits": self.commits.count(), "failures": self.failures.count(),
+            "medium": { "number": self.medium.place + 1, "of": self.settings.media.len(), "volume": self.medium.volume,
+            "path": self.medium.name(), "left": self.row.left() },
+            "medium_bytes": self.all_bytes(), "commits": self.commits.count(), "failures": self.failures.count(),
             "clock_steps": self.clock.steps_seen, "clock": self.clock.value(),
             "queued_bytes": self.intake.queued(), "readers": self.readers.len(), "datagrams_out": self.live.datagrams,
             "datagrams_dropped": self.live.dropped,

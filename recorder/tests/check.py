@@ -3,18 +3,21 @@
 
     check.py PROGRAMS [NAME..]     the trials, or those of these names, with r10d and the examples in a folder
 """
+import collections
 import concurrent.futures
 import pathlib
 import subprocess
 import sys
+import threading
 import time
-from typing import Optional
+from typing import Callable, Optional
 
 import trials_of_alarms
 import trials_of_control
 import trials_of_disks
 import trials_of_inputs
 import trials_of_losses
+import trials_of_media
 import trials_of_page
 import trials_of_service
 import trials_of_time
@@ -26,7 +29,7 @@ TRIALS = {
     name.replace('_', '-'): function
     for module in (
         trials_of_inputs, trials_of_disks, trials_of_service, trials_of_time, trials_of_losses, trials_of_alarms, trials_of_control,
-        trials_of_page,
+        trials_of_page, trials_of_media,
     )
     for name, function in vars(module).items()
     if getattr(function, 'is_trial', False)
@@ -35,10 +38,50 @@ TRIALS = {
 
 LONG_ONES = ('a-day-of-the-page', 'an-hour-of-a-clock', 'disk-failures', 'a-flood', 'power-cuts', 'kills', 'an-overload-and-sums',
              'losses-that-no-message-follows')
-# Trials of times compare them to a tenth of a millisecond. Where another program had the processor they are tried again: what is
-# wrong each time fails.
-TIMED = {name for name, function in TRIALS.items() if function.__module__ == trials_of_time.__name__}
-TRIES = 3
+# Most of the time a trial waits: so some run at the same time.
+SIDE_BY_SIDE = 3
+
+
+def judged(names: list[str], run_once: Callable[[str], Optional[str]], say: Callable[[str], None]) -> list[str]:
+    """Runs trials side by side, and says why some failed. One that fails there is tried alone, after all others have ended, and has
+    to pass twice then. (A trial that passes once in three, by luck, would pass here once in nine.)"""
+    with concurrent.futures.ThreadPoolExecutor(SIDE_BY_SIDE) as pool:
+        found = {name: why for name, why in zip(names, pool.map(run_once, names)) if why}
+    if len(names) == 1:
+        return list(found.values())
+    failed = []
+    for name, why in found.items():
+        say(f'recorder: {name}: failed beside others ({why}); tried alone, twice')
+        if again := run_once(name) or run_once(name):
+            failed.append(again)
+    return failed
+
+
+def judge_the_judge() -> None:
+    """Plants trials that fail each time, beside others alone, and now and then, and sees what becomes of them."""
+    tries: dict[str, int] = collections.Counter()
+    running, most, said = 0, dict[str, int](), list[str]()
+    lock = threading.Lock()
+
+    def run_once(name: str) -> Optional[str]:
+        nonlocal running
+        with lock:
+            running += 1
+            tries[name] += 1
+            number, most[name] = tries[name], running
+        time.sleep(0.01)
+        with lock:
+            running -= 1
+        is_wrong = {'good': False, 'wrong': True, 'beside': number == 1, 'first': number < 3, 'last': number != 2}[name]
+        return f'{name} {number}' if is_wrong else None
+
+    names = ['wrong', 'good', 'beside', 'first', 'last', 'good']
+    failed = judged(names, run_once, said.append)
+    must(failed == ['wrong 2', 'first 2', 'last 3'], f'trials are judged wrongly: {failed}')
+    must(dict(tries) == {'wrong': 2, 'good': 2, 'beside': 3, 'first': 2, 'last': 3}, f'trials are tried {dict(tries)} times')
+    must([it.split(':')[1] for it in said] == [' wrong', ' beside', ' first', ' last'], f'trials are tried again: {said}')
+    must(all(most[it] == 1 for it in ('wrong', 'beside', 'first', 'last')), f'trials are tried again beside others: {most}')
+    must(judged(['wrong'], run_once, said.append) == ['wrong 3'] and len(said) == 4, 'one trial alone is tried again')
 
 
 def main() -> None:
@@ -46,20 +89,12 @@ def main() -> None:
     if unknown := [it for it in names if it not in TRIALS]:
         fault(f'there is no trial {unknown[0]}; the trials are {", ".join(TRIALS)}')
     must(subprocess.run([R10, 'files'], input=b'', capture_output=True).returncode != 127, 'there is no r10')
+    judge_the_judge()
     begin, needs_disk = time.monotonic(), (
         'a-clock-that-steps', 'power-cuts', 'disk-failures', 'a-block-that-cannot-be-read', 'a-disk-that-fails-twice',
         'a-stop-with-a-backlog', 'a-stop-that-is-over', 'a-disk-that-fails-and-sums', 'an-overload-and-sums',
     )
     tidy_up_at_signals()
-
-    def run(name: str) -> Optional[str]:
-        """A trial, again where it compares times and failed: why it failed last."""
-        for left in reversed(range(TRIES if name in TIMED else 1)):
-            why = run_once(name)
-            if why and left:
-                print(f'recorder: {name}: tried again, as {why.splitlines()[0]}', flush=True)
-            else:
-                return why
 
     def run_once(name: str) -> Optional[str]:
         """One trial: why it failed."""
@@ -81,14 +116,9 @@ def main() -> None:
         finally:
             room.close()
 
-    # most of the time a trial waits: so some run at the same time, and those that take long begin first
-    with concurrent.futures.ThreadPoolExecutor(3) as pool:
-        failed = [
-            it
-            for it in pool.map(run, sorted(names, key=lambda it: it not in LONG_ONES))
-            if it
-        ]
-    if failed:
+    # those that take long begin first
+    ordered = sorted(names, key=lambda it: it not in LONG_ONES)
+    if failed := judged(ordered, run_once, lambda it: print(it, flush=True)):
         fault('\n'.join(failed))
     print(f'recorder: {len(names)} trials in {time.monotonic() - begin:.0f} s')
 

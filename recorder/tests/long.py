@@ -9,8 +9,10 @@
     end            the service ends within two seconds of a SIGTERM
     flood          1,000,000 datagrams as fast as they can be sent
     full           a full medium, five times
+    row            200 kills under load at the seams of media in a row, ten rows
     sums           what entries, gaps and log lines have adds up to what was sent: 600,000 datagrams to a service that stands
                    still, stops on a disk whose syncs take 1.5 s, an overload, 30 failures of the disk, a full medium
+    mangled        1,000 media whose last file was cut off and then damaged, or whose directory is at fault
     torn           what a lost sector of 4,096 bytes leaves: nothing of it is promised
 """
 import pathlib
@@ -21,6 +23,7 @@ from typing import Callable
 
 import trials_of_disks as disks
 import trials_of_losses as losses
+import trials_of_media as media
 import trials_of_service as service
 from trying import Room, Wrong, fault, report, tidy_up_at_signals
 
@@ -31,6 +34,7 @@ TRIALS: dict[str, Callable[[Room], str]] = {
     'end': lambda room: service.the_end_and_the_manager(room, 2.0),
     'flood': lambda room: service.a_flood(room, 1_000_000),
     'torn': lambda room: '; '.join(disks.torn_sectors(room, 4, 25, directory) for directory in (63, 8)),
+    'mangled': lambda room: disks.mangled_media(room, 1000),
     'sums': lambda room: '; '.join(
         (room.clear(), run())[1]
         for run in (
@@ -42,6 +46,7 @@ TRIALS: dict[str, Callable[[Room], str]] = {
             lambda: losses.a_full_medium_and_sums(room),
         )
     ),
+    'row': lambda room: '; '.join((room.clear(), media.kills_in_a_row(room, 20, seed))[1] for seed in range(2, 12)),
     'full': lambda room: '; '.join((room.clear(), disks.full_medium(room))[1] for _ in range(5)),
 }
 

@@ -338,6 +338,127 @@ def power_cuts(room: Room, runs: int = 1, places: int = 6, seed: int = 1) -> str
     return f'{runs} runs of {steps} operations, {images} media, {sum_of} acknowledged messages, 0 missing, recorded on from {on}'
 
 
+def cut_medium(room: Room, text: str, ports: list[int]) -> bytes:
+    """A medium with a closed file of 200 messages, and one of 200 that a kill cut off."""
+    service = Service(room, text)
+    for run, names in enumerate((('.STOP', '.RECORD CUT'), ())):
+        room.load(ports, count=200, rate=4000, run=run).wait()
+        service.until_durable(200 * (run + 1))
+        if names:
+            service.ask(*names)
+    service.kill()
+    image = (room.folder / 'medium').read_bytes()
+    must([it[3] for it in files(image)] == ['1', '0'], f'{files(image)}')
+    return image
+
+
+def goes_on(room: Room, text: str, ports: list[int], image: bytes, said: str, within: float = 30.0) -> tuple[bytes, bool]:
+    """The service over a medium whose last file is damaged: it records within some seconds, and what follows is in the next file.
+    What is on the medium then, and whether the damaged file was set aside; if the damage is one that nothing can see, it is closed.
+    Of the bytes that were committed none is another one, in that file and in those before it."""
+    (room.folder / 'medium').write_bytes(image)
+    before, start = files(image), time.monotonic()
+    service = Service(room, text)
+    service.until(lambda it: it['state'] == 'recording', f'{said}: it does not record')
+    took = time.monotonic() - start
+    must(took < within, f'{said}: it records after {took:.1f} s')
+    room.load(ports, count=100, rate=4000, run=9).wait()
+    service.until_durable(100)
+    must(len(service.ask('.FILES')) == len(before) + 1, f'{said}: .FILES has {service.ask(".FILES")}')
+    service.end()
+    is_aside = 'it is set aside' in service.log()
+    # (a damaged directory may say that it was closed)
+    was_closed = before[-1][3] == '1'
+    is_right = is_aside or was_closed or 'is closed now' in service.log()
+    must(is_right, f'{said}: the file is neither closed nor set aside:\n{service.log()}')
+    now = (room.folder / 'medium').read_bytes()
+    end = 512 * (9 + sum(int(it[2]) for it in before[:-1])) + int(before[-1][1])
+    must(now[512 * 9 : end] == image[512 * 9 : end], f'{said}: a byte of a file is another one')
+    same = len(before) if is_aside or was_closed else len(before) - 1
+    must([it[:3] for it in files(now)][:same] == [it[:3] for it in before][:same], f'{said}: the files are {files(now)}')
+    must(len(entries(now, len(before), 5)) == 100, f'{said}: the next file has not what came')
+    return now, is_aside
+
+
+@trial
+def a_damaged_last_file(room: Room) -> str:
+    """A file that was cut off and then damaged is set aside: the service records after it (within three seconds, and on a slow
+    machine ten times that), and no byte of it changes. The system's log and the log channel say so; .FILES, .REPLAY of the file
+    before it, and .ERASE go."""
+    ports = room.ports(1)
+    text = settings(udp_channels(ports))
+    image = cut_medium(room, text, ports)
+    first = 9 + int(files(image)[0][2])
+    chance = random.Random(7)
+    # (bytes of the first header, whose checksum sees each)
+    for place in (0, 7, 15, 22):
+        damaged = bytearray(image)
+        damaged[512 * first + place] ^= 1 << chance.randrange(8)
+        now, is_aside = goes_on(room, text, ports, bytes(damaged), f'byte {place}')
+        must(is_aside, f'byte {place}: it is not set aside')
+        must(r10(['play', '--file', '1'], now)[0] == 1, 'r10 plays a file that was set aside')
+        must(entries(now, 0) == entries(image, 0), 'the file before it is another one')
+        lines = [it for it in log_lines(now, 2) if it.word == 'aside']
+        must([(it.number('file'), it.keys['name']) for it in lines] == [(2, 'CUT')], f'the log channel has {lines}')
+    service = Service(room, text)
+    must('is set aside' not in service.log(), 'it is set aside once more')
+    must(service.ask('.STOP', '.REPLAY 1')[-1] != '' and service.ask('.ERASE', '.FILES') == [], 'it is not erased')
+    service.end()
+    return 'four places of damage'
+
+
+def sector_of_garbage(chance: random.Random, image: bytes, from_byte: int, end: int) -> bytes:
+    at = 4096 * (chance.randrange(from_byte, end) // 4096)
+    return image[:at] + chance.randbytes(4096) + image[at + 4096 :]
+
+
+def mangled_media(room: Room, runs: int, seed: int = 12) -> str:
+    """Media whose last file was cut off and then damaged, or torn: flipped bits, sectors of garbage, and directories at fault. On
+    each with a directory that r10 can read the service records, as above; of each other not one byte changes."""
+    chance = random.Random(seed)
+    ports = room.ports(1)
+    text = settings(udp_channels(ports), blocks=8192)
+    image = cut_medium(room, text, ports)
+    found = files(image)
+    first, end = 512 * (9 + int(found[0][2])), 512 * (9 + int(found[0][2])) + int(found[1][1])
+    read = others = aside = 0
+    for number in range(runs):
+        mangled = bytearray(image)
+        way = number % 10
+        if way < 4:
+            for _ in range(chance.randrange(1, 4)):
+                mangled[chance.randrange(first, end)] ^= 1 << chance.randrange(8)
+        elif way < 7:
+            mangled[:] = sector_of_garbage(chance, image, first, end)
+        elif way < 9:
+            # (what a directory has no use for is left out: zeros after its entries)
+            mangled[512 + chance.randrange(64 + 224)] ^= 1 << chance.randrange(8)
+        else:
+            mangled[:] = sector_of_garbage(chance, image, 0, 4096)
+        mangled_is, said = bytes(mangled), f'medium {number}, seed {seed}'
+        (room.folder / 'medium').write_bytes(mangled_is)
+        (room.folder / 'log').unlink(missing_ok=True)
+        service = Service(room, text)
+        if 'recording is down' in service.log() or not service.ask('.STATUS')[0].startswith('S 05'):
+            service.end(status=None)
+            must('is set aside' not in service.log(), f'{said}: it was set aside, and nothing is recorded:\n{service.log()}')
+            must(way >= 7, f'{said}: nothing is recorded:\n{service.log()}')
+            must((room.folder / 'medium').read_bytes() == mangled_is, f'{said}: a byte is another one')
+            others += 1
+        else:
+            service.end()
+            aside += goes_on(room, text, ports, mangled_is, said)[1]
+            read += 1
+    kept = f'{others} without a directory that fits stay as they were'
+    return f'{runs} media: recorded on from {read}, {aside} after a file that was set aside; {kept}'
+
+
+@trial
+def some_mangled_media(room: Room) -> str:
+    """Of damaged and torn media as many as a gate has time for: see `mangled_media`."""
+    return mangled_media(room, 20)
+
+
 def torn_sectors(room: Room, runs: int, places: int, directory: int, seed: int = 4) -> str:
     """Media after a loss of power on a disk that writes 4,096 bytes at once: the sector of one block that was being written is lost
     whole. What r10 finds on them, and whether the service records on."""
@@ -378,6 +499,7 @@ def torn_sectors(room: Room, runs: int, places: int, directory: int, seed: int =
                 service = Service(room, text)
                 on += service.ask('.STATUS')[0].startswith('S 05')
                 service.end(status=None)
+    must(on == tried, f'the service records on from {on} of {tried} that have a directory')
     return f'directory of {directory} blocks: {found}; the service recorded on from {on} of {tried} that have a directory'
 
 
@@ -433,7 +555,9 @@ def disk_failures(room: Room, each: int = 9) -> str:
     text = settings(udp_channels(ports), blocks=4096, directory=4, commit_ms=10)
     Service(room, text.replace('"record"', '"wait"')).end()
     (room.folder / 'empty').write_bytes((room.folder / 'medium').read_bytes())
-    Service(room, disk={'trail': room.folder / 'trail'}).end()
+    service = Service(room, disk={'trail': room.folder / 'trail'})
+    must(service.ask('.RECORD') == [], 'it does not begin a file at once')
+    service.end()
     clean = len([it for it in Trail(room.folder / 'trail').steps if it[0] != 'A'])
     count, number = 0, 1
     while True:
@@ -553,12 +677,19 @@ def a_block_that_cannot_be_read(room: Room) -> str:
     service.until_durable(2000)
     load.wait()
     service.kill()
-    for block in (3, 60):
-        service = Service(room, disk={'bad': block})
-        service.wait_for('recording is down')
-        must(f'block {block} of the medium' in service.log() and service.ask('.STATUS')[0].startswith('S 00'), service.log())
-        must(service.ask('.RECORD')[0].startswith('E 03'), 'it records')
-        service.end(status=None)
+    service = Service(room, disk={'bad': 3})
+    service.wait_for('recording is down')
+    must('block 3 of the medium' in service.log() and service.ask('.STATUS')[0].startswith('S 00'), service.log())
+    must(service.ask('.RECORD')[0].startswith('E 03'), 'it records')
+    service.end(status=None)
+    # a file that was cut off and cannot be read is set aside
+    kept = {name: (room.folder / name).read_bytes() for name in ('medium', 'lines')}
+    service = Service(room, disk={'bad': 60})
+    service.wait_for(': recording')
+    must('block 60 of the medium' in service.log() and 'it is set aside' in service.log(), service.log())
+    service.end()
+    for name, what in kept.items():
+        (room.folder / name).write_bytes(what)
     service = Service(room)
     must(service.ask('.STATUS')[0].startswith('S 05'), 'with a good disk')
     service.end()
@@ -663,8 +794,8 @@ def block_devices(room: Room) -> str:
     return f'sectors of 512 and of 4,096 bytes, {messages[0]} and {messages[1]} messages'
 
 
-def formats(room: Room) -> 'subprocess.CompletedProcess[str]':
-    words = [str(room.programs / 'r10d'), '--format', 'settings.toml']
+def formats(room: Room, *more: str) -> 'subprocess.CompletedProcess[str]':
+    words = [str(room.programs / 'r10d'), '--format', *more, 'settings.toml']
     return subprocess.run(words, cwd=room.folder, capture_output=True, text=True, timeout=LONG)
 
 
@@ -700,6 +831,42 @@ def what_is_not_the_recorders(room: Room) -> str:
     service.end()
     must((room.folder / 'medium.recording').read_bytes() == kept, 'a file medium.recording is gone')
     return 'nothing is written over'
+
+
+@trial
+def a_format_by_force(room: Room) -> str:
+    """`--format --force` says what it destroys: files by their names, a directory that does not fit, or something else. Without
+    `--force`, and while a service has the medium, nothing is written."""
+    medium, text = room.folder / 'medium', settings(channel(13, 'discrete', 'lines = "pipe"'), start='wait')
+    service = Service(room, text)
+    service.ask('.RECORD FLT1', '.STOP', '.RECORD FLT2', '.STOP')
+    used = formats(room, '--force')
+    must(used.returncode == 3 and 'is used by another program' in used.stderr, f'a medium in use: {used}')
+    service.end()
+    image = medium.read_bytes()
+    sizes = sum(int(it[1]) for it in files(image))
+    damaged = bytearray(image)
+    damaged[512 + 56] ^= 1
+    for what, said in (
+        (image, f'had a directory of 2 files with {sizes} bytes: FLT1, FLT2; it is empty now'),
+        (bytes(damaged), 'had a directory that does not fit these settings, or is damaged; `ch10 rescue` finds'),
+        (b'a thesis\n' * 100 + bytes(len(image) - 900), 'had something else in its first 128 KiB; it is empty now'),
+    ):
+        medium.write_bytes(what)
+        ran = formats(room)
+        must(ran.returncode == 3 and medium.read_bytes() == what, f'without --force: {ran}')
+        ran = formats(room, '--force')
+        must(ran.returncode == 0 and said in ran.stderr, f'{said}: {ran}')
+        now = medium.read_bytes()
+        must(files(now) == [], f'{said}: there are files')
+        must(now[1024:] == what[1024:] and now[:512] == what[:512], f'{said}: another block than that of the directory was written')
+    # nothing is said of a medium that had nothing
+    medium.write_bytes(bytes(len(image)))
+    ran = formats(room, '--force')
+    must(ran.returncode == 0 and ran.stderr == '', f'an empty one: {ran}')
+    ran = subprocess.run([room.programs / 'r10d', '--force', 'settings.toml'], cwd=room.folder, capture_output=True, text=True)
+    must(ran.returncode == 2 and '--format' in ran.stderr, f'--force alone: {ran}')
+    return 'three kinds of content'
 
 
 @trial

@@ -346,8 +346,8 @@ def chapter_6_words(room: Room) -> str:
     ran = subprocess.run([*ctl, 'files\n.ERASE'], capture_output=True)
     must(ran.returncode == 1 and len(ask('.FILES')) == 1, f'two commands in a word: {ran}')
     must(ask('.MEDIUM') == [f"{room.folder / 'medium'} 65536 8"], 'the medium')
-    # the metrics leave the times of messages to who shows them
-    ask('.RECORD', '.FIGURES')
+    # the metrics leave the times of messages to who shows them; lines of the log channel have none
+    ask('.RECORD', '.FIGURES', '.NOTE a line', '.NOTE another line')
     load = room.load([port], count=50, rate=100000)
     until(lambda: 'r10_durable_total{channel="5",name="CH5"} 150\n' in scrape(), 'the metrics do not go on')
     load.wait()
@@ -366,7 +366,8 @@ def live_out(room: Room) -> str:
         it.setsockopt(socket.SOL_SOCKET, socket.SO_RCVBUF, 32 << 20)
         it.bind((HOST, out))
         it.setblocking(False)
-        service = Service(room, settings(udp_channels([port]), publish=f'{HOST}:{out}'))
+        service = Service(room, settings(udp_channels([port]), publish=f'{HOST}:{out}', start='wait'))
+        must(service.ask('.RECORD') == [], 'it does not record')
         late.bind((HOST, joins))
         late.settimeout(LONG)
         service.until(lambda it: it['datagrams_out'] > 2, 'nothing goes out')
@@ -441,7 +442,10 @@ def more_words_of_chapter_6(room: Room) -> str:
     must('R-1\\DSI-2:NAV_1;' in setup and 'B-1\\BT-1:A429;' in setup and by_ctl('tmats', 'read') == setup, f'.TMATS READ: {setup}')
     must(ask('.TMATS VERSION') == ['12'] and ask('.IRIG106') == ['IRIG106 12'] == by_ctl('irig106'), 'the release')
     must([it.split(' ')[:2] for it in ask('.VERSION')] == [['VERSION', 'r10d'], ['VERSION', 'libr10']] , '.VERSION')
-    must(len({it.split(' ')[2] for it in by_ctl('version')}) == 1, 'service and library have two versions')
+    must(len({it.split(' ', 2)[2] for it in by_ctl('version')}) == 1, 'service and library have two versions')
+    for name in ('r10d', 'r10ctl'):
+        said = subprocess.run([room.programs / name, '--version'], capture_output=True, text=True, timeout=30).stdout
+        must([said.strip().split(' ', 1)[1]] == [it.split(' ', 2)[2] for it in by_ctl('version')][:1], f'{name} --version: {said}')
     used = 1 + 8
     must(ask('.MEDIA') == [f'MEDIA 512 {used} {65536 - used}'] == by_ctl('media'), f".MEDIA: {ask('.MEDIA')}")
     must(ask('.CRITICAL') == ['0 C0000000 RECORDER', '1 00000000 NAV;1', '2 00000000 CH6'], f".CRITICAL: {ask('.CRITICAL')}")

@@ -253,7 +253,8 @@ def an_overload_and_sums(room: Room, count: int = 20_000, slow: int = 200_000, b
     service.until(lambda it: sum(at['came'] for at in it['channels']) > count // 4, 'nothing comes')
     service.ask('.STOP')
     service.ask('.RECORD')
-    sent = sent_by(load)
+    # (where this machine sends too slowly for an overload, there is one all the same)
+    sent = overrun(room, service, ports, 6000) + sent_by(load)
     service.until(lambda it: it['queued_bytes'] == 0, 'the queues are not drained')
     service.ask('.STOP')
     service.end()
@@ -352,22 +353,23 @@ def after_a_kill(room: Room) -> str:
     text = settings(udp_channels(ports), start='resume')
     service = Service(room, text)
     service.ask('.RECORD FIRST')
+    # (no message came before this)
+    began = time.monotonic()
     load = room.load(ports, count=400, rate=4000)
     service.until_durable(400)
     load.wait()
     service.kill()
-    stood = time.monotonic()
     time.sleep(1.5)
     service = Service(room, text)
     service.wait_for(': recording')
-    stood = time.monotonic() - stood
+    stood = time.monotonic() - began
     service.end()
     image = (room.folder / 'medium').read_bytes()
     lines = log_lines(image, 1)
     cut, durable = lines[0], {it.number('channel'): it for it in lines if it.word == 'durable'}
     must(cut.word == 'cut' and cut.keys['name'] == 'FIRST' and cut.keys['open'] == 'true', f'the first line is {cut}')
     without = float(cut.keys['without_s'])
-    must(1.4 < without < stood + 2, f'{without} s without recording, {stood:.2f} seen')
+    must(1.4 < without < stood, f'{without} s without recording, {stood:.2f} seen')
     for number in (5, 6):
         found = entries(image, 0, number)
         it = durable[number]

@@ -102,7 +102,7 @@ def the_page_shows_states_and_losses(room: Room) -> str:
     seen = readable(browser, 'idle')
     browser.until('document.getElementById("losses").innerText === "0"', 'nothing is lost')
     service.ask('.RECORD FLT1')
-    browser.until('document.getElementById("state").innerText === "RECORDING"', 'recording', 5)
+    browser.until('document.getElementById("state").innerText === "RECORDING"', 'recording')
     with open(room.folder / 'pipe', 'w') as pipe:
         for number in range(300):
             pipe.write(f'bytes = "{number:08x}"\n')
@@ -329,7 +329,8 @@ def a_day_of_the_page(room: Room) -> str:
 def whom_the_page_answers(room: Room) -> str:
     """Pages of others, names that lead here, commands without the token, other words and silent clients come to nothing."""
     (port, tcp) = room.ports(2)
-    service = served(room, with_page(port, channel(5, 'message', 'lines = "pipe"')))
+    service = served(room, with_page(port, channel(5, 'message', 'lines = "pipe"'), start='wait'))
+    must(service.ask('.RECORD') == [], 'it does not record')
     host = f'Host: {HOST}:{port}\n'
 
     def status(text: str) -> str:
@@ -422,8 +423,8 @@ def events_are_few(room: Room) -> str:
     longest = max(other - at for at, other in zip(times, times[1:]))
     # (what waited for a processor comes together: so a bound of each second would be one of the machine)
     changing = sum(at < begin + 4 for at in times)
-    must(5 <= changing <= 4 * 4 + 2 and len(times) <= 4 * 8 + 2, f'{changing} events in four seconds, {len(times)} in eight')
-    must(longest < 2, f'{longest:.1f} s without an event')
+    must(2 <= changing <= 4 * 4 + 2 and len(times) <= 4 * 8 + 2, f'{changing} events in four seconds, {len(times)} in eight')
+    must(longest < 8, f'{longest:.1f} s without an event')
     service.end()
     return f'{changing} in four seconds of changes, {len(times)} in eight'
 
@@ -472,7 +473,8 @@ def sixteen_slow_pages(room: Room, count: int = 4000, rate: int = 1000, runs: in
                 it.close()
             service.end()
     none, some = sorted(found[0]), sorted(found[16])
-    # runs of one kind lie apart by this; a machine that has other work has more of it
-    apart = max(none[-1] - none[0], some[-1] - some[0], 10.0)
+    # runs of one kind lie apart by this; a machine that has other work has more of it. (Where the recorder's thread waited for a
+    # page, it would be a minute: a kilobyte by 16 bytes, five times a second.)
+    apart = max(none[-1] - none[0], some[-1] - some[0], 1000.0)
     must(some[len(some) // 2] <= none[len(none) // 2] + 2 * apart, f'without pages {none} ms, with sixteen {some} ms')
     return f'of 100 messages the 99th after {none} ms without pages, {some} ms with sixteen'

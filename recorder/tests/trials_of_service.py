@@ -10,9 +10,9 @@ import subprocess
 import sys
 import threading
 import time
-from typing import Optional
+from typing import Any, Optional
 
-from trials_of_losses import sums, system_totals
+from trials_of_losses import log_lines, sums, system_totals
 from trying import (
     HOST,
     LONG,
@@ -311,7 +311,7 @@ def a_file_that_may_not_grow(room: Room) -> str:
         service.ask('.STOP', '.RECORD')
         (room.folder / 'pipe').write_text('states = 3\n')
         service.until_durable(3)
-        until(lambda: (room.folder / 'lines').read_text() == '\ndurable 2 13 1\n', 'what is durable is not written down again')
+        until(lambda: (room.folder / 'lines').read_text() == '\ndurable 1 13 1\n', 'what is durable is not written down again')
         service.end()
     return 'it goes on'
 
@@ -334,9 +334,10 @@ def a_clock_that_steps(room: Room) -> str:
     """A step of the system's clock is an event and a line of the log; counts go on."""
     ports = room.ports(1)
     (room.folder / 'clock').write_text('0')
-    service = Service(room, settings(udp_channels(ports), clock_event=4000), disk={'clock': room.folder / 'clock'})
+    text = settings(udp_channels(ports), clock_event=4000, start='wait')
+    service = Service(room, text, disk={'clock': room.folder / 'clock'})
     # (a recording begins with a look at the clock)
-    service.wait_for(': recording')
+    must(service.ask('.RECORD') == [], 'it does not record')
     (room.folder / 'clock').write_text('3600')
     service.wait_for('clock stepped by +3600')
     (room.folder / 'clock').write_text('-86400')
@@ -384,7 +385,7 @@ def the_end_and_the_manager(room: Room, limit: float = LONG) -> str:
     # (where its terminal goes it records on: SIGHUP reads the settings anew)
     service.child.send_signal(signal.SIGHUP)
     service.wait_for('the settings were read anew')
-    must(service.ask('.STATUS')[0].startswith('S 05'), 'where its terminal goes it does not record on')
+    must(service.ask('.EVENT 1', '.STATUS')[0].startswith('S 05'), 'where its terminal goes it does not record on')
     service.end(signal.SIGINT)
     closed = [it[3] for it in files((room.folder / 'medium').read_bytes())]
     must(closed == ['1', '1'], f'at SIGINT the file is not closed: {closed}')
@@ -437,7 +438,7 @@ def what_goes_out_comes_not_in(room: Room) -> str:
     with socket.socket(socket.AF_INET, socket.SOCK_DGRAM) as it:
         it.settimeout(LONG)
         it.bind(('127.255.255.255', 0))
-        must(service.ask(f'.PUBLISH START 127.255.255.255 {it.getsockname()[1]}') == [], 'it may not go out to all')
+        must(service.ask(f'.PUBLISH START 127.255.255.255 {it.getsockname()[1]}', '.RECORD') == [], 'it may not go out to all')
         must(it.recv(2000)[:1] in (b'\x01', b'\x11'), 'what came is no datagram of format 1')
     figures = service.figures()
     must(figures['datagrams_out'] > 0 and figures['datagrams_dropped'] == 0, f'to all: {figures}')
@@ -491,6 +492,89 @@ def a_network_that_comes_later(room: Room) -> str:
         must(ran in (b'HTT', b'S 0'), f'port {at} answers {ran!r}')
     service.end()
     return 'a channel recorded before, two and both ports after'
+
+
+@trial
+def starts_without_a_message(room: Room, starts: int = 12) -> str:
+    """A start without a message, event or note takes no place in the directory, which has four here, whether it is ended, killed or
+    stopped by a command; it records all the same. The first message is acknowledged, and is in its file after a kill."""
+    (port,) = room.ports(1)
+    text = settings(channel(5, 'message', 'lines = "pipe"'), directory=1, metrics=f'{HOST}:{port}')
+    for number in range(starts):
+        service = Service(room, text)
+        must(service.ask('.STATUS')[0].startswith('S 05'), f'start {number}: it does not record: {service.ask(".STATUS")}')
+        figures = service.figures()
+        must((figures['state'], figures['file']) == ('recording', None), f'start {number}: {figures}')
+        listed = service.ask('.FILES')
+        must(listed == [] and service.ask('.ERASE')[0].startswith('E 02'), f'start {number}: {listed}')
+        if number % 3 == 0:
+            must(service.ask('.STOP', '.STATUS')[0].startswith('S 01'), f'start {number}: it is not stopped')
+        if number % 3 < 2:
+            service.end()
+        else:
+            service.kill()
+
+    def recording() -> bool:
+        with socket.create_connection((HOST, port)) as it:
+            it.sendall(b'GET /metrics HTTP/1.0\r\n\r\n')
+            return '\nr10_recording 1\n' in b''.join(iter(lambda: it.recv(65536), b'')).decode()
+
+    for name, line in (('event', '.EVENT 7 here'), ('note', '.NOTE all well'), ('record', '.RECORD NAMED')):
+        service = Service(room, text)
+        until(recording, 'the metrics do not have it')
+        must(service.ask(line) == [], f'{name}: {service.log()}')
+        service.until(lambda it: it['file'], f'{name}: no file begins')
+        service.end()
+    service = Service(room, text)
+    with open(room.folder / 'pipe', 'w') as pipe:
+        pipe.write('bytes = "41"\n')
+        pipe.flush()
+        until(lambda: 'durable 3 5 1' in (room.folder / 'lines').read_text(), 'the first message is not acknowledged')
+        service.kill()
+    image = (room.folder / 'medium').read_bytes()
+    Service(room, text).end()
+    closed = (room.folder / 'medium').read_bytes()
+    must([it[0] for it in files(image)][2] == 'NAMED' and len(files(closed)) == 4, f'{files(image)}, {files(closed)}')
+    of = [entries(closed, number) for number in range(4)]
+    must([it.words[0] for it in of[0] if it.kind == 'event'] == ['7'], f'{of[0]}')
+    must([it.keys['text'] for it in log_lines(closed, 1) if it.word == 'note'] == ['all well'], f'{log_lines(closed, 1)}')
+    kinds = [it.kind for it in of[3] if it.channel == 5 or it.kind == 'time']
+    message = [it for it in of[3] if it.channel == 5][0]
+    must(kinds[0] == 'time' and (message.words[-1], message.gap) == ('41', '0'), f'{of[3]}')
+    must(message.count >= next(it.count for it in of[3] if it.kind == 'time'), f'{of[3]}')
+    return f'{starts} starts without a file, and four files'
+
+
+@trial
+def a_disk_that_fails_without_messages(room: Room, failures: int = 300) -> str:
+    """A disk that fails again and again where nothing comes takes no place in the directory; the sums are right all the same."""
+    if not room.has_disk:
+        raise NotTried('there is no cc for recorder/tests/disk.c')
+    text = settings(channel(5, 'message', 'lines = "pipe"'), directory=2)
+    service, next_one = Service(room, text, disk={'next': room.folder / 'next'}), room.folder / 'next'
+    with open(room.folder / 'pipe', 'w') as pipe:
+        for number in range(3):
+            pipe.write(f'bytes = "{number:02x}"\n')
+            pipe.flush()
+            service.until_durable(number + 1)
+            before = service.figures()['failures']
+
+            def has_failed(it: dict[str, Any], before: int = before) -> bool:
+                return it['failures'] > before or it['file'] is None
+
+            for _ in range(failures // 3):
+                next_one.touch()
+                service.until(lambda it: it['state'] == 'recording' and has_failed(it), 'no failure')
+                must(len(service.ask('.FILES')) <= number + 1, f"{number}: {service.ask('.FILES')}")
+            service.until(lambda it: it['failures'] > before and it['file'] is None, 'it begins a file without a message')
+            next_one.unlink(missing_ok=True)
+    service.end()
+    image = (room.folder / 'medium').read_bytes()
+    # (the last one has what is said of the one before it)
+    must(len(files(image)) == 4, f'{files(image)}')
+    found = sums(image, [5])[5]
+    must((found.recorded, found.lost) == (3, 0), f'{found}')
+    return f"{len(files(image))} files"
 
 
 @trial

@@ -266,6 +266,7 @@ unsafe extern "C" {
     pub fn r10_version() -> u32;
     pub fn r10_check_script(script: *const u8, script_length: usize, info: *mut r10_script_info, text: *mut u8, text_room: usize) -> u32;
     pub fn r10_format(region: r10_region, room: usize, script: *const u8, script_length: usize, recorder: *mut r10) -> u32;
+    pub fn r10_set_aside(region: r10_region, room: usize, script: *const u8, script_length: usize, recorder: *mut r10, was_open: *mut bool) -> u32;
     pub fn r10_open(region: r10_region, room: usize, script: *const u8, script_length: usize, recorder: *mut r10) -> u32;
     pub fn r10_orders(recorder: *mut r10, run: *mut r10_run_info, bytes: *mut u8, byte_room: usize) -> u32;
     pub fn r10_order(recorder: *mut r10, order: *mut r10_order_info, bytes: *mut u8, byte_room: usize) -> u32;

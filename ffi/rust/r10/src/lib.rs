@@ -250,6 +250,22 @@ impl Recorder {
         Recorder::make(region, script, |at, script, raw| unsafe { sys::r10_format(at, room, script.as_ptr(), script.len(), raw) })
     }
 
+    /// Sets the last file of the medium aside where it was left open, and opens a recorder over it, not mounted; and whether one was.
+    ///
+    /// It is for a file that [`Recorder::seal`] refuses, or that would take too long to read: its directory entry is closed as it is, with
+    /// the bytes that it shows. No byte of the file is read or changed. One block of the directory is written by the next [`Recorder::settle`];
+    /// a loss of power leaves the old list of files or the new one. Reading the file is refused with [`Error::BAD_FILE`] then.
+    ///
+    /// # Errors
+    ///
+    /// [`Error::BAD_DIRECTORY`] where a recorder of the script can't use the directory; and as [`Recorder::open`].
+    pub fn set_aside(region: Region, room: usize, script: &str) -> Result<(Recorder, bool), (Error, Region)> {
+        let mut was_open = false;
+        let recorder =
+            Recorder::make(region, script, |at, script, raw| unsafe { sys::r10_set_aside(at, room, script.as_ptr(), script.len(), raw, &mut was_open) })?;
+        Ok((recorder, was_open))
+    }
+
     /// Closes the recorder, and gives its region back. What was not committed, and operations that were not done, are lost.
     pub fn close(mut self) -> Region {
         unsafe { sys::r10_close(&mut self.raw) };
