@@ -18,6 +18,7 @@
     bodies       what stands in packets' bodies: their entries
     tmats        the setup text: attributes, names of channels and buses
     survey       one pass over a recording: what each channel has, what was passed over, its clocks and setup text
+    own_index, kept    what is known of a recording for a range of time: by its own index, and by the one beside it
     replay       the entries of a recording in order, in parts that stand for themselves
     fields       the columns of entries
     recording    the interface for other programs: files, packets and typed entries of an input
@@ -29,6 +30,10 @@
     setup_units, measured    the same by the setup text, and the measurements of a call
     tables       the interface for programs of analysis: columns of numpy
     table, lines, picture, cuts, index, database, script, exports, values    the commands
+    strict       what r10 writes: entries, packets and the index of a strict file
+    pieces       a recording as packets and holes, in bounded memory
+    new_file     inputs that are opened for reading alone, and files that have no name before they are whole
+    mend, rescue    the commands of these names
     command      the words of a call
 
 Over many recordings, beside the filters:

@@ -6,7 +6,8 @@ from typing import Any
 
 from .standard import Wrong
 
-Array = Any  # of numpy
+Foreign = Any  # what libraries without types give: modules, files, groups, frames
+Array = Foreign  # of numpy
 
 
 class Later:
@@ -15,7 +16,7 @@ class Later:
     def __init__(self, name: str, package: str) -> None:
         self.__dict__.update(_name=name, _package=package)
 
-    def __getattr__(self, name: str) -> Any:
+    def __getattr__(self, name: str) -> Foreign:
         from importlib import import_module
         try:
             found = getattr(import_module(self._name), name)
@@ -25,4 +26,4 @@ class Later:
         return found
 
 
-numpy: Any = Later('numpy', 'python3-numpy')
+numpy: Foreign = Later('numpy', 'python3-numpy')

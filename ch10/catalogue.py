@@ -8,14 +8,14 @@ import stat
 import sys
 import time
 from contextlib import suppress
-from typing import Any, Dict, Iterable, Iterator, List, NamedTuple, Optional, Sequence, Tuple
+from typing import Callable, Dict, Iterable, Iterator, List, NamedTuple, Optional, Sequence, Tuple
 
 from .clocks import Asked
 from .facts import facts_of, most, nothing_in, program_of, sum_of, verdict_of_image, version_of
-from .inputs import Output, date_of, is_recording, shown
+from .inputs import Output, date_of, is_recording, printable, shown
 from .medium import directory
 from .range_words import place as place_of
-from .standard import Fault, Wrong
+from .standard import Data, Fault, Words, Wrong
 from .store import Store, StoreError, file_of, open_store
 from .store_schema import CASE, CHANNEL_COLUMNS, RECORDING_COLUMNS
 from .workers import Pool, Room, Task, processors
@@ -72,7 +72,7 @@ def is_database(path: str, dsn: Optional[str]) -> bool:
         return False
 
 
-def need_inputs(asked: Any) -> None:
+def need_inputs(asked: Words) -> None:
     """That no input of a call is its database, which an empty file would become."""
     for path in asked.inputs:
         if is_database(path, asked.db):
@@ -107,7 +107,7 @@ def need_file(path: str) -> None:
         raise OSError(0, 'no regular file')
 
 
-def opened(path: str) -> Any:
+def opened(path: str) -> Data:
     """The bytes of a file: read where it is small, else mapped."""
     need_file(path)
     with open(path, 'rb') as file:
@@ -124,6 +124,7 @@ class Mark:
         self.is_sharp = time.time_ns() - self.taken[3] > MOST_TICK
 
     def now(self) -> Tuple[int, ...]:
+        """Device, file, size, and the times of the last write and change in nanoseconds, as they are now."""
         state = os.stat(self.path)
         return state.st_dev, state.st_ino, state.st_size, state.st_mtime_ns, state.st_ctime_ns
 
@@ -159,7 +160,8 @@ def tasks_of(inputs: Iterable[Input], failed: List[Tuple[str, str]]) -> Iterator
             failed.append((place, error.strerror or str(error)))
 
 
-def image_tasks(path: str, place: str, data: Any) -> Iterator[Task]:
+def image_tasks(path: str, place: str, data: Data) -> Iterator[Task]:
+    """A task for each file of an image; one with a fault where its directory cannot be read."""
     try:
         volume, files = directory(data)
     except Fault as fault:
@@ -179,12 +181,12 @@ def asked_for(task: Task) -> Asked:
         date = date_of(os.stat(task['path']))
     except OSError:
         date = None
-    return Asked(*task.get('clock', ()), date=date) if task.get('clock') else Asked(date=date)
+    return Asked(*task['clock'])._replace(date=date) if task.get('clock') else Asked(date=date)
 
 
 # ---- one of them, in a process of its own or in this one
 
-def work(setting: Task) -> Any:
+def work(setting: Task) -> Callable[[Task], Task]:
     """What looks at one task, by the program and the database of a setting."""
     store = open_store(setting['db'], make=False)
 
@@ -217,33 +219,41 @@ def work(setting: Task) -> Any:
 # ---- into the database
 
 def now() -> str:
+    """The time by UTC, to the second, as text."""
     return datetime.datetime.now(datetime.timezone.utc).replace(tzinfo=None).isoformat(' ', 'seconds')
 
 
 def record(store: Store, found: Sequence[Tuple[Task, Task]], anew: bool) -> List[str]:
     """Puts what was found into the database, all of it or nothing. Answers of each whether it was `added`, `judged` (it had no
     verdict before), or `known`."""
+    with store.transaction():
+        return put_recordings(store, found, anew)
+
+
+def put_recordings(store: Store, found: Sequence[Tuple[Task, Task]], anew: bool) -> List[str]:
+    """The same inside a transaction of the caller's."""
     ways: Dict[str, str] = {}
     moment = now()
-    with store.transaction():
-        fresh = {facts['sha256']: facts for _, facts in found if not facts.get('known')}
-        new = store.insert_new('recording', RECORDING_COLUMNS, [
-            tuple(dict(fresh[key], added=moment)[name] for name in RECORDING_COLUMNS) for key in sorted(fresh)], 1)
-        sums = {facts['sha256'] for _, facts in found}
-        ids = dict(recordings_of(store, sorted(sums)))
-        if len(ids) < len(sums):
-            raise StoreError(TAKEN_OUT)
-        for key in sorted(fresh):
-            ways[key] = 'added' if (key,) in new else replace(store, ids[key], fresh[key], anew)
-        details(store, [(ids[key], fresh[key]) for key in sorted(fresh) if ways[key] != 'known'])
-        put_places(store, found, ids, moment)
+    fresh = {facts['sha256']: facts for _, facts in found if not facts.get('known')}
+    new = store.insert_new('recording', RECORDING_COLUMNS, [
+        tuple(dict(fresh[key], added=moment)[name] for name in RECORDING_COLUMNS) for key in sorted(fresh)], 1)
+    sums = {facts['sha256'] for _, facts in found}
+    ids = dict(recordings_of(store, sorted(sums)))
+    if len(ids) < len(sums):
+        raise StoreError(TAKEN_OUT)
+    for key in sorted(fresh):
+        ways[key] = 'added' if (key,) in new else replace(store, ids[key], fresh[key], anew)
+    details(store, [(ids[key], fresh[key]) for key in sorted(fresh) if ways[key] != 'known'])
+    put_places(store, found, ids, moment)
     return [ways.pop(facts['sha256'], 'known') for _, facts in found]
 
 
 def recordings_of(store: Store, sums: Sequence[str]) -> Iterator[Tuple[str, int]]:
+    """Sum and id of those recordings that are in the catalogue."""
     for at in range(0, len(sums), PARAMETERS):
         some = sums[at:at + PARAMETERS]
-        yield from store.rows('SELECT sha256, id FROM recording WHERE sha256 IN (%s)' % ', '.join('?' * len(some)), some)
+        for sum_, number in store.rows('SELECT sha256, id FROM recording WHERE sha256 IN (%s)' % ', '.join('?' * len(some)), some):
+            yield sum_, number
 
 
 def replace(store: Store, number: int, facts: Task, anew: bool) -> str:
@@ -310,6 +320,7 @@ class Progress:
         self.start = self.last = time.monotonic()
 
     def say(self, task: Task, facts: Task, way: str) -> None:
+        """Counts a recording, and says in a line what became of it, unless there is a bar."""
         self.files += 1
         self.bytes += task['bytes']
         self.ways[way] += 1
@@ -318,6 +329,7 @@ class Progress:
             self.out.line('%s %s %s %s' % (way, facts['verdict'], facts['sha256'][:16], title(task)))
 
     def flush(self, is_end: bool = False) -> None:
+        """Draws the bar, or writes the lines that wait."""
         if self.is_bar:
             passed = time.monotonic() - self.start
             sys.stderr.write('\r\x1b[K%d files, %.0f MB, %.0f MB/s, %d faulty%s' % (
@@ -329,14 +341,14 @@ class Progress:
 
 def title(task: Task) -> str:
     """Where an input lies, as a line says it."""
-    place = line_of(task['place'])
+    place = printable(task['place'])
     return place if task['number'] < 0 else '%s file %d %s' % (place, task['number'], task['name'])
 
 
 Added = Tuple[Task, Task, str]
 
 
-def added(store: Store, asked: Any, failed: List[Tuple[str, str]], passed: List[str]) -> Iterator[List[Added]]:
+def added(store: Store, asked: Words, failed: List[Tuple[str, str]], passed: List[str]) -> Iterator[List[Added]]:
     """Adds the inputs of a call, and gives what was done with each, a transaction's worth at a time. What can't be read goes to
     `failed`."""
     program = None if asked.unjudged else program_of(asked.program)
@@ -359,7 +371,7 @@ def added(store: Store, asked: Any, failed: List[Tuple[str, str]], passed: List[
             yield [(*pair, way) for pair, way in zip(held, record(store, held, asked.anew))]
 
 
-def add(asked: Any, data: None, out: Output) -> None:
+def add(asked: Words, data: None, out: Output) -> None:
     """`ch10 catalogue add`."""
     failed: List[Tuple[str, str]] = []
     passed: List[str] = []
@@ -383,16 +395,11 @@ def add(asked: Any, data: None, out: Output) -> None:
     unread(failed, out)
 
 
-def line_of(text: str) -> str:
-    """A text as a line takes it."""
-    return text if text.isprintable() else ''.join(letter if letter.isprintable() else '?' for letter in text)
-
-
 def unread(failed: Sequence[Tuple[str, str]], out: Optional[Output] = None) -> None:
     """Says what could not be read, where something could not: a line for each, and then how many."""
     if out:
         for place, why in failed:
-            out.line('unread %s: %s' % (line_of(place), line_of(why)))
+            out.line('unread %s: %s' % (printable(place), printable(why)))
         out.flush()
     if failed:
         raise OSError(0, '%d of the inputs could not be read, first %s: %s' % (len(failed), failed[0][0], failed[0][1]))

@@ -10,9 +10,9 @@ import datetime
 import re
 from bisect import bisect_right
 from collections import namedtuple
-from typing import Any, Dict, Iterable, Iterator, List, Mapping, NamedTuple, Optional, Sequence, Tuple
+from typing import Dict, Iterable, Iterator, List, Mapping, NamedTuple, Optional, Sequence, Tuple
 
-from .standard import COUNT_BITS, INDEX, LOSS, SETUP, STREAMING, Fault
+from .standard import COUNT_BITS, INDEX, LOSS, SETUP, STREAMING, Fault, Words
 from .times import ASSUMED, DAY, FREE, LOCKED, SECOND, Time, civil
 
 LEAST = 200000  # a jump is more than 20 ms, as times are in hundredths of a second,
@@ -90,6 +90,7 @@ class Sessions:
         return not goes_on or len(self.last) == 1 or sum(last > counter + LEAST_BACK for last in self.last.values()) > 1
 
     def number(self) -> int:
+        """How many sessions there are by now."""
         return len(self.starts)
 
     def run_of(self, session: int) -> int:
@@ -115,18 +116,20 @@ class TimeLine:
     """The times of one channel, in their order.
 
     .packets   how many time packets; .invalid, how many of them say that they are none
-    .told      a `Told` of each that tells a time
+    .told      a `Told` of each that tells a time; .plain, the same before years were given to those that have none
     """
 
     def __init__(self, channel: int) -> None:
         self.channel, self.packets, self.invalid = channel, 0, 0
         self.told: List[Told] = []
+        self.plain: Optional[List[Told]] = None
         self.has_lock = False  # whether some packet has lock bits, which recorders of older editions do not write
         self.passed = self.day = 0  # New Years since the first time, where times have no year; and the last one's day
         self.leaps: Dict[int, bool] = {}  # of each year from that one on whether it has 366 days, as a packet tells
         self.sessions: Optional[Sessions] = None
 
     def add(self, instant: int, said: Time, offset: int, flags: int = 0) -> None:
+        """Takes note of a time packet: its instant, its time, its offset, and the flags of its header."""
         self.packets += 1
         self.has_lock |= said.has_lock
         if said.quality == 0:
@@ -146,6 +149,7 @@ class TimeLine:
     def settle(self, sessions: Sessions, first: Optional[int] = None) -> None:
         """Gives times without a year their year; the first one has this one."""
         self.sessions = sessions
+        self.plain = self.told if self.plain is None else self.plain
         dated = self.is_dated()
         self.told = [told for told in self.told if told.said.dated == dated]
         if first is not None:
@@ -195,6 +199,7 @@ class TimeLine:
         return found
 
     def run(self, instant: int) -> int:
+        """The session of an instant; one that goes on from another is that."""
         return instant >> BITS if self.sessions is None else self.sessions.run_of(instant >> BITS)
 
     def wraps(self) -> int:
@@ -204,13 +209,16 @@ class TimeLine:
 
     @staticmethod
     def is_jump(past: int, by: int) -> bool:
+        """Whether a time that differs by so much after so many counts, both of 100 ns, is a jump."""
         return abs(by) > max(LEAST, abs(past) // MOST_DRIFT) or past < 0
 
     def jumps(self) -> List[Jump]:
+        """The jumps of the clock, in order."""
         return [Jump(offset, after, then - by, then, by) for ticks, then, past, by, after, offset in self.steps()
                 if self.is_jump(past, by)]
 
     def steps_back(self) -> int:
+        """How many times are before the one before them."""
         return sum(then < ticks for ticks, then, _, _, _, _ in self.steps())
 
     def drift(self) -> Optional[Tuple[float, float]]:
@@ -255,7 +263,7 @@ class Asked(NamedTuple):
 NOTHING = Asked()
 
 
-def asked_of(words: Any, date: Optional[datetime.date] = None) -> Asked:
+def asked_of(words: Words, date: Optional[datetime.date] = None) -> Asked:
     """What the words of a call say of times; the date is that of the file, where the words do not have it."""
     return Asked(getattr(words, 'time_channel', None), getattr(words, 'year', None), getattr(words, 'time_from_end', False),
                  date or getattr(words, 'date', None))
@@ -365,6 +373,7 @@ def guessed(line: TimeLine, after: Optional[datetime.date], before: Optional[dat
 
 
 def is_leap(year: int) -> bool:
+    """Whether a year has 366 days."""
     return year % 4 == 0 and (year % 100 != 0 or year % 400 == 0)
 
 
@@ -461,6 +470,7 @@ class Clock:
         return instant + self.ahead
 
     def text(self, instant: int, places: int = 7) -> Optional[str]:
+        """The civil time of an instant as text, with so many places after the second; None where it has none."""
         second, part = divmod(self.at(instant), SECOND)
         if second != self.second:
             self.second, self.said = second, self.said_of(second)
@@ -575,10 +585,12 @@ class Axis:
 
     def at(self, place: int) -> int:
         """The civil time at a place, as `Clock.at` gives it."""
+        assert self.clock is not None
         return self.clock.at(self.instant(place))
 
     def text(self, place: int, places: int = 7) -> Optional[str]:
         """The same as a text."""
+        assert self.clock is not None
         return self.clock.text(self.instant(place), places)
 
 

@@ -14,15 +14,16 @@ counts (`ch10.bodies`): a `Block`. What an entry has is given as groups of colum
 from __future__ import annotations
 
 from binascii import hexlify
-from typing import Any, Callable, Dict, Iterable, Iterator, List, Optional, Sequence, Tuple, Union, TYPE_CHECKING
+from typing import Callable, Dict, Iterable, Iterator, List, Optional, Sequence, Tuple, TypeVar, Union, TYPE_CHECKING
 
 from .arrays import Array, numpy
 from .buses import bits_of, changed_bits, text_of
-from .standard import COUNT_BITS
+from .standard import COUNT_BITS, Facts, Value
 
 if TYPE_CHECKING:
     from .packets import Packet
 
+Made = TypeVar('Made')
 LONGEST = 512  # bytes of a text that are taken together with others; longer ones are taken one by one
 ROOM = bytes(4 * LONGEST)  # after bytes that columns are parts of
 FEW = 24  # packets below which one after the other is quicker
@@ -54,7 +55,7 @@ class Batch:
             self.told = numpy.array([0 if one is None else one[1] for one in seconds], numpy.int64)
         self.before = None if before is None else numpy.array(before, numpy.int64)
         self.views: Dict[int, Array] = {}
-        self.kept: Dict[str, Any] = {}
+        self.kept: Facts = {}
 
     def numbers(self, at: Array, size: int) -> Array:
         """The numbers of 1, 2 or 4 bytes at these places."""
@@ -86,7 +87,8 @@ class Batch:
             self.kept[name] = numpy.frombuffer(hexlify(make()), numpy.uint8)
         return self.kept[name]
 
-    def held(self, name: str, make: Callable[[], Any]) -> Any:
+    def held(self, name: str, make: Callable[[], Made]) -> Made:
+        """What `make` makes of these bytes, made once by this name."""
         if name not in self.kept:
             self.kept[name] = make()
         return self.kept[name]
@@ -241,6 +243,7 @@ class Numbering:
         self.numbers: Dict[int, int] = {}
 
     def of(self, channel: int) -> int:
+        """The number of a channel, which is given where it has none."""
         if channel not in self.numbers:
             self.numbers[channel] = len(self.channels)
             self.channels.append(channel)
@@ -260,7 +263,7 @@ class Block:
     def __len__(self) -> int:
         return len(self.at)
 
-    def keep(self, held: Any) -> 'Block':
+    def keep(self, held: Array) -> 'Block':
         """The entries that are held, as a block of their own."""
         found = Block(self.kind, self.batch, self.at[held], self.of[held], self.count[held])
         found.columns = {name: column[held] for name, column in self.columns.items()}
@@ -277,6 +280,7 @@ class Block:
 
     @property
     def channel(self) -> Array:
+        """The number of each entry's channel, by the numbering."""
         return self.columns['channel']
 
 
@@ -287,16 +291,30 @@ class Group:
 
     number = 1
 
-    def values(self) -> List[Any]:
+    def values(self) -> List[Value]:
         """The value of each entry; a tuple where there are several columns."""
         raise NotImplementedError
+
+    def columns(self) -> Sequence[Sequence[Value]]:
+        """The values column by column."""
+        if self.number == 1:
+            return [self.values()]
+        found = self.values()
+        return list(zip(*found)) if found else [()] * self.number
+
+
+def held(values: Sequence[Value]) -> Array:
+    """An array of some values as they are."""
+    made = numpy.empty(len(values), object)
+    made[:] = values
+    return made
 
 
 class Number(Group):
     def __init__(self, values: Array) -> None:
         self.array = values
 
-    def values(self) -> List[Any]:
+    def values(self) -> List[Value]:
         return self.array.tolist()
 
 
@@ -304,17 +322,18 @@ class Coded(Group):
     """What numbers mean: `make` gives the value of a number, or the values. The numbers are small, or few: a table has what each of
     them means."""
 
-    def __init__(self, keys: Array, make: Callable[[int], Any], number: int = 1) -> None:
+    def __init__(self, keys: Array, make: Callable[[int], Value], number: int = 1) -> None:
         self.keys, self.make, self.number = keys, make, number
 
-    def values(self) -> List[Any]:
-        known: Dict[int, Any] = {}
-        found, make = [], self.make
-        for key in self.keys.tolist():
-            if key not in known:
-                known[key] = make(key)
-            found.append(known[key])
-        return found
+    def values(self) -> List[Value]:
+        columns = self.columns()
+        return columns[0] if self.number == 1 else list(zip(*columns))
+
+    def columns(self) -> List[List[Value]]:
+        some, places = numpy.unique(self.keys, return_inverse=True)
+        made = list(map(self.make, some.tolist()))
+        rows: List[Value] = [made] if self.number == 1 else list(zip(*made)) if made else [()] * self.number
+        return [held(row)[places.reshape(-1)].tolist() for row in rows]
 
 
 class Hexed(Group):
@@ -323,7 +342,7 @@ class Hexed(Group):
     def __init__(self, values: Array, digits: int) -> None:
         self.array, self.digits = values, digits
 
-    def values(self) -> List[Any]:
+    def values(self) -> List[Value]:
         form = '%%0%dx' % self.digits
         return [form % value for value in self.array.tolist()]
 
@@ -340,7 +359,7 @@ class Octets(Group):
     def __init__(self, source: Array, start: Array, size: Array, then: Array = None, rest: Array = None) -> None:
         self.source, self.start, self.size, self.then, self.rest = source, start, size, then, rest
 
-    def values(self) -> List[Any]:
+    def values(self) -> List[Value]:
         data = self.source.tobytes()
         found = [data[at:at + size] for at, size in zip(self.start.tolist(), self.size.tolist())]
         if self.then is not None:
@@ -360,7 +379,7 @@ class Blobs(Group):
     def __init__(self, source: bytes, start: Array, size: Array) -> None:
         self.source, self.start, self.size = source, start, size
 
-    def values(self) -> List[Any]:
+    def values(self) -> List[Value]:
         data = self.source
         return [data[at:at + size] for at, size in zip(self.start.tolist(), self.size.tolist())]
 
@@ -377,7 +396,7 @@ class Printed(Group):
         self.data, self.start, self.size = block.batch.held('whole', lambda: block.batch.octets.tobytes()), block.at + more, size
         self.batch = block.batch
 
-    def values(self) -> List[Any]:
+    def values(self) -> List[Value]:
         data = self.data
         return [text_of(data[at:at + size]) for at, size in zip(self.start.tolist(), self.size.tolist())]
 
@@ -388,7 +407,7 @@ class Bits(Group):
     def __init__(self, states: Array, bits: Array) -> None:
         self.states, self.bits = states, bits
 
-    def values(self) -> List[Any]:
+    def values(self) -> List[Value]:
         return [bits_of(states, bits) for states, bits in zip(self.states.tolist(), self.bits.tolist())]
 
 
@@ -399,15 +418,15 @@ class Changed(Group):
         self.states, self.bits = states, bits
         self.differ = numpy.where(before == NONE, 0, before ^ states) & ((1 << bits) - 1)
 
-    def values(self) -> List[Any]:
+    def values(self) -> List[Value]:
         return [changed_bits(states ^ differ, states, 32) for states, differ in zip(self.states.tolist(), self.differ.tolist())]
 
 
 class Each(Group):
-    def __init__(self, values: Sequence[Any], number: int = 1) -> None:
+    def __init__(self, values: Sequence[Value], number: int = 1) -> None:
         self.held, self.number = list(values), number
 
-    def values(self) -> List[Any]:
+    def values(self) -> List[Value]:
         return self.held
 
 
@@ -415,13 +434,10 @@ class Ready(Each):
     """Texts that stand in lines as they are."""
 
 
-def columns_of(groups: Iterable[Group]) -> Iterator[Sequence[Any]]:
+def columns_of(groups: Iterable[Group]) -> Iterator[Sequence[Value]]:
     """The values of groups, column by column."""
     for group in groups:
-        if group.number == 1:
-            yield group.values()
-        else:
-            yield from zip(*group.values()) if group.values() else [()] * group.number
+        yield from group.columns()
 
 
 def rows_of(groups: Iterable[Group]) -> Iterator[Tuple]:

@@ -3,16 +3,20 @@ from __future__ import annotations
 
 import argparse
 from argparse import Namespace
+import datetime
 import gc
 import os
 import re
 import sys
-from typing import Any, BinaryIO, Callable, List, NoReturn, Optional, Tuple
+from typing import BinaryIO, Callable, List, NoReturn, Optional, Tuple, TYPE_CHECKING
 
-from .inputs import MOST_FRONT, Front, Output, date_given, given
+from .inputs import MOST_FRONT, Front, Output, Source, date_given, given, source_given
 from .kinds import BY_NAME, KINDS
 from .range_words import add_words, filled, run_of
-from .standard import Fault, Wrong
+from .standard import Data, Fault, Value, Wrong
+
+if TYPE_CHECKING:
+    from .times import Bound
 
 
 class Help(Exception):
@@ -20,7 +24,7 @@ class Help(Exception):
 
 
 class Version(argparse.Action):
-    def __call__(self, *_: Any) -> None:
+    def __call__(self, *_: object) -> None:
         raise Help('ch10 ' + version())
 
 
@@ -61,10 +65,13 @@ public standard alone.
   ch10 hdf5, ch10 mat < INPUT     the entries as columns of HDF5, of MATLAB (--out FILE)
   ch10 tmats < SCRIPT         a setup text for the channels of a script of r10, or of r10d's settings
   ch10 catalogue add|find|show    a catalogue of many recordings
+  ch10 catalogue queue|work       the same by workers on many machines
   ch10 load INPUT ..          entries of many recordings into a database
   ch10 report INPUT ..        one HTML page about recordings
+  ch10 mend FILE --out FILE   a strict file out of a damaged or foreign recording
+  ch10 rescue IMAGE FOLDER    the recordings on a medium without its directory
 
-The last three name files. All others read standard input and write standard
+The last five name files. All others read standard input and write standard
 output. Other recorders' files are read too: packets of a type that is not known
 are passed over, and counted as opaque. The one packet of r10's own is the loss
 report.
@@ -80,42 +87,50 @@ COMMANDS: List[str] = []
 
 class Parser(argparse.ArgumentParser):
     def format_help(self) -> str:
+        """The text of help; a text at its end that is a function is made now."""
         if callable(self.epilog):  # a text that is made when it is asked for
             self.epilog = self.epilog()
         return argparse.ArgumentParser.format_help(self)
 
-    def print_help(self, file: Any = None) -> None:
+    def print_help(self, file: object = None) -> None:
+        """Ends the call with that text."""
         raise Help(self.format_help())
 
     def error(self, message: str) -> NoReturn:
+        """Ends the call as a wrong one."""
         raise Wrong('%s; see %s --help' % (message, self.prog))
 
 
 def number(word: str) -> int:
+    """A whole number in decimal digits, as a word of a call."""
     if len(word) > 20 or not (word.isascii() and word.isdigit()) or word != str(int(word)):
         raise argparse.ArgumentTypeError('%r is no decimal number' % word[:60])
     return int(word)
 
 
 def file_number(word: str) -> int:
+    """The number of a file of an image, from 0 on."""
     if re.search('[^0-9]', word):
         raise argparse.ArgumentTypeError('%r is no number of a file, from 0 on: ch10 summary < IMAGE lists the files' % word[:60])
     return number(word)
 
 
 def channel_number(word: str) -> int:
+    """The ID of a channel, of 16 bits."""
     if number(word) > 0xFFFF:
         raise argparse.ArgumentTypeError('%s is not in 0..=65535' % word[:60])
     return number(word)
 
 
 def year_number(word: str) -> int:
+    """A year of the calendar, with one before and one after it."""
     if not 1 <= number(word) <= 9998:
         raise argparse.ArgumentTypeError('%s is not in 1..=9998' % word[:60])
     return number(word)
 
 
-def bound(word: str) -> Any:
+def bound(word: str) -> Bound:
+    """An end of a range of time: a civil time, or a count."""
     from .times import Bound  # read when it is asked for, as the modules of the commands are: a call begins in a third of the time
     return Bound(word)
 
@@ -127,13 +142,14 @@ count. Both ends are taken in."""
 
 
 def parser_of() -> 'Parser':
+    """The words of all commands."""
     top = Parser(prog='ch10', allow_abbrev=False, formatter_class=argparse.RawDescriptionHelpFormatter,
                  description=ABOUT, add_help=True, usage='ch10 COMMAND [WORDS] < INPUT',
                  epilog='ch10 COMMAND --help says more of each.')
     top.add_argument('--version', action=Version, nargs=0, help='print the version')
     commands = top.add_subparsers(metavar='COMMAND', dest='command', required=True, parser_class=Parser, help=argparse.SUPPRESS)
 
-    def command(name: str, run: Callable, about: str, more: Any = '') -> argparse.ArgumentParser:
+    def command(name: str, run: Callable, about: str, more: Value = '') -> argparse.ArgumentParser:
         made = commands.add_parser(name, prog='ch10 ' + name, allow_abbrev=False, description=about, epilog=more,
                                    formatter_class=argparse.RawDescriptionHelpFormatter)
         made.set_defaults(run=run)
@@ -161,6 +177,9 @@ def parser_of() -> 'Parser':
                           help='labels of ARINC 429 whose first bit on the bus is the lowest of the word')
         made.add_argument('--quality', action='store_true',
                           help='a column more, quality: how good the time is, as locked, free or guessed year')
+        with_jobs(made)
+
+    def with_jobs(made: argparse.ArgumentParser) -> None:
         made.add_argument('--jobs', type=number, metavar='J',
                           help='so many processes (without it: as many as there are processors, to eight)')
 
@@ -178,6 +197,10 @@ def parser_of() -> 'Parser':
         made.add_argument('--time-from-end', action='store_true',
                           help='times before the last jump of the clock are counted back from what comes after it')
 
+    def with_index(made: argparse.ArgumentParser) -> None:
+        made.add_argument('--walk', action='store_true',
+                          help='with --from or --to: walk the whole recording, and neither read nor make the index beside it')
+
     def with_times(made: argparse.ArgumentParser) -> None:
         with_clock(made)
         made.add_argument('--from', dest='first', type=bound, metavar='A', help='the first time')
@@ -187,6 +210,7 @@ def parser_of() -> 'Parser':
                    'Says what each channel of a recording, or of each file of an image, has.', SUMMARY_MORE)
     made.add_argument('--json', action='store_true', help='a JSON object for each line of the table, with whole times')
     with_clock(made)
+    with_jobs(made)
     for name, run, about, more in (('csv', run_of('lines', 'as_csv'), 'Writes the entries as CSV.', CSV_MORE),
                                    ('json', run_of('lines', 'as_json'), 'Writes the entries as JSON lines.', JSON_MORE),
                                    ('svg', run_of('picture', 'as_svg'), 'Draws rates and losses over time, as SVG.', SVG_MORE)):
@@ -194,6 +218,7 @@ def parser_of() -> 'Parser':
         with_channels(made)
         with_times(made)
         if name != 'svg':
+            with_index(made)
             with_forms(made)
             with_measurements(made)
     made = going_on(command('setup', run_of('cuts', 'setup'),
@@ -212,6 +237,7 @@ def parser_of() -> 'Parser':
     with_channels(made)
     with_clock(made)
     with_measurements(made)
+    with_jobs(made)
     made.add_argument('--turned-labels', action='store_true',
                       help='labels of ARINC 429 whose first bit on the bus is the lowest of the word')
     for name, run, about in (('hdf5', run_of('hdf5', 'as_hdf5'), 'Writes the entries as columns into a new file of HDF5.'),
@@ -220,8 +246,11 @@ def parser_of() -> 'Parser':
         made.add_argument('--out', metavar='FILE', help='where the file is to be; there must be none')
         made.add_argument('--kind', choices=sorted(BY_NAME), metavar='K', help='the entries of this kind alone')
         with_clock(made)
-    with_times(going_on(command('range', run_of('cuts', 'as_range'), 'Writes the packets of a range of time as a recording.',
-                                RANGE_MORE + TIMES)))
+    made = going_on(command('range', run_of('cuts', 'as_range'), 'Writes the packets of a range of time as a recording.',
+                            RANGE_MORE + TIMES))
+    with_times(made)
+    with_index(made)
+    with_jobs(made)
     made = command('file', run_of('cuts', 'as_file'), 'Writes one file of an image, byte for byte.',
                    'As in: ch10 file FLT1 < medium.img | r10 check')
     made.add_argument('name', nargs='?', metavar='NAME', help='its name, as r10 files prints it')
@@ -243,7 +272,7 @@ def parser_of() -> 'Parser':
     made.add_argument('names', nargs='+', metavar='NAME', help='a measurement of the document, or of the setup text')
     made.add_argument('--icd', metavar='DOCUMENT', help='where measurements stand: CSV, or DBC; else the setup text')
     with_times(made)
-    add_words(commands, Parser, channel_number, with_clock)
+    add_words(commands, Parser, channel_number, file_number, with_clock, with_jobs)
     COMMANDS.extend(commands.choices)
     return top
 
@@ -319,6 +348,7 @@ EXPORT_MORE = """FORM is one of these; the packets stay in their order in the re
 
 
 def sqlite_more() -> str:
+    """The end of the help of `sqlite`, with its tables."""
     names = [kind.word for kind in KINDS]
     return filled(SQLITE_MORE % ' and '.join((', '.join(names[:-1]), names[-1])))
 
@@ -347,6 +377,7 @@ def unknown(word: str) -> str:
 
 
 def words_of(words: List[str]) -> Namespace:
+    """The words of a call, read. A Wrong where they are none."""
     if words and not words[0].startswith('-') and words[0] not in COMMANDS:
         raise Wrong(unknown(words[0]))
     asked, left = PARSER.parse_known_args(words)
@@ -355,10 +386,11 @@ def words_of(words: List[str]) -> Namespace:
     return asked
 
 
-def answer(words: List[str], source: Callable[[], Any], to: Callable[[], BinaryIO],
-           date: Optional[Callable[[], Any]] = None) -> Tuple[int, Optional[str]]:
+def answer(words: List[str], source: Callable[[], Data], to: Callable[[], BinaryIO],
+           date: Optional[Callable[[], Optional[datetime.date]]] = None,
+           file: Optional[Callable[[], Optional[Source]]] = None) -> Tuple[int, Optional[str]]:
     """Does what the words of a call ask for, from what source() gives to the stream that to() gives. date() gives the date of the
-    file that source() reads, or None.
+    file that source() reads, or None; file() the file, beside which an index may be kept, or None.
 
     The exit status, and the lines that are said of it, or None: 1 of an input that is judged bad, 2 of a wrong call, 3 where a read
     or a write failed. A reader that has gone is no line.
@@ -369,6 +401,7 @@ def answer(words: List[str], source: Callable[[], Any], to: Callable[[], BinaryI
         try:
             asked = words_of(words)
             asked.date = date() if date else None
+            asked.source = file() if file else None
             Front.most = asked.front << 20 if getattr(asked, 'front', None) else MOST_FRONT
             asked.run(asked, None if getattr(asked, 'opens', False) else source(), out)
         except Help as text:
@@ -391,6 +424,7 @@ PARSER = parser_of()
 
 
 def standard_output() -> BinaryIO:
+    """Where bytes are written. An OSError where it is closed."""
     if sys.stdout is None:
         raise OSError('standard output is closed')
     return sys.stdout.buffer
@@ -406,9 +440,10 @@ def say(line: str) -> None:
 
 
 def main(words: List[str]) -> int:
+    """Does a call with standard input and output, and answers the status of the process."""
     gc.disable()  # what is made here leads to itself nowhere, and there is much of it
     try:
-        status, line = answer(words, given, standard_output, date_given)
+        status, line = answer(words, given, standard_output, date_given, source_given)
     except KeyboardInterrupt:
         status, line = 130, None
     if line:

@@ -3,21 +3,25 @@ from __future__ import annotations
 
 from argparse import Namespace
 from bisect import bisect_left, bisect_right
-from typing import Dict, List, Optional, Set, Tuple
+from typing import Dict, Iterable, Iterator, List, Optional, Set, Tuple
 
+from .arrays import Array, numpy
 from .bodies import counts
-from .clocks import BITS, asked_of
+from .clocks import BITS
 from .doubts import judge, say_no_setup
 from .inputs import Output, is_recording, listed, one_part, shown, the_file
+from .kept import surveyed
 from .medium import File, bytes_of
-from .packets import Packet, loss_of, packets
-from .standard import INDEX, SETUP, STREAMING, Data, Fault, Wrong, let_go
+from .packets import Packet, loss_of, packet_at, packets
+from .replay import numbers_of
+from .standard import COUNT_BITS, INDEX, SETUP, SPAN, STREAMING, Data, Fault, Wrong, let_go
 from .survey import Survey
 from .times import Range
 from .tmats import Names, tree
 
 
 def setup(asked: Namespace, data: Data, out: Output) -> None:
+    """`ch10 setup`: the setup texts, or the attributes as a tree."""
     _, begin, end = one_part(data, asked.file)
     survey, has_one = Survey(data, begin, end, asked.keep_going), False
     wanted, name = (STREAMING, 'streaming configuration') if asked.streaming else (SETUP, 'setup packet')
@@ -59,52 +63,101 @@ def as_range(asked: Namespace, data: Data, out: Output) -> None:
     """Each packet with an entry in the range, as it stands, behind the loss report that stands before it; with the setup, and the
     time that holds where each stretch of the range begins."""
     _, begin, end = one_part(data, asked.file)
-    survey = Survey(data, begin, end, asked.keep_going, asked=asked_of(asked))
-    if not survey.lows:
+    survey = surveyed(asked, data, begin, end)
+    if not len(survey.lows):
         survey.judge()
-    within = Range(asked.first, asked.last, survey.clock)
-    times = times_of(data, begin, survey, within)
-    report, behind = b'', 0
-    for number, packet in enumerate(packets(data, begin, begin + survey.size, False, survey.passed)):
-        if packet.offset != behind:
-            report = b''
-        behind = packet.offset + packet.length
-        here = data[begin + packet.offset:begin + packet.offset + packet.length]
-        if loss_of(packet):
-            report = here
-            continue
-        if packet.kind in (SETUP, STREAMING) or packet.offset in times or (
-                packet.kind != INDEX and instants_in(number, packet, survey, within)):
-            out.write(report + here)
-        report = b''
+    cut = Cut(data, begin, survey, Range(asked.first, asked.last, survey.clock))
+    if not survey.agrees(data, begin, cut.numbers):
+        survey = surveyed(asked, data, begin, end, True)
+        cut = Cut(data, begin, survey, Range(asked.first, asked.last, survey.clock))
+    cut.write(out)
     judge(survey, out)
 
 
-def instants_in(number: int, packet: Packet, survey: Survey, within: Range) -> List[int]:
-    """The instants of a packet's entries that are in a range, or, where it is not read, its own if that is."""
-    base, low, high = survey.of[number] << BITS, survey.lows[number], survey.highs[number]
-    if packet.offset in survey.segments.firsts:  # all segments of a message are at its instant
-        low = high = survey.lows[bisect_left(survey.places, survey.segments.firsts[packet.offset])]
-    elif low > high:
-        low = high = base + packet.counter
-    elif within.touches(low, high):
-        return [base + count for count in counts(packet) if within.has(base + count)]
-    return [low] if low == high and within.has(low) else []
+class Cut:
+    """The packets of a recording that a range of time has.
 
+    .numbers   those that may be of it, by their numbers, with those of setup and the times that hold where its stretches begin
+    """
 
-def times_of(data: Data, begin: int, survey: Survey, within: Range) -> Set[int]:
-    """Of each stretch of a range, in each session, the place of the time that holds where it begins: the last one before that, or
-    else the session's first one, of those that the clock goes by."""
-    if survey.clock is None:
-        return set()
-    first: Dict[Tuple[int, int], int] = {}  # of each session and stretch the first instant
-    for number, packet in enumerate(packets(data, begin, begin + survey.size, False, survey.passed)):
-        run = survey.sessions.run_of(survey.of[number])
-        for instant in instants_in(number, packet, survey, within) if packet.kind not in (SETUP, STREAMING, INDEX) else ():
-            key = run, within.stretch(instant)
-            first[key] = min(first.get(key, instant), instant)
-    held = [(survey.clock.told[run], low) for (run, _), low in first.items() if run in survey.clock.told]
-    return {told[max(bisect_right(told, (low, 1 << 64)) - 1, 0)][1] for told, low in held}
+    def __init__(self, data: Data, begin: int, survey: Survey, within: Range) -> None:
+        self.data, self.begin, self.end, self.survey, self.within = data, begin, begin + survey.size, survey, within
+        self.times = self.times_of()
+        places = numbers_of(survey.places)
+        also = [bisect_left(survey.places, offset) for offset in self.times]
+        self.numbers = numpy.union1d(self.touched(), numpy.array(list(survey.setups) + also, numpy.int64)).tolist() if len(
+            places) else []
+
+    def touched(self) -> Array:
+        """The numbers of packets that may be of the range: with entries that may lie in it, or without some by their own count; and
+        all segments of a message that lies in it."""
+        survey, within = self.survey, self.within
+        lows, highs = numbers_of(survey.lows), numbers_of(survey.highs)
+        has = lows <= highs
+        if within.is_all:
+            return numpy.arange(len(lows))
+        found = has.copy()
+        some = lows[has].astype(numpy.int64), highs[has].astype(numpy.int64)
+        found[has] = within.touches_each(*some)
+        of = numpy.frombuffer(survey.of, numpy.uint32).astype(numpy.int64)
+        found[~has] = within.has_each((of[~has] << BITS) + (lows[~has] & COUNT_BITS).astype(numpy.int64))
+        for first, places in survey.segments.whole.items():
+            if found[bisect_left(survey.places, first)]:
+                for place in places:
+                    found[bisect_left(survey.places, place)] = True
+        return numpy.flatnonzero(found)
+
+    def packet(self, number: int) -> Packet:
+        """The packet of this number."""
+        return packet_at(self.data, self.begin + self.survey.places[number], self.begin, self.end, False)
+
+    def instants(self, numbers: Iterable[int]) -> Iterator[Tuple[int, Packet, List[int]]]:
+        """Of some packets the number, the packet, and the instants of its entries that are in the range; or, where it is not read,
+        its own if that is."""
+        survey, within, gone = self.survey, self.within, 0
+        for number in numbers:
+            if survey.places[number] - gone >= SPAN:
+                let_go(self.data, self.begin + gone, self.begin + survey.places[number])
+                gone = survey.places[number]
+            packet, base = self.packet(number), survey.of[number] << BITS
+            low, high = survey.lows[number], survey.highs[number]
+            if packet.offset in survey.segments.firsts:  # all segments of a message are at its instant
+                low = high = survey.lows[bisect_left(survey.places, survey.segments.firsts[packet.offset])]
+            elif low > high:
+                low = high = survey.own_instant(number)
+            if low == high or within.is_all:
+                yield number, packet, [low] if within.has(low) else []
+            else:
+                yield number, packet, [base + count for count in counts(packet) if within.has(base + count)]
+
+    def times_of(self) -> Set[int]:
+        """Of each stretch of a range, in each session, the place of the time that holds where it begins: the last one before that,
+        or else the session's first one, of those that the clock goes by."""
+        survey, within = self.survey, self.within
+        if survey.clock is None:
+            return set()
+        first: Dict[Tuple[int, int], int] = {}  # of each session and stretch the first instant
+        for number, packet, instants in self.instants(self.touched().tolist()):
+            run = survey.sessions.run_of(survey.of[number])
+            for instant in instants if packet.kind not in (SETUP, STREAMING, INDEX) else ():
+                key = run, within.stretch(instant)
+                first[key] = min(first.get(key, instant), instant)
+        held = [(survey.clock.told[run], low) for (run, _), low in first.items() if run in survey.clock.told]
+        return {told[max(bisect_right(told, (low, 1 << 64)) - 1, 0)][1] for told, low in held}
+
+    def write(self, out: Output) -> None:
+        """Writes them, with the loss reports that stand before them."""
+        begin, setups = self.begin, set(self.survey.setups)
+        for number, packet, instants in self.instants(self.numbers):
+            if loss_of(packet) or packet.kind == INDEX:
+                continue
+            if number in setups or packet.offset in self.times or instants:
+                at = packet.offset
+                if number:
+                    before = self.packet(number - 1)
+                    if loss_of(before) and before.offset + before.length == at:
+                        at = before.offset
+                out.write(self.data[begin + at:begin + packet.offset + packet.length])
 
 
 def has(files: List[File]) -> str:
@@ -115,6 +168,7 @@ def has(files: List[File]) -> str:
 
 
 def as_file(asked: Namespace, data: Data, out: Output) -> None:
+    """`ch10 file`: the bytes of one file of an image."""
     if (asked.name is None) == (asked.file is None):
         raise Wrong('file takes a NAME, or --file N; see ch10 file --help')
     if is_recording(data):

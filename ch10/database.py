@@ -3,24 +3,28 @@ channels, losses and damage."""
 from __future__ import annotations
 
 from argparse import Namespace
+from copy import copy
 import os
 import sqlite3
-from typing import Iterator, List, Optional, Sequence, Tuple
+from typing import Iterable, Iterator, List, Optional, Sequence, Tuple
 
+from .arrays import numpy
 from .bodies import MEANT, by_kind, read
 from .clocks import TimeLine, asked_of
-from .columns import NONE, rows_of
+from .columns import NONE, Block, columns_of
 from .doubts import KINDS_READ, NO_SETUP, doubts_of, has_no_setup, judge, unread_in
 from .fields import Reader
 from .inputs import Output, is_recording, listed, shown, the_file
 from .kinds import KINDS, REAL, TEXT, WHOLE
 from .measured import Measured, asked_for
 from .medium import File, bytes_of
-from .packets import UNTOLD
+from .packets import UNTOLD, Packet
+from .parallel import LIMIT, jobs_of, side_by_side
 from .replay import Ordered, Part
-from .standard import COUNT_BITS, Data, Fault, Wrong
+from .standard import COUNT_BITS, Data, Fault, Value, Wrong
 from .store_schema import MOST_NUMBER
 from .survey import Survey, counts_of, name_of
+from .vector import between, in_order
 
 FRONT = (('file', WHOLE), ('channel', WHOLE), ('name', TEXT), ('count', WHOLE), ('time', TEXT), ('lost', WHOLE))
 TABLES = {kind.type: kind.word for kind in sorted(KINDS, key=lambda kind: kind.type)}
@@ -104,8 +108,34 @@ class Database:
             self.inserts[TABLES[kind]] = self.inserts[TABLES[kind]][:-1] + ', ?)'
         self.measured = measured
 
-    def add(self, table: str, rows: List[tuple]) -> None:
+    def add(self, table: str, rows: Iterable[Sequence[Value]]) -> None:
+        """Adds rows to a table, each with all its columns."""
         self.base.executemany(self.inserts[table], rows)
+
+    def name_of(self, place: int) -> str:
+        """Where the database of a process is."""
+        return '%s.%d' % (self.part, place)
+
+    def share(self, place: int) -> Database:
+        """A database for a process, with the tables of this one."""
+        made = copy(self)
+        made.base = sqlite3.connect(self.name_of(place), isolation_level=None)
+        for line in ('PRAGMA journal_mode = OFF', 'PRAGMA synchronous = OFF', 'BEGIN', *schema()):
+            made.base.execute(line)
+        for _, line in columns_for(self.measured) if self.measured else ():
+            made.base.execute(line)
+        return made
+
+    def take(self, place: int) -> None:
+        """Adds what the database of a process has."""
+        self.base.execute('COMMIT')
+        self.base.execute('ATTACH ? AS share', (self.name_of(place),))
+        self.base.execute('BEGIN')
+        for name in ('losses', *TABLES.values()):
+            self.base.execute('INSERT INTO main."%s" SELECT * FROM share."%s" ORDER BY rowid' % (name, name))
+        self.base.execute('COMMIT')
+        self.base.execute('DETACH share')
+        self.base.execute('BEGIN')
 
     def close(self) -> None:
         """Makes what was added the file that was asked for."""
@@ -118,11 +148,13 @@ class Database:
         os.replace(self.part, self.path)
 
     def give_up(self) -> None:
+        """Closes and removes the file beside the place."""
         self.base.close()
         os.remove(self.part)
 
 
 def as_sqlite(asked: Namespace, data: Data, out: Output) -> None:
+    """`ch10 sqlite`. What is wrong with the recording is raised when the database is whole."""
     if not asked.out:
         raise Wrong('sqlite takes --out FILE; see ch10 sqlite --help')
     try:
@@ -165,7 +197,8 @@ def written(asked: Namespace, data: Data, base: Database, out: Output) -> Option
 def add(asked: Namespace, data: Data, begin: int, end: int, base: Database, number: int, file: Optional[File],
         out: Output) -> Optional[Fault]:
     """Adds one recording, and answers what is wrong with it."""
-    survey = Survey(data, begin, end, asked.keep_going, asked=asked_of(asked))
+    jobs = jobs_of(asked.jobs, end - begin)
+    survey = Survey(data, begin, end, asked.keep_going, asked=asked_of(asked), jobs=jobs)
     clock, ends = survey.clock, survey.ends() if survey.rows else []
 
     def civil(count: Optional[int]) -> Optional[str]:
@@ -188,8 +221,7 @@ def add(asked: Namespace, data: Data, begin: int, end: int, base: Database, numb
     base.add('setup', [(number, name, value) for name, value in survey.names.attributes.items()])
     ordered, reader = Ordered(data, begin, survey, asked.channel), Reader(survey.names, asked.turned_labels)
     base.measure(asked_for(asked, survey, out))
-    for part in ordered.parts():
-        add_part(base, number, ordered, part, reader)
+    add_parts(base, number, ordered, reader, jobs)
     try:
         judge(survey, out, KINDS_READ, asked.channel)
     except Fault as fault:
@@ -198,6 +230,7 @@ def add(asked: Namespace, data: Data, begin: int, end: int, base: Database, numb
 
 
 def add_clock(base: Database, number: int, line: TimeLine, ends: Sequence[Tuple[int, int]]) -> None:
+    """Adds what a time channel says of its clock, and its jumps."""
     drift = line.drift()
     base.add('clocks', [(number, line.channel, line.packets, line.packets - len(line.told), line.steps_back(), line.without(ends),
                          drift and drift[0])])
@@ -205,9 +238,32 @@ def add_clock(base: Database, number: int, line: TimeLine, ends: Sequence[Tuple[
                              for jump in line.jumps()])
 
 
-def told(lost: int) -> Optional[int]:
-    """How many were lost, as far as a column takes it; none where the recording does not tell how many."""
-    return None if lost == UNTOLD else min(lost, MOST_NUMBER)
+def add_parts(base: Database, number: int, ordered: Ordered, reader: Reader, jobs: int) -> None:
+    """Adds the entries of all parts. Of several processes each makes a database of its own of parts that follow one another; these
+    are put together in their order."""
+    parts = ordered.parts()
+    jobs = min(jobs, len(parts), LIMIT)
+    if jobs < 2 or not hasattr(os, 'fork'):
+        for part in parts:
+            add_part(base, number, ordered, part, reader)
+        return
+    shares = [(place, parts[len(parts) * place // jobs:len(parts) * (place + 1) // jobs]) for place in range(jobs)]
+
+    def made(share: Tuple[int, List[Part]]) -> None:
+        own = base.share(share[0])
+        for part in share[1]:
+            add_part(own, number, ordered, part, reader)
+        own.base.execute('COMMIT')
+        own.base.close()
+
+    try:
+        side_by_side(made, shares)
+        for place, _ in shares:
+            base.take(place)
+    finally:
+        for place, _ in shares:
+            if os.path.exists(base.name_of(place)):
+                os.remove(base.name_of(place))
 
 
 def add_part(base: Database, number: int, ordered: Ordered, part: Part, reader: Reader) -> None:
@@ -216,25 +272,48 @@ def add_part(base: Database, number: int, ordered: Ordered, part: Part, reader: 
     losses: List[Tuple[int, tuple]] = []
     for kind, places in by_kind([packet for _, packet, _, _ in found]).items():
         some = [found[place] for place in places]
-        states = [ordered.states.get(place) for place, _, _, _ in some]
-        block, many = read([packet for _, packet, _, _ in some], reader.numbering, [NONE if one is None else one for one in states])
-        values, counts, at = rows_of(MEANT[kind](block, reader)), block.count.tolist(), 0
+        block = block_of(some, ordered, part, reader)
+        if not len(block):
+            continue
+        counts, lost = (block.count & COUNT_BITS).tolist(), lost_of(block)
+        times = clock.texts(block.count.tolist()) if clock else [None] * len(block)
+        names = [reader.names.channel(channel) or None for channel in reader.numbering.channels]
+        channels = block.columns['number'].tolist()
+        columns: List[Sequence] = [[number] * len(block), channels, list(map(names.__getitem__, block.channel.tolist())), counts,
+                                   times, lost, *columns_of(MEANT[kind](block, reader))]
+        rows: Iterable[Tuple] = zip(*columns)
         more = base.measured.rows(block, reader.numbering) if base.measured else None
-        rows: List[Tuple[int, tuple]] = []
-        for (place, packet, lost, _), own in zip(some, many.tolist()):
-            name, count_0, first = reader.names.channel(packet.channel) or None, ordered.base(place), True
-            for entry, count in enumerate(counts[at:at + own], at):
-                instant, what = count + count_0, next(values)
-                if more is not None:
-                    what = (*what, *more(entry))
-                if part.low <= instant < part.high:
-                    when = clock.text(instant) if clock else None
-                    rows.append((instant, (number, packet.channel, name, instant & COUNT_BITS, when, told(lost), *what)))
-                    if packet.flags & 0x10 and first:
-                        losses.append((place, (number, packet.channel, name_of(kind), instant & COUNT_BITS, when, told(lost))))
-                lost, first = 0, False
-            at += own
-        rows.sort(key=lambda pair: (pair[0], pair[1][1]))
-        base.add(TABLES[kind], [row for _, row in rows])
+        base.add(TABLES[kind], rows if more is None else [(*row, *more(entry)) for entry, row in enumerate(rows)])
+        for at in numpy.flatnonzero(block.columns['flagged']).tolist():
+            losses.append((int(block.columns['order'][at]),
+                           (number, channels[at], name_of(kind), counts[at], times[at], lost[at])))
     losses.sort(key=lambda one: one[0])
     base.add('losses', [row for _, row in losses])
+
+
+def block_of(some: Sequence[Tuple[int, Packet, int, bool]], ordered: Ordered, part: Part, reader: Reader) -> Block:
+    """The entries that packets of one kind have in a part, in the order of a replay, with their instants in place of their counts.
+
+    Their columns: `number`, the channel; `order`, the number of the packet; `lost`, how many were lost before, as far as a column
+    takes it, or UNTOLD; `flagged`, whether a loss is told there.
+    """
+    packets = [packet for _, packet, _, _ in some]
+    states = [ordered.states.get(place) for place, _, _, _ in some]
+    block, many = read(packets, reader.numbering, [NONE if one is None else one for one in states])
+    block.count = block.count + numpy.array([ordered.base(place) for place, _, _, _ in some], numpy.int64)[block.of]
+    lost, flagged = numpy.zeros(len(block), numpy.int64), numpy.zeros(len(block), bool)
+    for first, own, (_, packet, gone, _) in zip((numpy.cumsum(many) - many).tolist(), many.tolist(), some):
+        if own and packet.flags & 0x10:
+            lost[first], flagged[first] = min(gone, MOST_NUMBER), True
+    block.columns.update(lost=lost, flagged=flagged,
+                         number=numpy.array([packet.channel for packet in packets], numpy.int64)[block.of],
+                         order=numpy.array([place for place, _, _, _ in some], numpy.int64)[block.of])
+    return between(in_order(block), part.low, part.high)
+
+
+def lost_of(block: Block) -> List[Optional[int]]:
+    """How many were lost before each entry; none where it is not known how many."""
+    found: List[Optional[int]] = block.columns['lost'].tolist()
+    for at in numpy.flatnonzero(block.columns['lost'] == UNTOLD).tolist():
+        found[at] = None
+    return found

@@ -1,13 +1,13 @@
 """What a command could not read, and what of its times is doubtful: a line each."""
 from __future__ import annotations
 
-from typing import Any, Container, Iterator, List, NamedTuple, Optional
+from typing import Container, Iterator, List, NamedTuple, Optional
 
 from .clocks import HEADERS
 from .inputs import Output, unread_text
 from .kinds import KINDS
 from .standard import INDEX, LOSS, NETWORK_TIME, Fault
-from .survey import REPORT_ROW, Survey, name_of
+from .survey import REPORT_ROW, Survey, Surveyed, name_of
 
 KINDS_READ = frozenset(kind.type for kind in KINDS)
 
@@ -20,6 +20,7 @@ class NotRead(Fault):
         self.said = lines
 
     def lines(self) -> List[str]:
+        """A line for each channel."""
         return self.said
 
 
@@ -31,10 +32,11 @@ class Unread(NamedTuple):
     why: str
 
     def text(self) -> str:
+        """All of that in words."""
         return unread_text(self.channel, name_of(self.kind), self.packets, self.why)
 
 
-def unread_in(survey: Survey) -> Iterator[Unread]:
+def unread_in(survey: Surveyed) -> Iterator[Unread]:
     """All packets of a recording that were not read, but for those of what a computer makes."""
     for row in survey.rows:
         for why, packets in sorted(row.unread.items()):
@@ -42,7 +44,7 @@ def unread_in(survey: Survey) -> Iterator[Unread]:
                 yield Unread(row.channel, row.kind, packets, why)
 
 
-def doubts_of(survey: Any) -> List[str]:
+def doubts_of(survey: Surveyed) -> List[str]:
     """What of a recording's times is doubtful, and which packets stand twice."""
     clock, lines = survey.clock, []
     ends = survey.ends() if survey.rows else []
@@ -71,7 +73,7 @@ def doubts_of(survey: Any) -> List[str]:
             if apart > MOST_APART:
                 lines.append('times: they are those of channel %d; channel %d tells others, up to %d.%02d s apart' % (
                     clock.channel, line.channel, *divmod(apart // 10 ** 5, 100)))
-    if getattr(survey, 'out_of_step', 0):
+    if survey.out_of_step:
         lines.append('times: %s packets say that their counter is out of step' % '{:,}'.format(survey.out_of_step))
     lines += ['channel %d, %s: %d packet%s twice, and so do their entries' % (
         row.channel, name_of(row.kind), row.doubled, ' stands' if row.doubled == 1 else 's stand')
@@ -81,7 +83,7 @@ def doubts_of(survey: Any) -> List[str]:
     return lines
 
 
-def log_said(survey: Any) -> List[str]:
+def log_said(survey: Surveyed) -> List[str]:
     """What the recorder's log channel says of the clock and of losses, and what it does not say."""
     after = ['channel %d: %d messages were lost after its last one' % (row.channel, row.after) for row in survey.rows if row.after]
     return survey.log.clock() + after + survey.log_remarks
@@ -120,7 +122,7 @@ def say_no_setup(survey: Survey, out: Output) -> None:
         out.note(NO_SETUP)
 
 
-def has_no_setup(survey: Any) -> bool:
+def has_no_setup(survey: Surveyed) -> bool:
     """Whether the first packet is read, and is no setup."""
     return bool(survey.rows) and not survey.begins_with_setup and not (survey.damage and survey.damage[0].offset == 0)
 
@@ -133,7 +135,7 @@ NO_SETUP = 'the first packet is no setup'
 TAGS = '', 'stamp of the first bit', 'stamp of the first word', 'stamp of a reserved place'
 
 
-def quality_of(survey: Any, instant: int, is_out: bool, tag: int = 0) -> str:
+def quality_of(survey: Surveyed, instant: int, is_out: bool, tag: int = 0) -> str:
     """How good the time of an entry is: locked or free, and what else is to be known of it, with + between them; invalid where it
     has none and time packets say that they are invalid, and nothing where there are none. `is_out` is of an entry whose packet says
     that its counter is out of step, `tag` where in a message the bit is that its stamp is of."""

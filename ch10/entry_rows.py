@@ -3,7 +3,7 @@ binary."""
 from __future__ import annotations
 
 import struct
-from typing import Any, Callable, Dict, Iterable, Iterator, List, NamedTuple, Optional, Sequence, Set, Tuple
+from typing import Callable, Container, Dict, Iterable, Iterator, List, NamedTuple, Optional, Sequence, Set, Tuple, TYPE_CHECKING
 
 from .arrays import numpy
 from .bodies import OWN, before_of, by_kind, in_some, read
@@ -11,7 +11,11 @@ from .clocks import Clock
 from .columns import Group, Numbering, columns_of
 from .kinds import KINDS
 from .packets import UNTOLD, Packet, loss_of, lost_before
+from .standard import Key, Value
 from .store_schema import COMMON, MOST_NUMBER
+
+if TYPE_CHECKING:
+    from .load import Layout
 
 DAY = 864000000000  # in units of 100 ns, as times are counted here
 YEAR_2000 = 730120 * DAY  # where PostgreSQL's times begin
@@ -32,6 +36,7 @@ class Table(NamedTuple):
 
     @property
     def names(self) -> List[str]:
+        """The columns, those of all tables first."""
         return [name for name, _ in COMMON] + [name for name, _ in self.columns]
 
 
@@ -41,18 +46,18 @@ TABLES = {kind.type: Table(kind.table, kind.own, kind.together) for kind in KIND
 class Kept(dict):
     """Values by a key, each made once; begun anew where there are very many."""
 
-    def __init__(self, make: Callable[[Any], Any]) -> None:
+    def __init__(self, make: Callable[[Value], Value]) -> None:
         dict.__init__(self)
         self.make = make
 
-    def __missing__(self, key: Any) -> Any:
+    def __missing__(self, key: Value) -> Value:
         if len(self) > 1 << 16:
             self.clear()
         self[key] = made = self.make(key)
         return made
 
 
-def flat(columns: Sequence[Sequence[Any]]) -> Iterator[Sequence[Any]]:
+def flat(columns: Sequence[Sequence[Value]]) -> Iterator[Sequence[Value]]:
     """Columns, each by itself."""
     for column in columns:
         if type(column[0]) is tuple:
@@ -79,13 +84,13 @@ class Packer:
         self.kinds = [kind.split(' ')[0] for _, kind in COMMON] + [kind for _, kind in table.columns]
         self.fixed = len(self.kinds) - sum(table.together)
         self.texts = [place for place in range(self.fixed) if self.kinds[place].startswith('{text}')]
-        self.made: Dict[int, Tuple[struct.Struct, List[Any]]] = {}
+        self.made: Dict[int, Tuple[struct.Struct, List[Value]]] = {}
         self.tails, at = [], self.fixed
         for number in table.together:
             self.tails.append(self.tail(self.kinds[at:at + number]))
             at += number
 
-    def tail(self, kinds: List[str]) -> Callable[[Any], bytes]:
+    def tail(self, kinds: List[str]) -> Callable[[Value], bytes]:
         """What makes the columns that stand together into bytes: one of bytes anew each time, others once for each value."""
         if kinds == ['{bytes}']:
             return counted
@@ -93,23 +98,25 @@ class Packer:
             return Kept(lambda value: self.pack_one((value,), kinds)).__getitem__
         return Kept(lambda values: self.pack_one(values, kinds)).__getitem__
 
-    def form(self, number: int) -> Tuple[struct.Struct, List[Any]]:
+    def form(self, number: int) -> Tuple[struct.Struct, List[Value]]:
         """The struct of so many rows without NULL in a column of one length, and its arguments with room for their values."""
         if number not in self.made:
-            text, words = 'h', [len(self.kinds)]
+            text = 'h'
+            words: List[Value] = [len(self.kinds)]
             for kind in self.kinds[:self.fixed]:
                 text, words = text + 'i' + FIXED[kind][0], words + [FIXED[kind][1], None]
             self.made[number] = struct.Struct('>' + text * number), words * number
         return self.made[number]
 
-    def pack(self, columns: Sequence[Sequence[Any]]) -> bytes:
+    def pack(self, columns: Sequence[Sequence[Value]]) -> bytes:
         """The bytes of rows that are given by columns."""
         number = len(columns[0])
         if number <= self.MOST:
             return self.pack_some(columns)
         return b''.join(self.pack_some([column[at:at + self.MOST] for column in columns]) for at in range(0, number, self.MOST))
 
-    def pack_some(self, given: Sequence[Sequence[Any]]) -> bytes:
+    def pack_some(self, given: Sequence[Sequence[Value]]) -> bytes:
+        """The bytes of so many rows as one struct takes."""
         fixed, columns, number = self.fixed, list(given), len(given[0])
         if any(None in column for column in columns[:fixed]):
             fronts = [struct.pack('>h', len(self.kinds)) + self.pack_one(row, self.kinds) for row in zip(*columns[:fixed])]
@@ -129,7 +136,7 @@ class Packer:
         return b''.join([part for row in zip(*parts) for part in row])
 
     @staticmethod
-    def pack_one(values: Sequence[Any], kinds: Sequence[str]) -> bytes:
+    def pack_one(values: Sequence[Value], kinds: Sequence[str]) -> bytes:
         """Some values, of which some may be NULL."""
         parts = []
         for kind, value in zip(kinds, values):
@@ -141,7 +148,7 @@ class Packer:
         return b''.join(parts)
 
 
-def counted(value: Any) -> bytes:
+def counted(value: Value) -> bytes:
     """A value of varying length after its length."""
     if value is None:
         return NULL
@@ -178,13 +185,14 @@ class Reader:
     place, and `session` what tells the session.
     """
 
-    def __init__(self, number: int, wanted: Any, report: Optional[Tuple[int, int]], states: Dict[int, int], layout: Any) -> None:
+    def __init__(self, number: int, wanted: Container[Key], report: Optional[Tuple[int, int]], states: Dict[int, int],
+                 layout: Layout) -> None:
         self.number, self.wanted, self.report, self.states = number, wanted, report, states
         self.base, self.session = layout.base, layout.session
         self.numbering = Numbering()
 
     def columns(self, packets: Iterable[Packet],
-                times: Callable[[Sequence[int]], Sequence[Any]]) -> Iterator[Tuple[int, List[Sequence[Any]]]]:
+                times: Callable[[Sequence[int]], Sequence[Value]]) -> Iterator[Tuple[int, List[Sequence[Value]]]]:
         """The data type and the columns of those packets that have rows."""
         following = session = None
         for held in in_some(packets):
@@ -205,7 +213,7 @@ class Reader:
             yield from self.some(held[begin:], losses[begin:], times)
 
     def some(self, packets: List[Packet], losses: List[int],
-             times: Callable[[Sequence[int]], Sequence[Any]]) -> Iterator[Tuple[int, List[Sequence[Any]]]]:
+             times: Callable[[Sequence[int]], Sequence[Value]]) -> Iterator[Tuple[int, List[Sequence[Value]]]]:
         """The same of some packets, before each of which so many messages were lost."""
         for kind, places in by_kind(packets).items():
             before = before_of([packets[place] for place in places], self.states)
@@ -232,7 +240,7 @@ class Reader:
             yield kind, front + own_columns(kind, OWN[kind](block))
 
 
-def own_columns(kind: int, groups: Sequence[Group]) -> List[Sequence[Any]]:
+def own_columns(kind: int, groups: Sequence[Group]) -> List[Sequence[Value]]:
     """The columns of a kind's table: those by themselves, then those that stand together, as tuples."""
     first = len(groups) - len(TABLES[kind].together)
     return list(columns_of(groups[:first])) + [group.values() for group in groups[first:]]

@@ -4,7 +4,7 @@ from __future__ import annotations
 
 from argparse import Namespace
 import struct
-from typing import Any, Callable, Dict, Iterator, List, NamedTuple, Optional, Tuple
+from typing import Callable, Dict, Iterator, List, NamedTuple, Optional, Tuple
 
 from .arrays import Array, numpy
 from .clocks import asked_of
@@ -45,11 +45,13 @@ class Source:
                 'the recording' if asked.channel is None else 'channel %d' % asked.channel))
 
     def one_channel(self) -> int:
+        """The channel that is asked for, or the only one. A Wrong where there are more."""
         if len(set(self.channels)) > 1:
             raise Wrong('--channel says which of %s' % ', '.join(map(str, sorted(set(self.channels)))))
         return self.channels[0]
 
     def parts(self) -> Iterator[Part]:
+        """The packets of the kinds and channels that are asked for, each with what was lost before it."""
         report, behind = None, 0
         for number, packet in enumerate(packets(self.data, self.begin, self.begin + self.survey.size, False, self.survey.passed)):
             if packet.offset != behind:
@@ -77,6 +79,7 @@ class Source:
                                   for channel, many in sorted(self.passed.items())))
 
     def time(self, instant: int) -> Optional[str]:
+        """The civil time of an instant as text, or None."""
         return self.survey.clock.text(instant) if self.survey.clock else None
 
     def ticks(self, instant: int) -> Optional[int]:
@@ -86,6 +89,7 @@ class Source:
 
 
 def batch_of(part: Part) -> Batch:
+    """The entries' bytes of one packet."""
     octets = numpy.frombuffer(part.body + bytes(8), numpy.uint8)
     word = int.from_bytes(part.body[:4], 'little')
     return Batch(octets, [4], [len(part.body)], [word], [part.packet.counter], [second_of(part.packet.flags, part.packet.second)])
@@ -104,6 +108,7 @@ def block(kind: int, body: bytes) -> bytes:
 
 
 def option(code: int, value: bytes) -> bytes:
+    """An option of pcapng: code, length and value, filled up to four bytes."""
     return struct.pack('<HH', code, len(value)) + value + bytes(-len(value) % 4)
 
 
@@ -166,6 +171,7 @@ def stream_of(body: bytes) -> Optional[bytes]:
 
 
 def as_ts(asked: Namespace, data: Data, out: Output) -> None:
+    """The transport stream of one video channel."""
     source = Source(asked, data, VIDEO)
     channel = source.one_channel()
     for part in source.parts():
@@ -228,6 +234,7 @@ def samples_of(form: Analog, body: bytes) -> Array:
 
 
 def analog_parts(source: Source) -> Iterator[Tuple[Part, Analog, Array]]:
+    """The packets of analog channels that can be read, with their form and samples."""
     for part in source.parts():
         form = analog_of(part.body)
         if form is None:
@@ -269,7 +276,7 @@ def as_wav(asked: Namespace, data: Data, out: Output) -> None:
         total += len(found) // wide
     if not wide:
         source.judge(out)
-    rate = round(before * 10 ** 7 / (last - first)) if last != first else 0
+    rate = 0 if first is None or last is None or last == first else round(before * 10 ** 7 / (last - first))
     if not 0 < rate < 1 << 32:
         raise Fault('the packets of channel %d tell no rate: --as samples' % channel)
     size = 2 * total * wide
@@ -332,6 +339,7 @@ def as_frames(asked: Namespace, data: Data, out: Output) -> None:
 
 
 def write_frames(source: Source, out: Output, part: Part, mode: str, lines: List[Tuple[int, str, bytes]]) -> None:
+    """Writes a line for each minor frame of a packet; what was lost stands at the first."""
     lost = lost_text(part.lost)
     for instant, lock, value in lines:
         cells = part.packet.channel, instant & COUNT_BITS, source.time(instant) or '', lost, mode, lock, digits(value)
@@ -339,9 +347,10 @@ def write_frames(source: Source, out: Output, part: Part, mode: str, lines: List
         lost = '0'
 
 
-FORMS: Dict[str, Callable[[Namespace, Any, Output], None]] = {
+FORMS: Dict[str, Callable[[Namespace, Data, Output], None]] = {
     'pcapng': as_pcapng, 'ts': as_ts, 'wav': as_wav, 'samples': as_samples, 'frames': as_frames}
 
 
 def export(asked: Namespace, data: Data, out: Output) -> None:
+    """`ch10 export`."""
     FORMS[asked.form](asked, data, out)

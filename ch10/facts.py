@@ -5,17 +5,17 @@ import hashlib
 import os
 import re
 import subprocess
-from typing import Any, Callable, Dict, List, Optional, Tuple
+from typing import Callable, Dict, List, Optional, Tuple
 
 from .bodies import counts
-from .clocks import NOTHING, Asked, Clock, TimeLine, Timing
+from .clocks import NOTHING, Asked, Timing
 from .doubts import NO_SETUP, doubts_of, has_no_setup, log_said, unread_in
 from .kinds import by_type
 from .log_lines import MESSAGE, Log, use
 from .packets import HEADER, ONE_WORD, packet_at
-from .standard import INDEX, LOSS, SETUP, TIME, Fault, Wrong, little
+from .standard import LOSS, SETUP, TIME, Data, Facts, Fault, Wrong, little
 from .store_schema import MOST_NUMBER
-from .survey import REPORT_ROW, Row, Survey, counts_of, ends_of, name_of, session_ends
+from .survey import REPORT_ROW, Row, Survey, Surveyed, counts_of, name_of
 from .times import civil, time
 from .tmats import Names
 
@@ -64,12 +64,13 @@ def said_of(program: str, command: str, data: memoryview) -> Tuple[int, str]:
         source = subprocess.PIPE if held is None else held
         with subprocess.Popen([program, command], stdin=source, stdout=subprocess.PIPE, stderr=subprocess.PIPE, bufsize=0) as made:
             try:
-                if held is None:
+                if made.stdin is not None:
                     write_all(made.stdin.write, data)
                     made.stdin.close()
             except BrokenPipeError:
                 pass
-            said = made.stdout.read().decode('ascii', 'replace').strip() or made.stderr.read().decode('ascii', 'replace').strip()
+            said = next(filter(None, (stream.read().decode('ascii', 'replace').strip()
+                                      for stream in (made.stdout, made.stderr) if stream)), '')
     finally:
         if held is not None:
             os.close(held)
@@ -95,16 +96,17 @@ def in_memory(data: memoryview) -> Optional[int]:
 
 
 def write_all(write: Callable[[memoryview], int], data: memoryview) -> None:
+    """Writes all bytes, in parts, however many a call takes."""
     for at in range(0, len(data), PART):
         part = data[at:at + PART]
         while part:
             part = part[write(part):]
 
 
-def verdict_of(program: Optional[str], data: memoryview) -> Dict[str, Any]:
+def verdict_of(program: Optional[str], data: memoryview) -> Facts:
     """The verdict on a recording and its place. It is `unjudged` where no program is given, or where it ended without one, as for
     want of memory."""
-    found: Dict[str, Any] = dict(verdict='unjudged', opaque=None, fault_offset=None, fault=None)
+    found: Facts = dict(verdict='unjudged', opaque=None, fault_offset=None, fault=None)
     if program is None:
         return found
     _, said = said_of(program, 'check', data)
@@ -118,7 +120,7 @@ def verdict_of(program: Optional[str], data: memoryview) -> Dict[str, Any]:
     return found
 
 
-def verdict_of_image(program: Optional[str], data: memoryview, fault: Fault) -> Dict[str, Any]:
+def verdict_of_image(program: Optional[str], data: memoryview, fault: Fault) -> Facts:
     """The verdict on an image whose directory this reader cannot take."""
     place = re.search(r'at offset (\d+)$', str(fault))
     found = dict(verdict='faulty', opaque=None, fault_offset=int(place[1]) if place else 0, fault='BadDirectory')
@@ -137,7 +139,7 @@ def text_of(ticks: int, dated: bool) -> Optional[str]:
     return said and '%s.%07d' % (said, ticks % 10 ** 7)
 
 
-class StrictSurvey:
+class StrictSurvey(Surveyed):
     """What `Survey` finds of a recording that the program calls strict, in a tenth of its time.
 
     The rules of a strict file stand for what is not looked at: its sums are right, no sequence number is missing, and the counts of
@@ -145,13 +147,13 @@ class StrictSurvey:
     words, and one packet of each channel is read.
     """
 
-    def __init__(self, data: Any, begin: int, end: int, asked: Asked = NOTHING, more: Optional[Log] = None) -> None:
+    def __init__(self, data: Data, begin: int, end: int, asked: Asked = NOTHING, more: Optional[Log] = None) -> None:
         rows: Dict[Tuple[int, int], Row] = {}
         last: Dict[Tuple[int, int], int] = {}
         self.timing, self.log = Timing(), Log()
-        self.damage: List[Any] = []
+        self.damage = []
         self.fault, self.out_of_step, self.begins_with_setup = None, 0, True
-        self.setup: Optional[bytes] = None
+        self.setup = None
         at, report = begin, None
         head, one_word = HEADER.unpack_from, ONE_WORD.unpack_from
         while at < end:
@@ -193,21 +195,12 @@ class StrictSurvey:
         self.log_remarks = use(rows, self.log, lambda channel, kind: rows.setdefault((channel, kind), Row(channel, kind)), more)
         self.rows = [rows[key] for key in sorted(rows)]
         self.names = Names(self.setup)
-        self.times: List[TimeLine] = list(self.timing.lines.values())
+        self.times = list(self.timing.lines.values())
         self.sessions = self.timing.sessions
-        self.clock: Optional[Clock] = self.timing.clock(asked, self.names.attributes)
-
-    def drawn(self) -> List[Row]:
-        return [row for row in self.rows if row.kind not in (SETUP, INDEX, REPORT_ROW)] or self.rows
-
-    def span(self) -> Optional[Tuple[int, int]]:
-        return ends_of(self.drawn())
-
-    def ends(self) -> List[Tuple[int, int]]:
-        return session_ends(self.drawn(), self.sessions)
+        self.clock = self.timing.clock(asked, self.names.attributes)
 
 
-def last_count(data: Any, at: int, begin: int, end: int) -> int:
+def last_count(data: Data, at: int, begin: int, end: int) -> int:
     """The count of the last entry of a packet of a strict recording."""
     packet = packet_at(data, at, begin, end, False)
     return LAST_COUNTS[packet.kind](packet.body) if packet.kind in LAST_COUNTS else counts(packet)[-1]
@@ -224,22 +217,32 @@ def attributes_of(names: Names) -> List[Tuple[str, str]]:
     return list(found.items())
 
 
-def damage_of(survey: Any) -> List[Tuple[int, int, str]]:
+def damage_of(survey: Surveyed) -> List[Tuple[int, int, str]]:
     """The stretches that were passed over: offset, length, and why."""
     return [(stretch.offset, stretch.length, stretch.why) for stretch in survey.damage]
 
 
 # ---- all of it
 
-def facts_of(data: Any, begin: int, end: int, program: Optional[str], survey: Optional[Survey] = None,
-             asked: Asked = NOTHING) -> Dict[str, Any]:
+def facts_of(data: Data, begin: int, end: int, program: Optional[str], survey: Optional[Survey] = None,
+             asked: Asked = NOTHING) -> Facts:
     """What the catalogue keeps of one recording within some bytes, but for its sum and its place; by the pass that was made, where
     one was."""
     with memoryview(data)[begin:end] as view:
         found = verdict_of(program, view)
-    if survey is None:
-        is_strict = found['verdict'] == 'strict'
-        survey = StrictSurvey(data, begin, end, asked) if is_strict else Survey(data, begin, end, asked=asked)
+    made: Surveyed
+    if survey is not None:
+        made = survey
+    elif found['verdict'] == 'strict':
+        made = StrictSurvey(data, begin, end, asked)
+    else:
+        made = Survey(data, begin, end, asked=asked)
+    found.update(kept_of(made, end - begin))
+    return found
+
+
+def kept_of(survey: Surveyed, size: int) -> Facts:
+    """What the catalogue keeps of a pass over so many bytes."""
     clock, rows = survey.clock, []
     for row in survey.rows:
         times = clock.ends(row.ends()) if clock else (None, None)
@@ -249,7 +252,7 @@ def facts_of(data: Any, begin: int, end: int, program: Optional[str], survey: Op
     ends = survey.ends() if survey.rows else []
     first, last = clock.ends(ends) if clock else (None, None)
     low, high = counts_of(ends) if ends else (None, None)
-    found.update(kind='recording', size=end - begin, first_time=first, last_time=last, first_count=low, last_count=high,
+    found: Facts = dict(kind='recording', size=size, first_time=first, last_time=last, first_count=low, last_count=high,
                  packets=sum(row.packets for row in survey.rows), entries=sum(row.entries for row in survey.rows),
                  channels=rows, damage=damage_of(survey), attributes=attributes_of(survey.names),
                  unread=[(one.channel, one.kind, one.packets, one.why) for one in unread_in(survey)],
@@ -265,13 +268,14 @@ def most(number: int) -> int:
     return min(number, MOST_NUMBER)
 
 
-def nothing_in(size: int) -> Dict[str, Any]:
+def nothing_in(size: int) -> Facts:
     """What is kept of an input that no pass went over."""
-    found: Dict[str, Any] = dict.fromkeys(('first_time', 'last_time', 'first_count', 'last_count'))
+    found: Facts = dict.fromkeys(('first_time', 'last_time', 'first_count', 'last_count'))
     found.update(dict.fromkeys(('packets', 'entries', 'damaged', 'damaged_bytes') + SUMS, 0), kind='image', size=size, channels=[],
                  damage=[], attributes=[], unread=[], remarks=[])
     return found
 
 
 def sum_of(view: memoryview) -> str:
+    """The SHA-256 of some bytes, as hex digits."""
     return hashlib.sha256(view).hexdigest()

@@ -3,10 +3,11 @@ from __future__ import annotations
 
 import json
 import re
-from typing import Any, Dict, Iterable, List, Optional, Sequence, Tuple
+from typing import Dict, Iterable, List, Optional, Sequence, Tuple
 
-from .inputs import Output, unread_text
-from .standard import Fault, Wrong
+from .column_files import files_of
+from .inputs import Output, printable, unread_text
+from .standard import Facts, Fault, Value, Words, Wrong
 from .range_words import Moment
 from .store import Store, open_store
 from .store_schema import CASE, CHANNEL_COLUMNS, RECORDING_COLUMNS
@@ -28,9 +29,9 @@ def pattern(word: str) -> str:
 class Question:
     """What a call asks for, as conditions on recordings and on their channels, with the values that go into them."""
 
-    def __init__(self, asked: Any) -> None:
-        self.channel: List[Tuple[str, List[Any]]] = []
-        self.recording: List[Tuple[str, List[Any]]] = []
+    def __init__(self, asked: Words) -> None:
+        self.channel: List[Tuple[str, List[Value]]] = []
+        self.recording: List[Tuple[str, List[Value]]] = []
         if asked.channel:
             self.one_of(self.channel, 'c.channel', asked.channel)
         if asked.type:
@@ -52,7 +53,7 @@ class Question:
         if asked.sum:
             self.recording.append(('r.sha256 BETWEEN ? AND ?', [asked.sum, asked.sum + 'g']))
         if asked.volume or asked.place:
-            places: List[Tuple[str, List[Any]]] = []
+            places: List[Tuple[str, List[Value]]] = []
             if asked.volume:
                 self.one_of(places, 'p.volume', asked.volume)
             if asked.place:
@@ -63,7 +64,7 @@ class Question:
                 'r.id IN (SELECT a.recording FROM attribute a WHERE a.code = ? AND substr(a.value, 1, 100) = ? AND a.value = ?)',
                 [code, value[:100], value]))
 
-    def conditions(self, store: Store) -> Tuple[str, List[Any]]:
+    def conditions(self, store: Store) -> Tuple[str, List[Value]]:
         """All conditions as one on recordings, and its values."""
         every = list(self.recording)
         if self.channel:
@@ -85,11 +86,13 @@ class Question:
         return store.rows(text, values_of(self.leading))[0][0] == MANY
 
     @staticmethod
-    def one_of(conditions: List, column: str, words: Sequence[Any]) -> None:
+    def one_of(conditions: List, column: str, words: Sequence[Value]) -> None:
+        """Adds that a column has one of some values."""
         conditions.append(('%s IN (%s)' % (column, ', '.join('?' * len(words))), list(words)))
 
     @staticmethod
     def like(conditions: List, column: str, word: str) -> None:
+        """Adds that a column is like a pattern with * and ?, whatever the case."""
         word = word.translate(CASE)
         front = re.split(r'[*?]', word, 1)[0]
         if front == word:
@@ -105,19 +108,22 @@ class Question:
         """Those that have some of a range of times, both ends taken in."""
         if first and last and first.dated != last.dated:
             raise Wrong('--from and --to are of two kinds: one has a date, the other a day of the year')
-        if first or last:
-            conditions.append(('length(%s.first_time) = ?' % of, [27 if (first or last).dated else 20]))
+        one = first or last
+        if one:
+            conditions.append(('length(%s.first_time) = ?' % of, [27 if one.dated else 20]))
         if first:
             conditions.append(('%s.last_time >= ?' % of, [first.first]))
         if last:
             conditions.append(('%s.first_time <= ?' % of, [last.last]))
 
 
-def joined(conditions: Sequence[Tuple[str, List[Any]]]) -> str:
+def joined(conditions: Sequence[Tuple[str, List[Value]]]) -> str:
+    """Conditions as text that all have to hold."""
     return ' AND '.join(text for text, _ in conditions) or '1 = 1'
 
 
-def values_of(conditions: Sequence[Tuple[str, List[Any]]]) -> List[Any]:
+def values_of(conditions: Sequence[Tuple[str, List[Value]]]) -> List[Value]:
+    """The values that go into conditions, in their order."""
     return [value for _, values in conditions for value in values]
 
 
@@ -130,7 +136,7 @@ PLACE_IN_TABLE = ('path', 'file_number', 'file_name')
 ORDER = 'r.first_time IS NULL, r.first_time, r.sha256'
 
 
-def found(store: Store, question: Question, limit: Optional[int], is_whole: bool) -> List[Dict[str, Any]]:
+def found(store: Store, question: Question, limit: Optional[int], is_whole: bool) -> List[Facts]:
     """The recordings that a question asks for, by their first time and then their sum, each with its places; whole, or what a table
     shows of them."""
     columns, of_place = (RECORDING, PLACE_COLUMNS) if is_whole else (IN_TABLE, PLACE_IN_TABLE)
@@ -140,7 +146,7 @@ def found(store: Store, question: Question, limit: Optional[int], is_whole: bool
         asked += ' ORDER BY %s LIMIT %d' % (ORDER, limit)
     rows = store.rows('SELECT r.*, %s FROM (%s) r LEFT JOIN place p ON p.recording = r.id ORDER BY %s, p.path, p.file_number' % (
         ', '.join('p.' + name for name in of_place), asked, ORDER), values)
-    made: List[Dict[str, Any]] = []
+    made: List[Facts] = []
     width, last = len(columns), None
     for row in rows:
         if row[0] != last:
@@ -157,7 +163,7 @@ def found(store: Store, question: Question, limit: Optional[int], is_whole: bool
 
 
 def of_recordings(store: Store, table_name: str, columns: Sequence[str], order: str, ids: Sequence[int], more: str = '',
-                  values: Sequence[Any] = ()) -> Iterable[Tuple]:
+                  values: Sequence[Value] = ()) -> Iterable[Tuple]:
     """The rows of a table that belong to some recordings, with the recording's id before them."""
     for at in range(0, len(ids), TOGETHER):
         some = list(ids[at:at + TOGETHER])
@@ -165,16 +171,16 @@ def of_recordings(store: Store, table_name: str, columns: Sequence[str], order: 
             ', '.join(columns), table_name, ', '.join('?' * len(some)), more, order), some + list(values))
 
 
-def channels_of(store: Store, question: Question, ids: Sequence[int]) -> Dict[int, List[Dict[str, Any]]]:
+def channels_of(store: Store, question: Question, ids: Sequence[int]) -> Dict[int, List[Facts]]:
     """Of each recording the channels that the question asks for; all where it asks for none."""
     more = ' AND ' + joined(question.channel) if question.channel else ''
-    made: Dict[int, List[Dict[str, Any]]] = {}
+    made: Dict[int, List[Facts]] = {}
     for row in of_recordings(store, 'channel', CHANNEL_COLUMNS, 'channel, data_type', ids, more, values_of(question.channel)):
         made.setdefault(row[0], []).append(dict(zip(CHANNEL_COLUMNS, row[1:])))
     return made
 
 
-def aligned(rows: Sequence[Sequence[Any]], left: Sequence[str]) -> List[str]:
+def aligned(rows: Sequence[Sequence[Value]], left: Sequence[str]) -> List[str]:
     """Rows in columns: those of times and those whose heads are named to the left, all others to the right."""
     columns = []
     for cells in zip(*rows):
@@ -185,11 +191,8 @@ def aligned(rows: Sequence[Sequence[Any]], left: Sequence[str]) -> List[str]:
     return [' '.join(row).rstrip() for row in zip(*columns)]
 
 
-def printable(text: str) -> str:
-    return text if text.isprintable() else ''.join(letter if letter.isprintable() else '?' for letter in text)
-
-
-def verdict_text(facts: Dict[str, Any]) -> str:
+def verdict_text(facts: Facts) -> str:
+    """A verdict with its place, or with how many packets are opaque."""
     if facts['verdict'] == 'lenient':
         return 'lenient %d%s' % (facts['opaque'], ', damaged' if facts.get('damaged') else '')
     if facts['verdict'] == 'faulty':
@@ -197,7 +200,8 @@ def verdict_text(facts: Dict[str, Any]) -> str:
     return facts['verdict']
 
 
-def lost_text(facts: Dict[str, Any]) -> str:
+def lost_text(facts: Facts) -> str:
+    """How many messages were lost; with + where not all losses say."""
     return '%d%s' % (facts['lost'], '+' if facts['untold'] else '')
 
 
@@ -206,7 +210,8 @@ def cut(time: Optional[str]) -> str:
     return time[:-5] if time else '-'
 
 
-def place_text(facts: Dict[str, Any]) -> str:
+def place_text(facts: Facts) -> str:
+    """The first place of a recording, and how many more it has."""
     if not facts['places']:
         return '-'
     place = facts['places'][0]
@@ -216,11 +221,12 @@ def place_text(facts: Dict[str, Any]) -> str:
     return printable(text) + (' and %d more' % more if more else '')
 
 
-def as_json(facts: Dict[str, Any]) -> str:
+def as_json(facts: Facts) -> str:
+    """A recording as JSON, without its id."""
     return json.dumps({name: value for name, value in facts.items() if name != 'id'})
 
 
-def find(asked: Any, data: None, out: Output) -> None:
+def find(asked: Words, data: None, out: Output) -> None:
     """`ch10 catalogue find`."""
     question = Question(asked)
     store = open_store(asked.db, make=False)
@@ -240,7 +246,8 @@ def find(asked: Any, data: None, out: Output) -> None:
         out.line(line)
 
 
-def recording_table(made: Sequence[Dict[str, Any]]) -> List[str]:
+def recording_table(made: Sequence[Facts]) -> List[str]:
+    """The lines of a table of recordings."""
     rows: List[Tuple] = [('sum', 'bytes', 'verdict', 'first time', 'last time', 'entries', 'losses', 'lost', 'damaged', 'place')]
     for facts in made:
         rows.append((facts['sha256'][:12], facts['size'], verdict_text(facts), cut(facts['first_time']), cut(facts['last_time']),
@@ -253,7 +260,8 @@ CHANNEL_HEADS = ('channel', 'type', 'name', 'first time', 'last time', 'packets'
                  'jumps', 'opaque', 'bad')
 
 
-def channel_cells(row: Dict[str, Any]) -> Tuple:
+def channel_cells(row: Facts) -> Tuple:
+    """The cells of a channel, in the order of CHANNEL_HEADS."""
     return (row['channel'], row['type'], printable(row['name'] or '-'), cut(row['first_time']), cut(row['last_time']),
             row['packets'],
             '-' if row['entries'] is None else row['entries'], row['bytes'], '-' if row['rate'] is None else '%.1f' % row['rate'],
@@ -261,7 +269,8 @@ def channel_cells(row: Dict[str, Any]) -> Tuple:
             lost_text(row), row['jumps'], row['opaque'], row['bad'])
 
 
-def channel_table(made: Sequence[Dict[str, Any]], channels: Dict[int, List[Dict[str, Any]]]) -> List[str]:
+def channel_table(made: Sequence[Facts], channels: Dict[int, List[Facts]]) -> List[str]:
+    """The lines of a table of channels, with the sums of their recordings."""
     rows: List[Tuple] = [('sum',) + CHANNEL_HEADS + ('place',)]
     for facts in made:
         rows += [(facts['sha256'][:12],) + channel_cells(row) + (place_text(facts),) for row in channels.get(facts['id'], [])]
@@ -270,7 +279,7 @@ def channel_table(made: Sequence[Dict[str, Any]], channels: Dict[int, List[Dict[
 
 # ---- one recording
 
-def one(store: Store, front: str) -> Dict[str, Any]:
+def one(store: Store, front: str) -> Facts:
     """The recording whose sum begins so."""
     if not re.fullmatch('[0-9a-f]{4,64}', front):
         raise Wrong('%r is no sum: 4 to 64 hex digits of its front' % front[:70])
@@ -289,7 +298,7 @@ PARTS = (('place', PLACE_COLUMNS, 'path, file_number'), ('channel', CHANNEL_COLU
          ('attribute', ('code', 'value'), 'code'))
 
 
-def show(asked: Any, data: None, out: Output) -> None:
+def show(asked: Words, data: None, out: Output) -> None:
     """`ch10 catalogue show`."""
     store = open_store(asked.db, make=False)
     try:
@@ -299,6 +308,7 @@ def show(asked: Any, data: None, out: Output) -> None:
             parts = {}
             for name, columns, order in PARTS:
                 parts[name] = [dict(zip(columns, row[1:])) for row in of_recordings(store, name, columns, order, [number])]
+            files = list(files_of(store, number))
     finally:
         store.close()
     for place in parts['place']:
@@ -308,12 +318,15 @@ def show(asked: Any, data: None, out: Output) -> None:
         for name, rows in parts.items():
             for row in rows:
                 out.line(json.dumps(dict(row=name, sha256=facts['sha256'], **row)))
+        for one_file in files:
+            out.line(json.dumps(dict(row='columns', sha256=facts['sha256'], **one_file._asdict(), state=one_file.state(False))))
         return
-    for line in shown_one(facts, parts):
+    for line in shown_one(facts, parts, [one_file.text() for one_file in files]):
         out.line(line)
 
 
-def shown_one(facts: Dict[str, Any], parts: Dict[str, List[Dict[str, Any]]]) -> List[str]:
+def shown_one(facts: Facts, parts: Dict[str, List[Facts]], files: Sequence[str]) -> List[str]:
+    """All that is kept of a recording, as lines; those of its files of columns as they are."""
     lines = ['%s %s: %d bytes in %d packets, %s' % (facts['kind'], facts['sha256'], facts['size'], facts['packets'],
                                                     verdict_text(facts))]
     lines.append('judged by %s; added %s UTC' % (facts['judge'] or 'no program', facts['added']))
@@ -325,7 +338,7 @@ def shown_one(facts: Dict[str, Any], parts: Dict[str, List[Dict[str, Any]]]) -> 
         lines.append('at %s' % printable(text))
     if not parts['place']:
         lines.append('at no place: what lay there has been replaced')
-    lines += [printable(row['remark']) for row in parts['remark']]
+    lines += list(files) + [printable(row['remark']) for row in parts['remark']]
     types = {(row['channel'], row['data_type']): row['type'] for row in parts['channel']}
     lines += [unread_text(row['channel'], types[row['channel'], row['data_type']], row['packets'], row['why'])
               for row in parts['unread']]

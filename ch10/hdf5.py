@@ -9,23 +9,26 @@ written part by part. These columns are different:
     bytes       all of them one after the other, with columns of where each entry's begin, from 0 on, and how many there are; words
                 likewise
 
+The file has the SHA-256 of its recording as an attribute, by which a catalogue knows of what it was made.
+
 In MATLAB a group is a struct, a column a vector of it, and texts are a matrix of letters, a row for each.
 """
 from __future__ import annotations
 
 from argparse import Namespace
 import os
-from typing import Any, Dict, List, Optional
+from typing import Dict, List, Optional
 
-from .arrays import Array, Later, numpy
+from .arrays import Array, Foreign, Later, numpy
 from .clocks import asked_of
 from .doubts import KINDS_READ, judge
+from .facts import sum_of
 from .inputs import Output, one_part
 from .kinds import BUS, BY_NAME, KINDS, TIME, WEAPONS, Kind
-from .standard import Data, Wrong
+from .standard import SUM_OF_RECORDING, Data, Value, Wrong
 from .tables import NO_TIME, Recording, Table
 
-h5py: Any = Later('h5py', 'python3-h5py')
+h5py: Foreign = Later('h5py', 'python3-h5py')
 CHUNK = 1 << 14  # items of a chunk
 CLASSES = {'u1': 'uint8', 'u2': 'uint16', 'u4': 'uint32', 'u8': 'uint64', 'i2': 'int16', 'i4': 'int32', 'i8': 'int64',
            'f4': 'single'}
@@ -39,7 +42,7 @@ class Texts:
     def __init__(self) -> None:
         self.numbers: Dict[str, int] = {}
 
-    def of(self, values: Any) -> Array:
+    def of(self, values: Value) -> Array:
         """The numbers of some texts."""
         return numpy.array([self.numbers.setdefault(value, len(self.numbers)) for value in values], 'u4')
 
@@ -47,7 +50,7 @@ class Texts:
 class Columns:
     """The data sets of one kind."""
 
-    def __init__(self, group: Any, is_mat: bool) -> None:
+    def __init__(self, group: Foreign, is_mat: bool) -> None:
         self.group, self.is_mat = group, is_mat
         self.texts: Dict[str, Texts] = {}
         self.sizes: Dict[str, int] = {}
@@ -68,11 +71,11 @@ class Columns:
         if len(values):
             held[(0, slice(begin, end)) if self.is_mat else slice(begin, end)] = values
 
-    def add_texts(self, name: str, values: Any) -> None:
+    def add_texts(self, name: str, values: Value) -> None:
         """Adds texts to a column of numbers."""
         self.add(name, self.texts.setdefault(name, Texts()).of(values))
 
-    def add_many(self, name: str, values: Any, form: str) -> None:
+    def add_many(self, name: str, values: Value, form: str) -> None:
         """Adds what has several items for each entry: all items, and of each entry where they begin and how many they are."""
         sizes = numpy.array(list(map(len, values)), 'u8')
         begin = self.sizes.get(name, 0)
@@ -94,7 +97,7 @@ class Columns:
             made.attrs['MATLAB_int_decode'] = numpy.int32(2)
 
 
-def named(made: Any, kind: str) -> None:
+def named(made: Foreign, kind: str) -> None:
     """Gives a data set or group its class of MATLAB."""
     made.attrs['MATLAB_class'] = numpy.bytes_(kind)
 
@@ -125,6 +128,8 @@ def add_part(columns: Columns, kind: Kind, table: Table) -> None:
 def written(path: str, recording: Recording, kinds: List[Kind], is_mat: bool) -> None:
     """Writes the entries of a recording into a new file."""
     with h5py.File(path, 'w', userblock_size=512 if is_mat else 0) as file:
+        with memoryview(recording.data)[recording.begin:recording.end] as view:
+            file.attrs[SUM_OF_RECORDING] = sum_of(view)
         if not is_mat:
             file.attrs['times'] = '100 ns since 1970-01-01 00:00:00; %d: none' % NO_TIME
         for kind in kinds:

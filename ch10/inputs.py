@@ -8,7 +8,7 @@ import re
 import select
 import stat
 import sys
-from typing import Any, BinaryIO, List, Optional, Tuple
+from typing import BinaryIO, List, NamedTuple, Optional, Tuple, Union
 
 from .medium import File, bytes_of, directory
 from .standard import PATTERN, Data, Fault
@@ -36,6 +36,29 @@ def date_given() -> Optional[datetime.date]:
         return date_of(state) if stat.S_ISREG(state.st_mode) else None
     except (OSError, AttributeError, ValueError):
         return None
+
+
+class Source(NamedTuple):
+    """The file that an input is: its path, its size, and when it was last written to, in nanoseconds."""
+    path: str
+    size: int
+    changed: int
+
+    def beside(self, number: Optional[int], is_whole: bool) -> str:
+        """Where the index of a recording is, or of a file of an image by its number; of a walk to its end, or to a fault."""
+        return '%s%s%s.idx' % (self.path, '' if number is None else '.%d' % number, '' if is_whole else '.until')
+
+
+def source_given() -> Optional[Source]:
+    """The file that is standard input; None of anything else, and where the system does not say its path."""
+    try:
+        state, path = os.fstat(sys.stdin.fileno()), os.readlink('/proc/self/fd/%d' % sys.stdin.fileno())
+        there = os.stat(path)
+    except (OSError, AttributeError, ValueError):
+        return None
+    if not stat.S_ISREG(state.st_mode) or (there.st_dev, there.st_ino) != (state.st_dev, state.st_ino):
+        return None
+    return Source(path, state.st_size, state.st_mtime_ns)
 
 
 def date_of(state: os.stat_result) -> Optional[datetime.date]:
@@ -100,6 +123,7 @@ def listed(data: Data) -> Tuple[str, List[File]]:
 
 
 def the_file(files: List[File], number: int) -> File:
+    """The file of this number. A Fault where there is none."""
     if not 0 <= number < len(files):
         raise Fault('no file has the number %d: the image has %d' % (number, len(files)))
     return files[number]
@@ -117,6 +141,7 @@ def one_part(data: Data, number: Optional[int]) -> Tuple[str, int, int]:
     return ('%s, file %d of %s' % (shown(file.name), number, shown(volume)),) + bytes_of(data, file)
 
 
+Bytes = Union[bytes, bytearray, memoryview]
 HELD = 1 << 18
 
 
@@ -124,11 +149,12 @@ class Output:
     """What is written to a stream of bytes, by large writes. What has HELD bytes or more is written before the call ends."""
 
     def __init__(self, to: BinaryIO) -> None:
-        self.held: List[Any] = []
+        self.held: List[Bytes] = []
         self.size, self.to = 0, to
         self.notes: List[str] = []  # of what is written, for standard error
 
-    def write(self, data: Any) -> None:
+    def write(self, data: Bytes) -> None:
+        """Writes bytes, now or later."""
         if len(data) >= HELD:
             self.flush()
             self.to.write(data)
@@ -144,9 +170,11 @@ class Output:
             self.notes.append(text)
 
     def line(self, text: str) -> None:
+        """Writes a line in ASCII; other letters are question marks."""
         self.write(text.encode('ascii', 'replace') + b'\n')
 
     def flush(self) -> None:
+        """Writes what is held."""
         self.to.write(b''.join(self.held))
         self.to.flush()
         self.held, self.size = [], 0
@@ -155,6 +183,11 @@ class Output:
 def shown(name: str) -> str:
     """A name as `r10 files` prints it."""
     return re.sub('[^A-Za-z0-9._-]', '?', name)
+
+
+def printable(text: str) -> str:
+    """A text as a line takes it: what does not print is a question mark."""
+    return text if text.isprintable() else ''.join(letter if letter.isprintable() else '?' for letter in text)
 
 
 def unread_text(channel: int, name: str, packets: int, why: str) -> str:

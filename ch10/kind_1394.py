@@ -8,10 +8,14 @@ The first two have no stamp: they are at the packet's counter.
 """
 from __future__ import annotations
 
-from typing import Any, Dict, List
+from typing import Dict, List, TYPE_CHECKING
 
 from .arrays import Array, numpy
 from .columns import Batch, Block, Coded, Group, Number, Places, blobs_of, octets_of, of_own_size, with_singles
+from .standard import Data
+
+if TYPE_CHECKING:
+    from .fields import Reader
 
 LESS = 'less than its entries in a body'
 NUMBER = 0xFFFF
@@ -37,7 +41,7 @@ def count(batch: Batch, at: Array, of: Array) -> Array:
     return found
 
 
-def number_in(data: Any, at: int, size: int, word: int) -> int:
+def number_in(data: Data, at: int, size: int, word: int) -> int:
     """How many entries a body's word says."""
     return word & NUMBER if word >> 29 == GENERAL else 1
 
@@ -62,7 +66,7 @@ def event(block: Block) -> Array:
     return numpy.where(form == EVENT, block.numbers(numpy.where(form == EVENT, 3, 0), 1) >> 7, 0)
 
 
-def meant(block: Block, reader: Any) -> List[Group]:
+def meant(block: Block, reader: Reader) -> List[Group]:
     """The bytes, the event by name, the kind of body, and the synchronization code."""
     found = raw(block)
     return [found['bytes'], Coded(event(block), lambda bit: 'bus reset' if bit else ''), found['form'], found['sync']]

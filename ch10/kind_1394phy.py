@@ -3,10 +3,14 @@ the word say, each after a stamp and a word of 32 bits: the status (bits 31 to 2
 (19 and 18) and of the recorder's buffer (17), and the length in bytes (15 to 0)."""
 from __future__ import annotations
 
-from typing import Any, Dict, List
+from typing import Dict, List, TYPE_CHECKING
 
 from .arrays import Array
 from .columns import Batch, Block, Coded, Group, Hexed, Number, Places, blobs_of, octets_of, of_own_size
+from .standard import Data
+
+if TYPE_CHECKING:
+    from .fields import Reader
 
 LESS = 'less than its entries in a body'
 NUMBER = 0xFFFF
@@ -23,7 +27,7 @@ def count(batch: Batch, at: Array, of: Array) -> Array:
     return batch.stamps(at, of)
 
 
-def number_in(data: Any, at: int, size: int, word: int) -> int:
+def number_in(data: Data, at: int, size: int, word: int) -> int:
     """How many a body's word says."""
     return word & NUMBER
 
@@ -34,7 +38,7 @@ def raw(block: Block) -> Dict[str, Group]:
     return {'status': Hexed(head >> 24, 2), 'speed': Number(head >> 20 & 15), 'bytes': octets_of(block, 12, head & 0xFFFF)}
 
 
-def meant(block: Block, reader: Any) -> List[Group]:
+def meant(block: Block, reader: Reader) -> List[Group]:
     """The bytes, the errors by name, status and speed."""
     found = raw(block)
     return [found['bytes'], Coded(block.numbers(8, 4) >> 17 & 7, ERRORS.__getitem__), found['status'], found['speed']]

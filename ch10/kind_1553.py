@@ -3,11 +3,15 @@ gap times and their length in bytes."""
 from __future__ import annotations
 
 from functools import lru_cache
-from typing import Any, Dict, List, Tuple
+from typing import Dict, List, Optional, Tuple, TYPE_CHECKING
 
 from .arrays import Array, numpy
 from .buses import FLAGS_1553, RT_TO_RT, block_1553, command_1553, named
 from .columns import Batch, Blobs, Block, Coded, Group, Hexed, Octets, Places, of_own_size
+from .standard import Data
+
+if TYPE_CHECKING:
+    from .fields import Reader
 
 LESS = 'less than its entries in a body'
 NUMBER = 0xFFFFFF
@@ -16,16 +20,19 @@ NO_WORD = 1 << 16
 
 
 def find(batch: Batch) -> Places:
+    """The places of the messages: so many in each packet as its word says."""
     found = of_own_size(batch, 14, 12, False, batch.words & NUMBER)
     batch.kept['is even'] = not (found[0] & 1).any()
     return found
 
 
 def count(batch: Batch, at: Array, of: Array) -> Array:
+    """The count of each message's stamp."""
     return batch.stamps(at, of)
 
 
-def number_in(data: Any, at: int, size: int, word: int) -> int:
+def number_in(data: Data, at: int, size: int, word: int) -> int:
+    """How many messages a packet has, by its word."""
     return word & NUMBER
 
 
@@ -88,6 +95,7 @@ class Words:
         self.other, self.one, self.two = map(self.word, self.places)
 
     def word(self, place: Array) -> Array:
+        """The word at this place of each message, or NO_WORD."""
         found, some = numpy.full(len(place), NO_WORD), numpy.flatnonzero(place >= 0)
         found[some] = self.batch.numbers(self.at[some] + 2 * place[some], 2)
         return found
@@ -106,17 +114,20 @@ class Words:
 
 
 def raw(block: Block) -> Dict[str, Group]:
+    """The columns of `r10 play`: status, gaps and words."""
     source = block.batch.hexed('hex of words', lambda: both(block.batch))
     size = block.numbers(12, 2) & -2
     return {'status': Hexed(block.numbers(8, 2), 4), 'gap': Hexed(block.numbers(10, 2), 4),
             'words': Octets(source, 2 * places_in(block.batch, block.at + 14), 2 * size)}
 
 
-def digits(word: int) -> Any:
+def digits(word: int) -> Optional[str]:
+    """A word as four hex digits; None where there is none."""
     return None if word == NO_WORD else '%04x' % word
 
 
-def meant(block: Block, reader: Any) -> List[Group]:
+def meant(block: Block, reader: Reader) -> List[Group]:
+    """The columns of csv: what command, status and errors mean. Gaps are in microseconds."""
     words = Words(block)
     is_mode = (words.command >> 5 & 31 == 0) | (words.command >> 5 & 31 == 31)
     flags = words.one % NO_WORD | words.two % NO_WORD
@@ -138,6 +149,7 @@ def meant(block: Block, reader: Any) -> List[Group]:
 
 
 def own(block: Block) -> List[Group]:
+    """The columns of its table in a database."""
     words = Words(block)
 
     def status(pair: int) -> tuple:

@@ -5,11 +5,15 @@ What the words are is not of chapter 11, but of the bus: they are given as they 
 """
 from __future__ import annotations
 
-from typing import Any, Dict, List
+from typing import Dict, List, TYPE_CHECKING
 
 from .arrays import Array, numpy
 from .buses import named
 from .columns import Batch, Blobs, Block, Coded, Group, Hexed, Octets, Places, of_own_size
+from .standard import Data
+
+if TYPE_CHECKING:
+    from .fields import Reader
 
 LESS = 'less than its entries in a body'
 ERRORS = ((15, 'transaction error'), (14, 'reset'), (13, 'message timeout'), (6, 'status error'), (3, 'echo error'))
@@ -28,7 +32,7 @@ def count(batch: Batch, at: Array, of: Array) -> Array:
     return batch.stamps(at, of)
 
 
-def number_in(data: Any, at: int, size: int, word: int) -> int:
+def number_in(data: Data, at: int, size: int, word: int) -> int:
     """How many messages a body's word says."""
     return word
 
@@ -55,7 +59,7 @@ def raw(block: Block) -> Dict[str, Group]:
     return {'status': Hexed(block.numbers(10, 2), 4), 'words': Octets(source, 2 * start, 2 * size)}
 
 
-def meant(block: Block, reader: Any) -> List[Group]:
+def meant(block: Block, reader: Reader) -> List[Group]:
     """The words, the errors by name, and the status."""
     found, status = raw(block), block.numbers(10, 2)
     return [found['words'], Coded(status, lambda bits: named(bits, ERRORS)), found['status']]

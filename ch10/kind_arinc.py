@@ -2,11 +2,15 @@
 before."""
 from __future__ import annotations
 
-from typing import Any, Dict, List
+from typing import Dict, List, TYPE_CHECKING
 
 from .arrays import Array, numpy
 from .buses import ERRORS_429, ODD, label_of
 from .columns import Batch, Block, Coded, Group, Hexed, Number, Places, of_one_size
+from .standard import Data
+
+if TYPE_CHECKING:
+    from .fields import Reader
 
 LESS = 'less than its entries in a body'
 NUMBER = 0xFFFF
@@ -14,10 +18,12 @@ GAP = 0xFFFFF  # of a header: the time since the word before, or in the first of
 
 
 def find(batch: Batch) -> Places:
+    """The places of the words: so many in each packet as its word says."""
     return of_one_size(batch, 8, batch.words & NUMBER)
 
 
 def count(batch: Batch, at: Array, of: Array) -> Array:
+    """The count of each word: that of its packet with the gaps before it, of 0.1 microseconds each."""
     if not len(at):
         return at
     gaps = batch.numbers(at, 4) & GAP
@@ -28,11 +34,13 @@ def count(batch: Batch, at: Array, of: Array) -> Array:
     return base[of] + steps
 
 
-def number_in(data: Any, at: int, size: int, word: int) -> int:
+def number_in(data: Data, at: int, size: int, word: int) -> int:
+    """How many words a packet has, by its word."""
     return word & NUMBER
 
 
 def raw(block: Block) -> Dict[str, Group]:
+    """The columns of `r10 play`: bus, flags and data."""
     head = block.numbers(0, 4)
     return {'bus': Number(head >> 24), 'format': Number(head >> 23 & 1), 'parity': Number(head >> 22 & 1),
             'high': Number(head >> 21 & 1), 'data': Hexed(block.numbers(4, 4), 8)}
@@ -45,7 +53,8 @@ def errors(head: Array, word: Array) -> Array:
     return (head >> 22 & 3) << 1 | 1 ^ (odd[word & 0xFFFF] ^ odd[word >> 16]).astype(numpy.int64)
 
 
-def meant(block: Block, reader: Any) -> List[Group]:
+def meant(block: Block, reader: Reader) -> List[Group]:
+    """The columns of csv: label, SDI, data, SSM and parity."""
     head, word = block.numbers(0, 4), block.numbers(4, 4)
 
     def bus(key: int) -> tuple:
@@ -58,6 +67,7 @@ def meant(block: Block, reader: Any) -> List[Group]:
 
 
 def own(block: Block) -> List[Group]:
+    """The columns of its table in a database."""
     head, word = block.numbers(0, 4), block.numbers(4, 4)
     return [Number(word), Number(word >> 10 & 0x7FFFF), Number(head >> 24), Number(word >> 8 & 3), Number(word >> 29 & 3),
             Number(word >> 31), Number(head >> 21 & 1 == 1), Coded(word & 0xFF, lambda label: label_of(label, False)),

@@ -2,10 +2,14 @@
 number. One that stands in segments is the one entry of its first packet, whose body is joined (`ch10.segments`)."""
 from __future__ import annotations
 
-from typing import Any, Dict, List
+from typing import Dict, List, TYPE_CHECKING
 
 from .arrays import Array, numpy
 from .columns import Batch, Block, Coded, Group, Number, Places, Printed, blobs_of, octets_of, of_own_size, with_singles
+from .standard import Data
+
+if TYPE_CHECKING:
+    from .fields import Reader
 
 LESS = 'less than its entries in a body'
 NUMBER = 0xFFFF
@@ -33,25 +37,30 @@ def size_of(block: Block) -> Array:
 
 
 def count(batch: Batch, at: Array, of: Array) -> Array:
+    """The count of each message's stamp."""
     return batch.stamps(at, of)
 
 
-def number_in(data: Any, at: int, size: int, word: int) -> int:
+def number_in(data: Data, at: int, size: int, word: int) -> int:
+    """How many messages a packet has, by its word."""
     return word & NUMBER
 
 
 def raw(block: Block) -> Dict[str, Group]:
+    """The columns of `r10 play`: flags, subchannel and bytes."""
     head = block.numbers(8, 4)
     return {'data_error': Number(head >> 31), 'format': Number(head >> 30 & 1), 'sub': Number(head >> 16 & 0x3FFF),
             'bytes': octets_of(block, 12, size_of(block))}
 
 
-def meant(block: Block, reader: Any) -> List[Group]:
+def meant(block: Block, reader: Reader) -> List[Group]:
+    """The columns of csv: bytes, text, subchannel and errors."""
     head, size = block.numbers(8, 4), size_of(block)
     return [octets_of(block, 12, size), Printed(block, 12, size),
             Coded(head >> 16, lambda high: (high & 0x3FFF, ERRORS[high >> 14]), 2)]
 
 
 def own(block: Block) -> List[Group]:
+    """The columns of its table in a database."""
     head = block.numbers(8, 4)
     return [Number(head >> 16 & 0x3FFF), Coded(head >> 30, lambda bits: ERRORS[bits] or None), blobs_of(block, 12, size_of(block))]

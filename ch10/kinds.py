@@ -21,9 +21,9 @@ and, where the kind asks for it, by these:
 from __future__ import annotations
 
 from importlib import import_module
-from typing import Any, Dict, Optional, Sequence
+from typing import Dict, Optional, Sequence
 
-from .standard import EVENT, TIME
+from .standard import EVENT, TIME, Value
 
 BUS, DISCRETE, MESSAGE, ARINC, UART, CAN = 0x19, 0x29, 0x30, 0x38, 0x50, 0x78
 WEAPONS, FIREWIRE, FIREWIRE_PHY = 0x1A, 0x58, 0x59
@@ -45,14 +45,14 @@ class Kind:
     .step      the step that makes this table (`ch10.store_schema`): for a kind that is new one of its own, after all others
     .tmats     how a setup text (chapter 9) describes its channels, or None: `data_type`, the channel data type; `format_name`, the
                attribute of the format; `format`, the one that r10 writes; `group`, of what a channel carries, or None: S, messages,
-               or B, buses, with their `bus_type`
+               or B, buses, with their `bus_type`; .setup, the same, with nothing in it where there is none
     """
 
     def __init__(self, data_type: int, name: str, module: str, keys: Columns, columns: Columns, own: Columns,
-                 together: Sequence[int] = (), step: int = 2, tmats: Optional[Dict[str, Any]] = None,
+                 together: Sequence[int] = (), step: int = 2, tmats: Optional[Dict[str, object]] = None,
                  is_later: bool = False) -> None:
         self.type, self.name, self.module, self.together, self.step, self.tmats = data_type, name, module, together, step, tmats
-        self.is_later = is_later
+        self.is_later, self.setup = is_later, tmats or {}
         self.keys, self.columns, self.own = tuple(keys.items()), tuple(columns.items()), tuple(own.items())
         self.column_names = tuple(columns)
         self.table = 'entry_' + name  # in a database of many recordings
@@ -126,7 +126,7 @@ KINDS = (
 BY_NAME = {kind.name: kind for kind in KINDS}
 
 
-def by_type(name: str) -> Dict[int, Any]:
+def by_type(name: str) -> Dict[int, Value]:
     """By data type what has this name in the module of the kind, of all kinds whose module has it."""
     modules = {kind.type: import_module('.' + kind.module, __package__) for kind in KINDS}
     return {data_type: getattr(module, name) for data_type, module in modules.items() if hasattr(module, name)}

@@ -3,22 +3,22 @@ from __future__ import annotations
 
 from argparse import Namespace
 import json
-from json.encoder import encode_basestring_ascii
-from typing import Any, Callable, Dict, List, Optional, Sequence, Tuple
+from json.encoder import encode_basestring_ascii  # type: ignore[attr-defined]
+from typing import Callable, Dict, List, Optional, Sequence, Tuple
 
 from .bodies import MEANT
 from .bodies import RAW as READ_RAW
-from .clocks import asked_of
 from .columns import Block, Group, Ready
 from .doubts import KINDS_READ, judge
 from .fields import COLUMNS, FRONT, Reader
 from .inputs import Output, one_part
+from .kept import surveyed
 from .kinds import BY_NAME, KINDS, REAL, TEXT, TRUTH, VALUE, WHOLE, Kind
 from .measured import Measured, asked_for, said, title
 from .packets import UNTOLD
-from .parallel import LEAST, MOST, in_order, processors
-from .replay import Ordered
-from .standard import Data, Wrong
+from .parallel import in_order, jobs_of
+from .replay import Ordered, Part
+from .standard import Data, Value, Wrong
 from .survey import Survey, ended_fields, stretch_fields
 from .times import Range
 from .vector import EACH, Vector
@@ -79,20 +79,24 @@ class Csv:
         return ''.join(',' + said(values[number]) if number in values else ',' for number in self.measured)
 
     def title(self) -> Optional[str]:
+        """The first line, or None."""
         more = [] if self.all is None else [csv_text(title(self.all.all[number])) for number in self.measured]
         return ','.join([*self.columns, *more])
 
     def front(self, channel: int) -> str:
+        """What stands before the count in lines of a channel."""
         return '%d,%s,' % (channel, csv_text(self.reader.names.channel(channel)))
 
     def groups(self, kind: int, block: Block) -> List[Group]:
+        """The columns of a block, as groups."""
         groups = MEANT[kind](block, self.reader)
         if self.columns is COLUMNS and BY_TYPE[kind].is_later:
             names = iter(BY_TYPE[kind].column_names)
             groups = [group for group in groups if [next(names) in COLUMNS for _ in range(group.number)][0]]
         return groups + self.measurements(kind, block)
 
-    def cell(self, _kind: int, _place: int, value: Any) -> str:
+    def cell(self, _kind: int, _place: int, value: Value) -> str:
+        """A value as a cell."""
         return '' if value is None else csv_text(value) if value.__class__ is str else str(value)
 
     @staticmethod
@@ -107,6 +111,7 @@ class Csv:
 
     @staticmethod
     def lost_text(lost: int) -> str:
+        """How many messages were lost, as a cell."""
         return '1+' if lost == UNTOLD else str(lost)
 
     @staticmethod
@@ -141,7 +146,8 @@ class Json(Csv):
     quote = b'"'
 
     def __init__(self, reader: Reader, only: Optional[Kind] = None, measured: Optional[Measured] = None) -> None:
-        self.reader, self.numbering, self.columns, self.shapes, self.forms = reader, reader.numbering, (), {}, {}
+        self.reader, self.numbering, self.columns, self.shapes = reader, reader.numbering, (), {}
+        self.forms: Dict[int, List[str]] = {}
         self.all, self.measured = measured, []
         for kind in KINDS:
             if only in (None, kind):
@@ -150,9 +156,11 @@ class Json(Csv):
                     self.shapes[kind.type] = self.shapes[kind.type][:-1] + '%s}'
 
     def measured_text(self, values: Dict[int, float]) -> str:
-        return ''.join(', %s: %s' % (json.dumps(self.all.all[number].name), said(values[number])) for number in sorted(values))
+        names = [] if self.all is None else self.all.all
+        return ''.join(', %s: %s' % (json.dumps(names[number].name), said(values[number])) for number in sorted(values))
 
     def shape(self, kind: Kind, columns: Sequence[Tuple[str, str]]) -> None:
+        """Makes the line of a kind with these columns."""
         self.shapes[kind.type] = '"type": "%s", %s}' % (kind.name, ', '.join('"%s": %%s' % column for column, _ in columns))
         self.forms[kind.type] = [form for _, form in columns]
 
@@ -162,7 +170,7 @@ class Json(Csv):
     def front(self, channel: int) -> str:
         return '{"channel": %d, "name": %s, "count": ' % (channel, json.dumps(self.reader.names.channel(channel) or None))
 
-    def cell(self, kind: int, place: int, value: Any) -> str:
+    def cell(self, kind: int, place: int, value: Value) -> str:
         return 'null' if value is None else CELLS[self.forms[kind][place]](value)
 
     def is_truth(self, kind: int, place: int) -> bool:  # type: ignore[override]
@@ -218,29 +226,43 @@ def form_of(asked: Namespace, survey: Survey, is_json: bool, out: Output) -> For
     return Json(reader, only, measured) if is_json else Csv(reader, only, measured)
 
 
+def in_range(asked: Namespace, data: Data, begin: int, end: int) -> Tuple[Survey, Range, Ordered, List[Part]]:
+    """What is known of a recording, and the parts that may have entries in the range that a call asks for. What an index has of
+    these packets is compared with them: where it does not agree the recording is walked."""
+    survey = surveyed(asked, data, begin, end)
+    for is_walked in (False, True):
+        if not len(survey.lows):
+            survey.judge()
+        within, ordered = Range(asked.first, asked.last, survey.clock), Ordered(data, begin, survey, asked.channel)
+        parts = ordered.parts(EACH, within)
+        if is_walked or survey.agrees(data, begin, (number for part in parts for number in part.numbers)):
+            break
+        survey = surveyed(asked, data, begin, end, True)
+    return survey, within, ordered, parts
+
+
 def written(asked: Namespace, data: Data, out: Output, is_json: bool) -> Tuple[Survey, int]:
     """Writes the lines that a call asks for."""
     _, begin, end = one_part(data, asked.file)
-    survey = Survey(data, begin, end, asked.keep_going, asked=asked_of(asked))
-    if not survey.lows:
-        survey.judge()
+    survey, within, ordered, parts = in_range(asked, data, begin, end)
     form = form_of(asked, survey, is_json, out)
-    ordered = Ordered(data, begin, survey, asked.channel)
-    within = Range(asked.first, asked.last, survey.clock)
-    if form.title():
-        out.line(form.title() + (',quality' if asked.quality else ''))
-    jobs = asked.jobs or (min(processors(), MOST) if end - begin >= LEAST else 1)
+    title_line = form.title()
+    if title_line:
+        out.line(title_line + (',quality' if asked.quality else ''))
+    jobs = jobs_of(asked.jobs, end - begin)
     many = Vector(form, ordered, within, asked.quality)
-    in_order(many.lines, ordered.parts(EACH), out, jobs)
+    in_order(many.lines, parts, out, jobs)
     return survey, end - begin
 
 
 def as_csv(asked: Namespace, data: Data, out: Output) -> None:
+    """`ch10 csv`. What is wrong with the recording is raised when its lines are written."""
     survey, _ = written(asked, data, out, False)
     judge(survey, out, KINDS_READ, asked.channel, BY_NAME[asked.kind].type if asked.kind else None)
 
 
 def as_json(asked: Namespace, data: Data, out: Output) -> None:
+    """`ch10 json`, likewise."""
     survey, size = written(asked, data, out, True)
     for stretch in survey.damage:
         out.line(json.dumps(stretch_fields(stretch)))

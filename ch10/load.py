@@ -5,7 +5,7 @@ import datetime
 import struct
 from bisect import bisect_right
 from contextlib import closing, contextmanager
-from typing import Any, Callable, Dict, FrozenSet, Iterable, Iterator, List, NamedTuple, Optional, Sequence, Set, Tuple
+from typing import Callable, Dict, FrozenSet, Iterable, Iterator, List, NamedTuple, Optional, Sequence, Set, Tuple
 
 from .bodies import counted
 from .catalogue import TAKEN_OUT, Mark, added, asked_for, need_inputs, now, opened, title, unread
@@ -14,9 +14,9 @@ from .entry_rows import END, FRONT, TABLES, Reader, days_of, flat, packed
 from .facts import sum_of
 from .inputs import Output, unread_text
 from .kinds import by_type
-from .packets import loss_of, packets
+from .packets import Packet, loss_of, packets
 from .segments import Segments
-from .standard import SETUP, Fault
+from .standard import SETUP, Data, Facts, Fault, Value, Words
 from .store import Store, StoreError, open_store, partition_of
 from .survey import name_of, said_in, time_of_header
 from .tmats import attributes
@@ -53,6 +53,7 @@ class Wanted(NamedTuple):
     day: Optional[str] = None
 
     def size(self) -> int:
+        """The bytes of the recording."""
         return self.task['end'] - self.task['begin']
 
 
@@ -70,7 +71,7 @@ class Layout:
     """The cuts of a recording, at packets: of each where it stands, the loss report right before it, and the last state of each
     channel whose packets have one."""
 
-    def __init__(self, data: Any, begin: int, end: int, passed: Dict[int, int], asked: Asked = NOTHING) -> None:
+    def __init__(self, data: Data, begin: int, end: int, passed: Dict[int, int], asked: Asked = NOTHING) -> None:
         self.cuts: List[Tuple[int, Optional[Tuple[int, int]], Dict[int, int]]] = []
         self.bases: List[Tuple[int, int]] = [(0, 0)]  # from which place on which instant is that of count 0
         timing, setup, self.segments = Timing(), b'', Segments(data, begin)
@@ -126,10 +127,11 @@ class Held:
                 raise Fault(CHANGED)
         self.layout = Layout(self.data, begin, end, passed, asked)
 
-    def packets(self) -> Iterator[Any]:
+    def packets(self) -> Iterator[Packet]:
+        """All packets, messages in segments joined."""
         return self.layout.segments.among(packets(self.data, self.begin, self.end, False, self.passed))
 
-    def part(self, cut: int) -> Iterator[Any]:
+    def part(self, cut: int) -> Iterator[Packet]:
         """The packets of a part; their offsets count from the recording's first byte."""
         cuts = self.layout.cuts
         start = cuts[cut][0]
@@ -148,10 +150,10 @@ class Held:
         self.mark.need_same(self.begin, self.end, self.sum, False)
 
 
-def work(setting: Task) -> Any:
+def work(setting: Task) -> Callable[[Task], Task]:
     """What reads one part of a recording, or loads some whole ones by a session of its own; in a process of its own or in this
     one."""
-    kept: Dict[str, Any] = {}
+    kept: Facts = {}
 
     def look(task: Task) -> Task:
         if 'share' in task:
@@ -190,12 +192,13 @@ def days_in(held: Held, wanted: Set[Tuple[int, int]]) -> Optional[List[List[int]
             found.update((packet.kind, day) for day in days_of([base + count for count in there], clock))
             if len(found) > MOST_DAYS:
                 return None
-    return sorted(map(list, found))
+    return [list(one) for one in sorted(found)]
 
 
 # ---- what is to be loaded
 
 def wanted_of(store: Store, task: Task, sum_: str, chosen: Optional[Sequence[int]]) -> Wanted:
+    """What is to be loaded of a recording: the chosen channels with entries that are not loaded yet."""
     found = store.rows('SELECT id, first_time, last_time FROM recording WHERE sha256 = ?', (sum_,))
     if not found:
         raise StoreError(TAKEN_OUT)
@@ -224,10 +227,13 @@ def claimed(store: Store, some: Sequence[Wanted]) -> List[Wanted]:
 
 
 def damage_in(store: Store, number: int) -> Dict[int, int]:
-    return dict(store.rows('SELECT byte_offset, byte_length FROM damage WHERE recording = ?', (number,)))
+    """The stretches of a recording that are passed over: lengths by offsets."""
+    rows = store.rows('SELECT byte_offset, byte_length FROM damage WHERE recording = ?', (number,))
+    return {offset: length for offset, length in rows}
 
 
 def day_text(day: int) -> str:
+    """A day by its number, as YYYY-MM-DD."""
     return datetime.date.fromordinal(day).isoformat()
 
 
@@ -256,6 +262,7 @@ def with_days(store: Store, some: Sequence[Wanted], pool: Pool) -> Iterator[Tupl
 
 
 def days_named(found: Iterable[Tuple[int, int]]) -> Days:
+    """Tables and days, by data types and the numbers of days."""
     return frozenset((TABLES[kind].name, day_text(day)) for kind, day in found)
 
 
@@ -278,7 +285,7 @@ def together(some: Sequence[Wanted], most_days: int, most_bytes: int) -> Iterato
 # ---- into the database
 
 # Puts entries into the tables, inside a transaction, and answers of each recording how many.
-Put = Callable[[Any, Sequence[Wanted]], Dict[int, int]]
+Put = Callable[[Store, Sequence[Wanted]], Dict[int, int]]
 
 
 def load_all(store: Store, some: Sequence[Wanted], pool: Optional[Pool], failed: List[Tuple[str, str]]) -> Tuple[Set[int], int]:
@@ -292,11 +299,11 @@ def load_all(store: Store, some: Sequence[Wanted], pool: Optional[Pool], failed:
             able.append(one)
         else:
             failed.append((title(one.task), why))
-    most = MOST_DAYS // pool.number
+    workers, most = pool, MOST_DAYS // pool.number
     loaded, total = load_by_workers([one for one in able if one.size() <= LARGE and len(one.days) <= most], pool, failed)
     for group in together([one for one in able if one.size() > LARGE or len(one.days) > most], MOST_DAYS, LARGE):
         store.make_days({place for one in group for place in one.days})
-        numbers, entries = load_those(store, group, lambda store, rest: copied(store, rest, pool), failed)
+        numbers, entries = load_those(store, group, lambda store, rest: copied(store, rest, workers), failed)
         loaded, total = loaded | numbers, total + entries
     return loaded, total
 
@@ -324,16 +331,18 @@ def load_by_workers(some: Sequence[Wanted], pool: Pool, failed: List[Tuple[str, 
 
 
 def task_of_share(number: int, share: Sequence[Wanted]) -> Task:
+    """The task of a worker that loads some recordings whole."""
     return dict(share=number, some=[sent(one) for one in share], days=sorted({place for one in share for place in one.days}),
                 mapped=any(one.task.get('mapped') for one in share))
 
 
-def sent(one: Wanted) -> List[Any]:
+def sent(one: Wanted) -> List[Value]:
     """What a worker has to know of a recording, as JSON takes it."""
     return [one.task, one.number, one.sum, [[channel, kind, entries] for (channel, kind), entries in one.entries.items()], one.day]
 
 
 def received(task: Task, number: int, sum_: str, entries: Sequence[Sequence[int]], day: Optional[str]) -> Wanted:
+    """What a worker knows of a recording, of what was sent."""
     return Wanted(task, number, sum_, {(channel, kind): many for channel, kind, many in entries}, (None, None), day=day)
 
 
@@ -351,19 +360,24 @@ def load_those(store: Store, some: Sequence[Wanted], put: Put, failed: List[Tupl
 
 def load_once(store: Store, some: Sequence[Wanted], put: Put) -> int:
     """Loads some recordings in one transaction, and answers how many entries."""
-    total = 0
     with store.transaction():
-        rest = [one for one in claimed(store, some) if one.entries]
-        counted = put(store, rest)
-        for one in rest:
-            entries = sum(one.entries.values())
-            if counted.get(one.number, 0) != entries:
-                raise NotLoaded(one.number, CHANGED)
-            total += entries
+        return put_entries(store, some, put)
+
+
+def put_entries(store: Store, some: Sequence[Wanted], put: Put) -> int:
+    """The same inside a transaction of the caller's."""
+    total = 0
+    rest = [one for one in claimed(store, some) if one.entries]
+    counted = put(store, rest)
+    for one in rest:
+        entries = sum(one.entries.values())
+        if counted.get(one.number, 0) != entries:
+            raise NotLoaded(one.number, CHANGED)
+        total += entries
     return total
 
 
-def copied(store: Any, some: Sequence[Wanted], pool: Pool) -> Dict[int, int]:
+def copied(store: Store, some: Sequence[Wanted], pool: Pool) -> Dict[int, int]:
     """Loads by COPY what workers make of the parts. Answers of each recording how many entries."""
     counted: Dict[int, int] = {}
     by_number = {one.number: one for one in some}
@@ -377,7 +391,7 @@ def copied(store: Any, some: Sequence[Wanted], pool: Pool) -> Dict[int, int]:
     return counted
 
 
-def copied_whole(store: Any, some: Sequence[Wanted]) -> Dict[int, int]:
+def copied_whole(store: Store, some: Sequence[Wanted]) -> Dict[int, int]:
     """The same by a process that reads all of a recording by itself, part by part."""
     counted: Dict[int, int] = {}
     for one in some:
@@ -393,7 +407,7 @@ def copied_whole(store: Any, some: Sequence[Wanted]) -> Dict[int, int]:
     return counted
 
 
-def copy(store: Any, one: Wanted, kind: int, part: bytes) -> None:
+def copy(store: Store, one: Wanted, kind: int, part: bytes) -> None:
     """Some entries of a recording into the table of their kind; where all lie on one day, into that day's."""
     table = TABLES[kind]
     name = partition_of(table.name, one.day) if one.day else table.name
@@ -401,6 +415,7 @@ def copy(store: Any, one: Wanted, kind: int, part: bytes) -> None:
 
 
 def task_of(one: Wanted, passed: Dict[int, int]) -> Task:
+    """The task of a worker that reads a part of a recording."""
     task = one.task
     return dict(path=task['path'], begin=task['begin'], end=task['end'], number=one.number, sum=one.sum, wanted=sorted(one.entries),
                 passed=sorted(passed.items()), mapped=task.get('mapped', False), clock=task.get('clock'))
@@ -417,6 +432,7 @@ def parts_of(store: Store, some: Sequence[Wanted]) -> Iterator[Task]:
 
 
 def held_of(one: Wanted, passed: Dict[int, int]) -> Held:
+    """The bytes of a recording. A NotLoaded where they are not those of the catalogue."""
     with only_changed(one):
         return Held(one.task['path'], one.task['begin'], one.task['end'], one.sum, passed, asked_for(one.task))
 
@@ -434,6 +450,11 @@ def only_changed(one: Wanted) -> Iterator[None]:
         raise NotLoaded(one.number, CHANGED)
 
 
+def without_times(counts: Sequence[int]) -> Sequence[Optional[str]]:
+    """The texts of instants that have no time: none."""
+    return (None,) * len(counts)
+
+
 def inserted(store: Store, some: Sequence[Wanted]) -> Dict[int, int]:
     """Loads by INSERT, in this process. Answers of each recording how many entries."""
     counted: Dict[int, int] = {}
@@ -441,7 +462,7 @@ def inserted(store: Store, some: Sequence[Wanted]) -> Dict[int, int]:
         held = held_of(one, damage_in(store, one.number))
         clock = held.layout.clock
         reader = Reader(one.number, set(one.entries), None, {}, held.layout)
-        found = reader.columns(held.packets(), clock.texts if clock and clock.dated else lambda counts: (None,) * len(counts))
+        found = reader.columns(held.packets(), clock.texts if clock and clock.dated else without_times)
         with only_changed(one):
             for kind, columns in found:
                 store.insert(TABLES[kind].name, TABLES[kind].names, zip(*flat(columns)))
@@ -452,7 +473,7 @@ def inserted(store: Store, some: Sequence[Wanted]) -> Dict[int, int]:
 
 # ---- the command
 
-def load(asked: Any, data: None, out: Output) -> None:
+def load(asked: Words, data: None, out: Output) -> None:
     """`ch10 load`."""
     failed: List[Tuple[str, str]] = []
     asked.anew = asked.time_channel is not None or asked.year is not None or asked.time_from_end

@@ -3,11 +3,14 @@ from __future__ import annotations
 
 import json
 import re
-from typing import Any, Dict, List, NamedTuple, Optional, Tuple
+from typing import Callable, Dict, List, NamedTuple, Optional, Tuple, TYPE_CHECKING
 
 from .kinds import BY_NAME
 from .packets import HEADER
-from .standard import SYNC, Data
+from .standard import SYNC, Data, Key
+
+if TYPE_CHECKING:
+    from .survey import Row
 
 MESSAGE = BY_NAME['message'].type
 LETTERS = b'r10log '
@@ -18,7 +21,7 @@ MOST_SAID = 10  # changes of the clock that are named
 
 class Line(NamedTuple):
     """A line: the count of its message, its word, and its keys with their values as texts."""
-    count: int
+    count: int  # type: ignore[assignment]
     word: str
     keys: Dict[str, str]
 
@@ -44,7 +47,7 @@ def line_of(count: int, text: str) -> Optional[Line]:
     return Line(count, found[1], keys)
 
 
-def messages_in(body: Any) -> List[Tuple[int, bytes]]:
+def messages_in(body: bytes) -> List[Tuple[int, bytes]]:
     """The counts and the bytes of the messages in the body of a packet of messages, as far as they are whole."""
     number, at, found = int.from_bytes(body[:2], 'little'), 4, []
     for _ in range(number):
@@ -64,7 +67,7 @@ class Log:
         self.lines: Dict[int, List[Line]] = {}
         self.others: set = set()
 
-    def add(self, channel: int, body: Any) -> None:
+    def add(self, channel: int, body: bytes) -> None:
         """Takes a packet of messages of a channel. One whose first message is no line is no log channel."""
         if channel in self.others:
             return
@@ -124,13 +127,14 @@ class Log:
 
 
 def clock_text(line: Line) -> str:
+    """What a line says of the clock, in words."""
     word = {'yes': 'in sync', 'no': 'not in sync'}.get(line.keys.get('sync', ''), 'in sync or not, nobody knows')
     error = line.keys.get('error_ns', '')
     most = 'off by at most %.3f ms' % (int(error) / 1e6) if re.fullmatch('[0-9]{1,18}', error) else 'off by an unknown time'
     return "the system's, %s, %s, says %s" % (word, most, line.keys.get('source', '-'))
 
 
-def use(rows: Dict[Tuple[int, int], Any], log: Log, new_row: Any, more: Optional[Log] = None) -> List[str]:
+def use(rows: Dict[Key, Row], log: Log, new_row: Callable[[int, int], Row], more: Optional[Log] = None) -> List[str]:
     """Puts what the log says of losses into the rows of channels: those after a channel's last message are lost too, and those that
     an earlier file has told of are not this one's. What is not told is a line."""
     lines, remarks = log.own(), []
@@ -158,7 +162,7 @@ def use(rows: Dict[Tuple[int, int], Any], log: Log, new_row: Any, more: Optional
     return remarks
 
 
-def row_for(rows: Dict[Tuple[int, int], Any], channel: int) -> Any:
+def row_for(rows: Dict[Key, Row], channel: int) -> Optional[Row]:
     """The row of a channel's messages, if it has one: that of the loss reports and of what is damaged is none."""
     found = [row for (number, kind), row in rows.items() if number == channel and row.entries]
     return found[0] if found else None

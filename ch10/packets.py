@@ -93,10 +93,11 @@ def is_second(second: bytes) -> bool:
 
 
 def packets(data: Data, begin: int = 0, end: Optional[int] = None, judged: bool = True,
-            passed: Optional[Dict[int, int]] = None) -> Iterator[Packet]:
-    """Each packet from one place of some bytes to another; what is passed over has its length by its offset. The first fault ends
-    them."""
-    at, end, gone = begin, len(data) if end is None else end, begin
+            passed: Optional[Dict[int, int]] = None, first: Optional[int] = None) -> Iterator[Packet]:
+    """Each packet from one place of some bytes to another, or from a packet between them on; what is passed over has its length by
+    its offset. The first fault ends them."""
+    at, end = begin if first is None else first, len(data) if end is None else end
+    gone = at
     while at < end:
         if at - gone >= SPAN:
             let_go(data, gone, at)
@@ -141,12 +142,32 @@ def head_at(data: Data, at: int, end: int) -> Optional[Head]:
     return Head(channel, kind, length, sequence) if length <= MOST or kind == SETUP else None
 
 
-ROW = 24  # packets that follow one another which are no copy within a packet
-FIRST_ROW = 8  # the same where no sequence number among them speaks against it
-MOST_ROWS = 4000  # right headers that are compared before a row that is known to be of the recording
-MORE = 64  # and after its first one
-AROUND = 20  # bytes of a packet that are neither its header nor its data: secondary header, checksum, and what fills it up
-NEAR = 8  # packets of its channel that may be missing before one that is near
+# Packets that follow one another which are no copy within a packet: a copy of so many seldom fits into one body, and by the
+# checksums of 24 headers it is no accident.
+ROW = 24
+# The same where no sequence number among them speaks against it: eight headers of 16 bits of checksum each.
+FIRST_ROW = 8
+# Right headers that are compared before a row that is known to be of the recording, so that a search ends in seconds where a body
+# is full of copies.
+MOST_ROWS = 4000
+# And after its first one: two sequence numbers of each channel, of some thirty channels.
+MORE = 64
+# Bytes of a packet that are neither its header nor its data: a secondary header of 12, a checksum of 4, and up to 4 to fill it up.
+AROUND = 20
+# Packets of its channel that may be missing before one that is near. Sequence numbers are of 8 bits: by chance one of 32 is near.
+NEAR = 8
+# Bytes of the least packet with something in it: a header, a word, and an entry's 4. So a stretch has no more packets than that.
+LEAST = 32
+# Packets of a row whose sequence numbers go on exactly, or nearly, that show it to be of the recording: by chance one of 256 does.
+GO_ON = 2
+# Packets of such a row, or of one that the length of a right header leads to: one by itself may be a copy.
+SHORT_ROW = 3
+# Points of a row's kinship for each side of a channel: its sequence numbers follow one another, are near, or are neither, which
+# takes away as much as the first gives.
+FOLLOWS, IS_NEAR, IS_FAR = 2, 1, -2
+# Points of a row's kinship (`Resync.kinship`) that make it one of the recording: a packet by itself, whose checksum nothing shows
+# to be right, wants those of both its sides; else those of one are enough.
+ALONE, TOGETHER = 3, 2
 
 
 def sum_of(data: Data, at: int) -> Optional[bool]:
@@ -173,9 +194,11 @@ class Placed(NamedTuple):
     head: Head
 
     def end(self) -> int:
+        """The place behind the packet."""
         return self.place + self.head.length
 
     def key(self) -> Tuple[int, int]:
+        """Its channel and type."""
         return self.head.channel, self.head.kind
 
 
@@ -207,6 +230,7 @@ class Resync:
         return following
 
     def place_after(self, at: int, length: Optional[int]) -> int:
+        """The place where reading goes on after a fault."""
         data, end = self.data, self.end
         limit = None if length is None else at + length
         if limit == end:
@@ -291,7 +315,7 @@ class Resync:
             key = head.channel, head.kind
             if key in self.seen and key not in first:
                 gone = missing(self.last[head.channel], head.sequence)
-                most = max(min((passed - self.before[head.channel]) // 32, NEAR), 1)
+                most = max(min((passed - self.before[head.channel]) // LEAST, NEAR), 1)
                 exact += gone == 0
                 near += 0 < gone <= most
                 against += gone > most
@@ -303,7 +327,8 @@ class Resync:
             head = head_at(self.data, place, self.end)
         if place == self.end and run or run >= ROW or run >= FIRST_ROW and against == 0:
             return True
-        return against == 0 and (exact >= 2 or exact + near >= 2 and run >= 3 or is_next and (exact > 0 or run >= 3))
+        return against == 0 and (exact >= GO_ON or exact + near >= GO_ON and run >= SHORT_ROW
+                                 or is_next and (exact > 0 or run >= SHORT_ROW))
 
     def first_row(self, at: int, anchor: int, limit: int) -> int:
         """The first packet of the first row after a fault that is of this recording, as rows that are known to be of it show; or
@@ -334,7 +359,7 @@ class Resync:
         behind = row[-1].end()
         if sum_of(self.data, row[-1].place) and head_at(self.data, behind, self.end) is None and self.is_like(behind):
             return 1
-        return 2 if len(row) > 1 or sum_of(self.data, row[0].place) else 3
+        return TOGETHER if len(row) > 1 or sum_of(self.data, row[0].place) else ALONE
 
     def rows(self, at: int, anchor: int, limit: int) -> List[List[Placed]]:
         """The rows between a fault and the anchor, and some after that; but not those within a packet whose end or whose data
@@ -374,10 +399,12 @@ class Resync:
         for key, (first, last) in ends.items():
             before = max((one for one in known.get(key, ()) if one.place < first.place), default=None)
             after = min((one for one in known.get(key, ()) if one.place > last.place), default=None)
-            for one, then in ((before, first), (last, after)):
-                if one and then:
-                    gone = missing(one.head.sequence, then.head.sequence)
-                    points += 2 if gone == 0 else 1 if gone <= min((then.place - one.end()) // 32, NEAR) else -2
+            sides: Tuple[Tuple[Optional[Placed], Optional[Placed]], ...] = (before, first), (last, after)
+            for early, late in sides:
+                if early and late:
+                    gone = missing(early.head.sequence, late.head.sequence)
+                    is_near = gone <= min((late.place - early.end()) // LEAST, NEAR)
+                    points += FOLLOWS if gone == 0 else IS_NEAR if is_near else IS_FAR
         return points
 
     def within(self, at: int, length: int) -> Optional[int]:
@@ -419,4 +446,5 @@ def lost_before(packet: Packet, report: Optional[Tuple[int, int]]) -> int:
 
 
 def lost_text(lost: int) -> str:
+    """How many messages were lost, as text; 1+ where nothing says."""
     return '1+' if lost == UNTOLD else str(lost)

@@ -2,6 +2,7 @@
 from __future__ import annotations
 
 from argparse import Namespace
+from itertools import islice
 from typing import Callable, Dict, Iterable, Iterator, List, Optional, Set, Tuple
 from xml.sax.saxutils import escape
 
@@ -9,12 +10,13 @@ from .bodies import counted
 from .clocks import BITS, Axis, asked_of
 from .doubts import judge
 from .inputs import Output, one_part
-from .packets import UNTOLD, loss_of, lost_before, packets
+from .packets import UNTOLD, Packet, loss_of, lost_before, packets
 from .standard import Data, Key
 from .survey import Row, Survey, ends_of, name_of, stretch_text
 from .times import Range, civil
 
 Mark = Tuple[Key, List[int], Optional[int], Optional[int]]  # channel and type, instants, that of a loss, how many were lost
+Counts = Tuple[Dict[Key, List[int]], Dict[Key, List[int]], Dict[Key, List[int]]]  # entries and losses by bars, and sums of losses
 SECOND = 10 ** 7
 WIDTH, LEFT, RIGHT = 980, 130, 150
 TOP, STRIP, MARKS, STEP = 92, 44, 8, 66
@@ -31,14 +33,17 @@ STEPS = ([unit * 10 ** power for power in range(1, 7) for unit in (1, 2, 5)]
 
 
 def least_step(least: int) -> int:
+    """The least step that is no shorter, in units of 100 ns."""
     return next((step for step in STEPS if step >= least), STEPS[-1])
 
 
 def seconds(ticks: int) -> str:
+    """Units of 100 ns as seconds, without zeros at the end."""
     return ('%d.%07d' % divmod(ticks, SECOND)).rstrip('0').rstrip('.')
 
 
 def number_text(rate: float) -> str:
+    """A rate as text."""
     return '{:,.0f}'.format(rate) if rate >= 100 else '%.3g' % rate
 
 
@@ -86,7 +91,7 @@ class Picture:
                 self.lost[key][(loss - low) // bar] += 1
                 sums = self.sums[key]
                 sums[0] += 1
-                sums[1] += 1 if lost == UNTOLD else lost
+                sums[1] += 1 if lost is None or lost == UNTOLD else lost
                 sums[2] += lost == UNTOLD
             if not found:
                 continue
@@ -98,11 +103,28 @@ class Picture:
                 for count in found:
                     much[(count - low) // bar] += 1
 
+    def counted(self) -> Counts:
+        """What was counted so far."""
+        return self.much, self.lost, self.sums
+
+    def clear(self) -> None:
+        """Forgets what was counted."""
+        for some in self.counted():
+            for key, numbers in some.items():
+                some[key] = [0] * len(numbers)
+
+    def add(self, more: Counts) -> None:
+        """Adds what was counted of other packets."""
+        for some, others in zip(self.counted(), more):
+            for key, numbers in others.items():
+                some[key] = [one + other for one, other in zip(some[key], numbers)]
+
     def place(self, count: int) -> float:
         """Where a count lies from left to right."""
         return LEFT + SPACE * min(max((count - self.low) / (self.bar * self.bars), 0), 1)
 
     def text(self, survey: Survey, size: int) -> str:
+        """The picture, as SVG."""
         height = self.bottom + 36
         parts = ['<svg xmlns="http://www.w3.org/2000/svg" width="%d" height="%d" viewBox="0 0 %d %d" font-family="sans-serif" '
                  'font-size="12">'
@@ -217,29 +239,33 @@ class Picture:
 
     def ended(self, survey: Survey, size: int) -> List[str]:
         """Where the pass ended, if it did not go on after a fault."""
-        if not survey.ends_early():
+        span = survey.span()
+        if not survey.ends_early() or span is None or survey.fault is None:
             return []
-        x = self.place(self.axis_line.of(survey.span()[1]))
+        x = self.place(self.axis_line.of(span[1]))
         return ['<path stroke="%s" stroke-width="2" d="M%.2f %dV%d"/>' % (RED, x, TOP - 6, self.bottom),
                 words(LEFT, 62, 'ends at byte %d of %d: %s' % (survey.size, size, survey.fault.what), fill=RED, weight='bold')]
 
 
 def shortened(name: str) -> str:
+    """A name as far as there is room for it."""
     return name if len(name) <= 18 else name[:17] + '…'
 
 
 def words(x: float, y: float, text: str, anchor: str = 'start', fill: str = 'black', size: int = 12, weight: str = 'normal') -> str:
+    """A text at a place of a picture, as SVG."""
     return '<text x="%.1f" y="%.1f" text-anchor="%s" fill="%s" font-size="%d" font-weight="%s">%s</text>' % (
         x, y, anchor, fill, size, weight, escape(text))
 
 
 def time_text(count: int, low: int, step: int, clock: Optional[Axis]) -> str:
     """A time as its step asks for, rounded to it: with places after the second, without, or with the day."""
-    if clock is None or clock.text(count) is None:
+    plain = None if clock is None else clock.text(count)
+    if clock is None or plain is None:
         return seconds(count - low) + ' s'
     told = clock.at(count)
     said = civil((told + step // 2) // step * step if step < 86400 * SECOND else told, clock.dated, 7)
-    day, of_day = said.split(' ') if said else clock.text(count).split(' ')
+    day, of_day = (said or plain).split(' ')
     if step >= 12 * 3600 * SECOND:
         return '%s %s' % (day[-5:], of_day[:5])
     if step >= 60 * SECOND:
@@ -250,6 +276,7 @@ def time_text(count: int, low: int, step: int, clock: Optional[Axis]) -> str:
 
 
 def as_svg(asked: Namespace, data: Data, out: Output) -> None:
+    """`ch10 svg`."""
     title, begin, end = one_part(data, asked.file)
     survey = Survey(data, begin, end, asked.keep_going, asked=asked_of(asked))
     if not survey.lows:
@@ -258,7 +285,7 @@ def as_svg(asked: Namespace, data: Data, out: Output) -> None:
     some = survey.drawn(asked.channel)
     sources = {(row.channel, row.kind): row for row in some}
     by_packets = {(row.channel, row.kind) for row in some if not row.entries}
-    low, high = ends_of(some or survey.rows)
+    low, high = ends_of(some or survey.rows) or (0, 0)
     if not within.is_all:
         low, high = ends_in(data, begin, survey, sources, by_packets, within) or (low, low)
     drawn = Picture(title, sources, by_packets, low, high, survey)
@@ -267,17 +294,18 @@ def as_svg(asked: Namespace, data: Data, out: Output) -> None:
     judge(survey, out)
 
 
-def marks(data: Data, begin: int, survey: Survey, sources: Dict[Key, Row], by_packets: Set[Key]) -> Iterator[Mark]:
+def marks(data: Data, begin: int, survey: Survey, sources: Dict[Key, Row], by_packets: Set[Key],
+          some: Optional[range] = None) -> Iterator[Mark]:
     """Of each packet that is drawn its channel and type, its instants, the instant of a loss and how many messages were lost, or
-    None twice."""
-    report, behind = None, 0
-    for number, (packet, found) in enumerate(counted(
-            survey.segments.among(packets(data, begin, begin + survey.size, False, survey.passed)))):
+    None twice. Of all packets, or of some by their numbers."""
+    report, behind, first = None, 0, 0 if some is None else some.start
+    for number, (packet, found) in enumerate(counted(survey.segments.among(some_packets(data, begin, survey, some, 1))),
+                                             max(first - 1, 0)):
         key = packet.channel, packet.kind
         if packet.offset != behind:
             report = None
         behind = packet.offset + packet.length
-        if key in sources:
+        if key in sources and number >= first:
             found, base = [packet.counter] if key in by_packets else found, survey.of[number] << BITS
             if base:
                 found = [count + base for count in found]
@@ -286,6 +314,16 @@ def marks(data: Data, begin: int, survey: Survey, sources: Dict[Key, Row], by_pa
             elif found:
                 yield key, found, None, None
         report = loss_of(packet)
+
+
+def some_packets(data: Data, begin: int, survey: Survey, some: Optional[range], more: int = 0) -> Iterator[Packet]:
+    """All packets of a survey, or some by their numbers, and so many before them where there are as many."""
+    if some is None:
+        return packets(data, begin, begin + survey.size, False, survey.passed)
+    first = max(some.start - more, 0)
+    place = survey.places[first] if first < len(survey.places) else survey.size
+    found = packets(data, begin, begin + survey.size, False, survey.passed, begin + place)
+    return islice(found, some.stop - first)
 
 
 def ends_in(data: Data, begin: int, survey: Survey, sources: Dict[Key, Row], by_packets: Set[Key],

@@ -1,14 +1,20 @@
-"""The words of the commands that go over many recordings: catalogue, load and report. They name files, and read no standard
-input."""
+"""The words of the commands that name files, and read no standard input: catalogue, load and report, which go over many recordings,
+mend and rescue."""
 from __future__ import annotations
 
 import argparse
 import importlib
 import os
 import re
-from typing import Any, Callable
+from typing import Callable, Tuple, Type, TypeVar, TYPE_CHECKING
 
 from .kinds import KINDS
+from .standard import Data, Value, Words
+
+if TYPE_CHECKING:
+    from .inputs import Output
+
+Made = TypeVar('Made', bound=argparse.ArgumentParser)
 
 VERDICTS = ('strict', 'lenient', 'faulty', 'unjudged')
 
@@ -28,6 +34,10 @@ channel hold for one and the same channel, and with them the times are that
 channel's. PATTERN may have * and ?, and looks at no case. A and B are times as
 '2024-02-29 12:34:56.78', 2024-02-29 (the whole day), or '060 12:34:56' for
 recordings whose times have no date; both ends are taken in.
+"""
+ATTACH_MORE = """Each file says of which recording it was made, which has to be in the catalogue. It
+keeps place, size, time and sum of the file: catalogue show says where one is
+missing or changed, by size and time. catalogue check reads them whole.
 """
 
 
@@ -51,11 +61,22 @@ class Moment:
 
 def run_of(module: str, name: str) -> Callable[..., None]:
     """What does a command; its module is read when it is asked for, so that the filters begin as fast as before."""
-    def run(asked: Any, data: Any, out: Any) -> None:
+    def run(asked: Words, data: Data, out: Output) -> None:
         getattr(importlib.import_module('ch10.' + module), name)(asked, data, out)
     return run
 
 
+QUEUE_MORE = """What is queued waits for ch10 catalogue work, which may run on many machines; all
+have to see the files at the same paths. What is in the queue, or as it lies there
+in the catalogue, is passed over; so is what is set apart. --again takes these
+too. Without an INPUT it lists what is set apart, and how many wait.
+"""
+WORK_MORE = """It takes recordings from the queue until none waits and none is taken. The try
+counts before anything is read. A worker has a recording for its lease, and puts
+that off while it lives; of one that ended, another takes it after the lease. What
+has had all its tries is set apart with its reason, and tried no more. docs/RANGE.md
+says what happens where a disk, a worker or the database is gone.
+"""
 LOAD_MORE = """What is not in the catalogue is added first. The entries of a channel of a
 recording are loaded once: given again they are no second ones, and what a run
 that was stopped had not loaded whole it had not loaded at all. The tables:
@@ -64,6 +85,7 @@ that was stopped had not loaded whole it had not loaded at all. The tables:
 
 
 def load_more() -> str:
+    """The end of the help of `load`."""
     return filled(LOAD_MORE % ', '.join(kind.table for kind in KINDS)) + DATABASE
 
 
@@ -78,6 +100,25 @@ of the files, and of each recording its verdict, a picture of rates and losses,
 channels, damaged stretches, clocks, what its buses carried, and its setup.
 Where the program r10 is not there, it says that nothing was judged. The status
 is 1 if a recording is faulty or damaged, and if there is none.
+"""
+
+
+MEND_MORE = """Messages, their times and their order stay as they are, byte for byte. Headers,
+sums, sequence numbers, event counts and the index are made anew. What r10 has no
+place for is left out: other types of data, other forms, counts that go back.
+The report on standard output has a line for each: what is left out, where
+messages are missing, and what is made anew. Where messages are missing the next
+packet of the channel has a gap, with their number where it is known. The status
+is 1 where something is missing, and the file is written all the same. The input
+is opened for reading alone, and FILE has its name when it is whole.
+"""
+
+
+RESCUE_MORE = """Setup packets at the start of blocks begin files; packet after packet shows
+what belongs to each. Older recordings that were written over in part are kept
+apart. Each file has its place in its name, as block-3.ch10, and is written as it
+stands; ch10 mend makes a strict one of it. The report on standard output has a
+line for each. IMAGE is opened for reading alone.
 """
 
 
@@ -100,12 +141,14 @@ def input_path(word: str) -> str:
 
 
 def positive(word: str) -> int:
+    """A whole number from 1 on, as a word of a call."""
     if not (word.isascii() and word.isdigit()) or not 1 <= len(word) <= 15 or int(word) == 0:
         raise argparse.ArgumentTypeError('%r is no number from 1 on' % word[:60])
     return int(word)
 
 
-def pair(word: str) -> Any:
+def pair(word: str) -> Tuple[str, str]:
+    """A code and its value, as CODE=VALUE."""
     code, equals, value = text(word).partition('=')
     if not equals:
         raise argparse.ArgumentTypeError('%r is not CODE=VALUE, as G\\TA=TAIL 07' % word[:60])
@@ -113,26 +156,29 @@ def pair(word: str) -> Any:
 
 
 def sum_front(word: str) -> str:
+    """The front of a sum: hex digits."""
     if not re.fullmatch('[0-9a-fA-F]{1,64}', word):
         raise argparse.ArgumentTypeError('%r is no front of a sum: hex digits' % word[:70])
     return word.lower()
 
 
-def add_words(commands: Any, Parser: Any, channel_number: Callable[[str], int], with_clock: Callable[[Any], None]) -> None:
+def add_words(commands: argparse._SubParsersAction[Made], Parser: Type[Made], channel_number: Callable[[str], int],
+              file_number: Callable[[str], int], with_clock: Callable[[argparse.ArgumentParser], None],
+              with_jobs: Callable[[argparse.ArgumentParser], None]) -> None:
     """Registers the commands with those of a call."""
-    def command(of: Any, name: str, run: Any, about: str, more: Any) -> Any:
+    def command(of: argparse._SubParsersAction[Made], name: str, run: Callable[..., None], about: str, more: Value) -> Made:
         made = of.add_parser(name.split(' ')[-1], prog='ch10 ' + name, allow_abbrev=False, description=about, epilog=more,
                              formatter_class=argparse.RawDescriptionHelpFormatter)
         made.set_defaults(run=run, opens=True)
         return made
 
-    def with_database(made: Any) -> None:
+    def with_database(made: argparse.ArgumentParser) -> None:
         made.add_argument('--db', metavar='DSN', help='the database')
 
-    def with_inputs(made: Any) -> None:
+    def with_inputs(made: argparse.ArgumentParser) -> None:
         made.add_argument('inputs', nargs='+', type=input_path, metavar='INPUT', help='a recording, an image, or a folder')
 
-    def judging(made: Any) -> None:
+    def judging(made: argparse.ArgumentParser) -> None:
         made.add_argument('--jobs', type=positive, metavar='N',
                           help='so many at a time, up to 64 (without it: one for each processor)')
         made.add_argument('--memory', type=positive, metavar='MIB',
@@ -145,7 +191,7 @@ def add_words(commands: Any, Parser: Any, channel_number: Callable[[str], int], 
     top = commands.add_parser('catalogue', prog='ch10 catalogue', allow_abbrev=False,
                               description='A catalogue of recordings, and questions to it.',
                               epilog=DATABASE, formatter_class=argparse.RawDescriptionHelpFormatter)
-    inner = top.add_subparsers(metavar='add|find|show', dest='inner', required=True, parser_class=Parser)
+    inner = top.add_subparsers(metavar='add|find|show|attach|check|queue|work', dest='inner', required=True, parser_class=Parser)
 
     made = command(inner, 'catalogue add', run_of('catalogue', 'add'), 'Adds recordings, or the files of images, to the catalogue.',
                    ADD_MORE + DATABASE)
@@ -183,6 +229,38 @@ def add_words(commands: Any, Parser: Any, channel_number: Callable[[str], int], 
     made.add_argument('--json', action='store_true',
                       help='JSON lines: one each for the recording, its places, channels, damaged stretches and attributes')
 
+    made = command(inner, 'catalogue attach', run_of('column_files', 'attach'),
+                   'Takes note of files of columns, as ch10 hdf5 and ch10 mat make them.', ATTACH_MORE + DATABASE)
+    made.add_argument('files', nargs='+', type=input_path, metavar='FILE', help='a file of HDF5, or of MATLAB')
+    with_database(made)
+
+    made = command(inner, 'catalogue check', run_of('column_files', 'check'),
+                   'Reads all files of columns, and says which are missing or changed.', DATABASE)
+    with_database(made)
+
+    made = command(inner, 'catalogue queue', run_of('queue_worker', 'queue_up'),
+                   'Puts recordings and images into the queue of a database of PostgreSQL.', QUEUE_MORE + DATABASE)
+    made.add_argument('inputs', nargs='*', type=input_path, metavar='INPUT', help='a recording, an image, or a folder')
+    with_database(made)
+    made.add_argument('--place', type=place, metavar='BASE', help='where they are to be found: BASE/NAME, in place of the path')
+    made.add_argument('--again', action='store_true', help='also what is set apart, and what the catalogue has')
+
+    made = command(inner, 'catalogue work', run_of('queue_worker', 'work_on'),
+                   'Takes recordings from the queue, and adds them to the catalogue.', WORK_MORE + DATABASE)
+    with_database(made)
+    made.add_argument('--load', action='store_true', help='loads their entries too, as ch10 load does')
+    made.add_argument('--channel', type=channel_number, metavar='C', action='append',
+                      help='loads the entries of this channel alone; may be given again for another')
+    made.add_argument('--stay', action='store_true', help='waits for more when the queue is empty')
+    for name, default, about in (('tries', 3, 'a recording is set apart after so many tries'),
+                                 ('lease', 60, 'seconds that a worker has a recording without a sign of life'),
+                                 ('pause', 60, 'seconds between two tries of a recording'),
+                                 ('longest', 3600, 'seconds that the reading of one recording may take'),
+                                 ('patience', 600, 'seconds that the database may be away')):
+        made.add_argument('--' + name, type=positive, default=default, metavar='N', help='%s (without it: %d)' % (about, default))
+    judging(made)
+    with_clock(made)
+
     made = command(commands, 'load', run_of('load', 'load'),
                    'Puts the entries of recordings into tables of a database, one for each kind.', load_more)
     with_inputs(made)
@@ -199,3 +277,17 @@ def add_words(commands: Any, Parser: Any, channel_number: Callable[[str], int], 
     made.add_argument('--program', metavar='PATH', help='the program r10, for the verdicts')
     made.add_argument('--unjudged', action='store_true', help='without verdicts')
     with_clock(made)
+    with_jobs(made)
+
+    made = command(commands, 'mend', run_of('mend', 'mend'),
+                   'Writes a strict file out of a damaged or foreign recording, as far as its packets allow.', MEND_MORE)
+    made.add_argument('input', type=input_path, metavar='FILE', help='a recording, or an image')
+    made.add_argument('--out', type=input_path, metavar='FILE', help='where the strict file is to be; there must be none')
+    made.add_argument('--file', type=file_number, metavar='N', help='a file of an image, by its number from 0 on')
+    made.add_argument('--json', action='store_true', help='the report as a JSON object for each line')
+
+    made = command(commands, 'rescue', run_of('rescue', 'rescue'),
+                   'Finds the recordings on a medium whose directory is gone or damaged.', RESCUE_MORE)
+    made.add_argument('image', type=input_path, metavar='IMAGE', help='a disk, or its image')
+    made.add_argument('folder', type=input_path, metavar='FOLDER', help='where a file for each is to be; empty, or not there')
+    made.add_argument('--json', action='store_true', help='the report as a JSON object for each line')

@@ -54,6 +54,7 @@ class Recording:
         return survey.segments.among(packets(self.data, self.begin, self.begin + survey.size, False, survey.passed))
 
     def bytes_of(self, packet: Packet) -> bytes:
+        """The bytes of a packet."""
         at = self.begin + packet.offset
         return bytes(self.data[at:at + packet.length])
 
@@ -65,6 +66,7 @@ class Recording:
             lost = 0
 
     def entries(self, channels: Optional[List[int]] = None) -> Iterator[Entry]:
+        """The entries of all channels or of some, in the order of a replay."""
         for some in replayed(self.data, self.begin, self.survey(), channels):
             for instant, channel, _, kind, lost, values in some:
                 yield Entry(instant & COUNT_BITS, channel, kind, lost, BODIES[kind].record(*values))

@@ -3,25 +3,27 @@ no picture, no font."""
 from __future__ import annotations
 
 import os
+import pickle
 import re
 from collections import Counter
 from html import escape
-from typing import Any, Dict, Iterable, List, NamedTuple, Optional, Sequence, Tuple
+from typing import Callable, Dict, Iterable, Iterator, List, NamedTuple, Optional, Sequence, Set, Tuple
 
 from .buses import label_of
-from .catalogue import ENDINGS, Input, image_tasks, inputs_of, line_of, opened, title, unread
+from .catalogue import ENDINGS, Input, image_tasks, inputs_of, opened, title, unread
 from .clocks import Asked, asked_of
 from .doubts import unread_in
 from .facts import facts_of, nothing_in, program_of, verdict_of_image
 from .find import lost_text, verdict_text
-from .inputs import Output, date_of, is_recording
-from .picture import Picture, marks
-from .standard import Fault, Wrong
+from .inputs import Output, date_of, is_recording, printable
+from .parallel import LEAST, jobs_of, made_in_order
+from .picture import Counts, Picture, marks
+from .standard import Data, Facts, Fault, Key, Value, Words, Wrong
 from .survey import Survey, ends_of, name_of
 from .table import clock_lines, said
 from .timeline import timeline
 from .tmats import tree
-from .traffic import buses_of, heat_map
+from .traffic import Traffic, heat_map, traffic_of, words_of
 
 STYLE = """
 :root { color-scheme: light; --line: #c3c8cf; --ink: #1b1f24; --soft: #4a5159; --link: #0b4f9c; }
@@ -73,18 +75,18 @@ MEANS = {'strict': 'This recorder may have written it: it keeps each of its rule
 class Part(NamedTuple):
     """One recording of the report."""
 
-    task: Dict[str, Any]
-    facts: Dict[str, Any]
+    task: Facts
+    facts: Facts
     html: List[str]
 
 
 # ---- pieces of a page
 
-def table(caption: str, heads: Sequence[str], rows: Iterable[Sequence[Any]], left: Sequence[str] = (),
+def table(caption: str, heads: Sequence[str], rows: Iterable[Sequence[Value]], left: Sequence[str] = (),
           more: str = '') -> List[str]:
     """A table whose first column names its rows; a cell that is a pair is a class and HTML as it stands. `more` is a class of its
     own, or none."""
-    def cell(place: int, value: Any) -> str:
+    def cell(place: int, value: Value) -> str:
         plain = ('left time' if heads[place] == 'name' else 'left') if heads[place] in left else ''
         name, text = value if isinstance(value, tuple) else (plain, escape('-' if value is None else str(value)))
         kind = ' class="%s"' % name if name else ''
@@ -97,27 +99,31 @@ def table(caption: str, heads: Sequence[str], rows: Iterable[Sequence[Any]], lef
     return made + ['</tbody></table></div>']
 
 
-def verdict_html(facts: Dict[str, Any]) -> str:
+def verdict_html(facts: Facts) -> str:
+    """A verdict as HTML, in its colour and with its frame."""
     return '<span class="verdict %s">%s</span>' % (facts['verdict'], escape(verdict_text(facts)))
 
 
-def time_text(facts: Dict[str, Any], name: str) -> str:
+def time_text(facts: Facts, name: str) -> str:
+    """A time to two places after the second, or -."""
     return facts[name][:-5] if facts[name] else '-'
 
 
 def size_text(size: int) -> str:
+    """A number with commas."""
     return '{:,}'.format(size)
 
 
 # ---- what the buses carried
 
-def counted_text(counted: Counter, names: Any) -> str:
+def counted_text(counted: Counter, names: Callable[[Value], str]) -> str:
+    """Each of some names with how often it was counted."""
     return ', '.join('%s: %s' % (names(key), '{:,}'.format(number))
                      for key, number in sorted(counted.items(), key=lambda pair: (pair[0] is None, pair[0])))
 
 
-def bus_parts(data: Any, begin: int, end: int, survey: Survey) -> List[str]:
-    traffic = buses_of(data, begin, survey)
+def bus_parts(traffic: Traffic, survey: Survey) -> List[str]:
+    """What the buses carried: pictures of the messages of 1553 channels, and tables."""
     messages, _, errors, labels = traffic
     made: List[str] = []
     if messages:
@@ -137,16 +143,16 @@ def bus_parts(data: Any, begin: int, end: int, survey: Survey) -> List[str]:
             ('channel', 'name', 'RT', 'direction', 'messages', 'errors', 'by subaddress'), rows,
             ('name', 'direction', 'errors', 'by subaddress')))
     if labels:
-        rows = [(channel, survey.names.channel(channel) or '-', bus, size_text(sum(counted.values())),
-                 ('wrap', escape(counted_text(counted, label_of))))
-                for (channel, bus), counted in sorted(labels.items())]
-        brief = [row[:4] + (len(labels[row[0], row[2]]),) for row in rows]
+        by_label = [(channel, survey.names.channel(channel) or '-', bus, size_text(sum(counted.values())),
+                     ('wrap', escape(counted_text(counted, label_of))))
+                    for (channel, bus), counted in sorted(labels.items())]
+        brief = [row[:4] + (len(labels[row[0], row[2]]),) for row in by_label]
         made += ['<h3 class="run">ARINC 429 by label</h3>', '<p>%s words on %d buses.</p>' % (
             size_text(sum(sum(counted.values()) for counted in labels.values())), len(labels))]
         made += ['<div class="screen">'] + table('Words of each bus', ('channel', 'name', 'bus', 'words', 'labels'), brief,
                                                  ('name',)) + ['</div>']
         made += folded('The numbers', table('Words of each bus, by label in octal',
-                                            ('channel', 'name', 'bus', 'words', 'by label'), rows, ('name', 'by label')))
+                                            ('channel', 'name', 'bus', 'words', 'by label'), by_label, ('name', 'by label')))
     return made
 
 
@@ -157,31 +163,73 @@ def folded(title: str, inner: List[str]) -> List[str]:
 
 # ---- one recording
 
-def pictures_of(data: Any, begin: int, end: int, survey: Survey, name: str) -> List[str]:
-    """The rates and losses of the channels, so many in a picture that each fits on a sheet of paper."""
+def drawn_of(survey: Survey, name: str) -> Tuple[List[Picture], Set[Key]]:
+    """The pictures of the channels, with nothing in them, so many channels in each that it fits on a sheet of paper; and which
+    channels have packets alone to be drawn."""
     some = survey.drawn()
     if not survey.rows or not some:
-        return []
+        return [], set()
     sources = {(row.channel, row.kind): row for row in some}
     by_packets = {key for key, row in sources.items() if not row.entries}
-    keys, drawn = sorted(sources), []
+    keys = sorted(sources)
     strips = -(-len(keys) // -(-len(keys) // MOST_STRIPS))  # the pictures are of one height
-    for at in range(0, len(keys), strips):
-        drawn.append(Picture(name, {key: sources[key] for key in keys[at:at + strips]}, by_packets, *ends_of(some), survey))
+    low, high = ends_of(some) or (0, 0)
+    return [Picture(name, {key: sources[key] for key in keys[at:at + strips]}, by_packets, low, high, survey)
+            for at in range(0, len(keys), strips)], by_packets
+
+
+Counted = Tuple[List[Counts], Counter, Counter]  # of each picture what is in it, and the words of the buses
+
+
+def filled(data: Data, begin: int, survey: Survey, drawn: List[Picture], by_packets: Set[Key],
+           some: Optional[range] = None) -> Counted:
+    """Fills the pictures and counts what the buses carried, by all packets or by some of them."""
     by_key = {key: one for one in drawn for key in one.sources}
-    for mark in marks(data, begin, survey, sources, by_packets):
+    sources = {key: one.sources[key] for key, one in by_key.items()}
+    for mark in marks(data, begin, survey, sources, by_packets, some) if drawn else ():
         by_key[mark[0]].fill((mark,), None)
+    return ([one.counted() for one in drawn], *words_of(data, begin, survey, some))
+
+
+def counted_of(data: Data, begin: int, survey: Survey, drawn: List[Picture], by_packets: Set[Key], jobs: int) -> Traffic:
+    """The same by so many processes, each of which takes packets that follow one another."""
+    if jobs < 2:
+        return traffic_of(*filled(data, begin, survey, drawn, by_packets)[1:])
+    many = len(survey.places)
+    shares = [range(many * place // jobs, many * (place + 1) // jobs) for place in range(jobs)]
+
+    def made(some: range) -> Iterator[bytes]:
+        for one in drawn:
+            one.clear()
+        yield pickle.dumps(filled(data, begin, survey, drawn, by_packets, some), pickle.HIGHEST_PROTOCOL)
+
+    commands: Counter = Counter()
+    labelled: Counter = Counter()
+    for pieces in made_in_order(made, shares, jobs):
+        more, some_commands, some_labels = pickle.loads(b''.join(pieces))
+        for one, counts in zip(drawn, more):
+            one.add(counts)
+        commands.update(some_commands)
+        labelled.update(some_labels)
+    return traffic_of(commands, labelled)
+
+
+def pictures_of(drawn: List[Picture], survey: Survey, size: int) -> List[str]:
+    """The rates and losses of the channels."""
+    if not drawn:
+        return []
     made = ['<h3>Rates and losses</h3>']
     for one in drawn:
         first, last = min(one.sources)[0], max(one.sources)[0]
         about = 'Rates and losses of %s over time; the same numbers stand in the table of channels' % (
             'channel %d' % first if first == last else 'channels %d to %d' % (first, last))
-        text = one.text(survey, end - begin).replace('<svg ', '<svg role="img" aria-label="%s" ' % escape(about, True), 1)
+        text = one.text(survey, size).replace('<svg ', '<svg role="img" aria-label="%s" ' % escape(about, True), 1)
         made += ['<figure>', text, '<figcaption>%s.</figcaption></figure>' % escape(about)]
     return made
 
 
 def channel_part(survey: Survey) -> List[str]:
+    """The table of channels, and what was not read."""
     rows = []
     for row in survey.rows:
         rate = row.rate()
@@ -197,6 +245,7 @@ def channel_part(survey: Survey) -> List[str]:
 
 
 def damage_part(survey: Survey) -> List[str]:
+    """The table of stretches that were passed over."""
     if not survey.damage:
         return []
     rows = [(size_text(one.offset), size_text(one.length), ('left', escape(one.why)),
@@ -209,6 +258,7 @@ def damage_part(survey: Survey) -> List[str]:
 
 
 def clock_part(survey: Survey) -> List[str]:
+    """What time channels say of their clocks."""
     if not survey.times or not survey.span():
         return []
     return ['<h3 class="run">Clocks</h3><ul>'] + ['<li>%s</li>' % escape(line.strip()) for times in survey.times
@@ -216,6 +266,7 @@ def clock_part(survey: Survey) -> List[str]:
 
 
 def setup_part(survey: Survey) -> List[str]:
+    """The setup text as a tree, and which channels it names otherwise."""
     if survey.setup is None:
         return ['<h3>Setup</h3><p>There is no setup text.</p>']
     if not survey.names.attributes:
@@ -232,7 +283,8 @@ def setup_part(survey: Survey) -> List[str]:
         '<pre tabindex="0" aria-label="Setup attributes as a tree">%s</pre>' % escape('\n'.join(tree(survey.names.attributes)))])
 
 
-def facts_part(task: Dict[str, Any], facts: Dict[str, Any]) -> List[str]:
+def facts_part(task: Facts, facts: Facts) -> List[str]:
+    """Verdict, times, remarks and sums, each a paragraph."""
     means = MEANS[facts['verdict']] + (' Packets of a kind that is not read: %d.' % facts['opaque']
                                        if facts['verdict'] == 'lenient' else '')
     lines = ['%s %s' % (verdict_html(facts), escape(means))]
@@ -250,18 +302,20 @@ def facts_part(task: Dict[str, Any], facts: Dict[str, Any]) -> List[str]:
     return ['<p>%s</p>' % line for line in lines]
 
 
-def part_of(task: Dict[str, Any], data: Any, program: Optional[str], asked: Asked) -> Part:
+def part_of(task: Facts, data: Data, program: Optional[str], asked: Asked, jobs: int) -> Part:
+    """One recording, or the image whose directory cannot be read, by so many processes."""
     begin, end = task['begin'], task['end']
     if 'fault' in task:
         facts = nothing_in(end - begin)
         with memoryview(data) as view:
             facts.update(verdict_of_image(program, view, Fault(task['fault'])))
         return Part(task, facts, facts_part(task, facts) + ['<p>%s.</p>' % escape(task['fault'])])
-    survey = Survey(data, begin, end, asked=asked)
+    survey = Survey(data, begin, end, asked=asked, jobs=jobs)
     facts = facts_of(data, begin, end, program, survey)
-    made = facts_part(task, facts) + pictures_of(data, begin, end, survey, title(task).rpartition('/')[2]) + channel_part(survey)
-    return Part(task, facts, made + damage_part(survey) + clock_part(survey) + bus_parts(data, begin, end, survey)
-                + setup_part(survey))
+    drawn, by_packets = drawn_of(survey, title(task).rpartition('/')[2])
+    traffic = counted_of(data, begin, survey, drawn, by_packets, jobs)
+    made = facts_part(task, facts) + pictures_of(drawn, survey, end - begin) + channel_part(survey)
+    return Part(task, facts, made + damage_part(survey) + clock_part(survey) + bus_parts(traffic, survey) + setup_part(survey))
 
 
 # ---- the page
@@ -270,7 +324,7 @@ def titles_of(parts: Sequence[Part]) -> Tuple[str, List[str]]:
     """The folder that all recordings lie in, or '', and what each is called within it."""
     titles = [title(part.task) for part in parts]
     folders = {part.task['place'].rpartition('/')[0] for part in parts}
-    folder = line_of(os.path.commonpath(folders)) if folders and all(one.startswith('/') for one in folders) else ''
+    folder = printable(os.path.commonpath(sorted(folders))) if folders and all(one.startswith('/') for one in folders) else ''
     front = folder.rstrip('/') + '/'
     if folder and all(one.startswith(front) for one in titles):
         return folder, [one[len(front):] for one in titles]
@@ -278,6 +332,7 @@ def titles_of(parts: Sequence[Part]) -> Tuple[str, List[str]]:
 
 
 def page(parts: Sequence[Part]) -> List[str]:
+    """The page, line by line."""
     folder, titles = titles_of(parts)
     head = 'Report on %s' % ('1 recording' if len(parts) == 1 else '%d recordings' % len(parts))
     made = ['<!DOCTYPE html>', '<html lang="en">', '<head>', '<meta charset="utf-8">',
@@ -309,7 +364,7 @@ def page(parts: Sequence[Part]) -> List[str]:
     return made + ['</div>', '</main>', '</body>', '</html>']
 
 
-def report(asked: Any, data: None, out: Output) -> None:
+def report(asked: Words, data: None, out: Output) -> None:
     """`ch10 report`."""
     program = None
     if not asked.unjudged:
@@ -318,12 +373,17 @@ def report(asked: Any, data: None, out: Output) -> None:
         except Wrong:
             program = None
     failed: List[Tuple[str, str]] = []
-    parts = [part for one in inputs_of(asked.inputs, None, [], failed) for part in parts_of_input(one, program, failed, asked)]
+    inputs = list(inputs_of(asked.inputs, None, [], failed))
+    parts: List[Part] = []
+    for found, unread_ones in parts_of(inputs, program, asked):
+        parts += found
+        failed += unread_ones
     if not parts and not failed:
         raise Fault('there is no recording in what was given; of a folder those files are taken that end in %s, or begin as one'
                     % ', '.join(ENDINGS))
     for line in page(parts):
         out.write(re.sub('[\x00-\x08\x0b\x0c\x0e-\x1f]', '?', line).encode('utf-8', 'replace') + b'\n')
+    out.flush()
     unread(failed)
     bad = [part for part in parts if part.facts['verdict'] == 'faulty' or part.facts['damaged']]
     if bad:
@@ -331,14 +391,33 @@ def report(asked: Any, data: None, out: Output) -> None:
                                                                     verdict_text(bad[0].facts)))
 
 
-def parts_of_input(one: Input, program: Optional[str], failed: List[Tuple[str, str]], asked: Any) -> List[Part]:
+Read = Tuple[List[Part], List[Tuple[str, str]]]  # the recordings of an input, and why it could not be read, where it was not
+
+
+def parts_of(inputs: Sequence[Input], program: Optional[str], asked: Words) -> Iterator[Read]:
+    """The recordings of each input: of many inputs by a process for each of some, of few one after the other, each by several."""
+    jobs = jobs_of(asked.jobs, LEAST)
+    if jobs < 2 or len(inputs) < jobs:
+        for one in inputs:
+            yield parts_of_input(one, program, asked, asked.jobs)
+        return
+
+    def made(one: Input) -> Iterator[bytes]:
+        yield pickle.dumps(parts_of_input(one, program, asked, 1), pickle.HIGHEST_PROTOCOL)
+
+    for pieces in made_in_order(made, inputs, jobs):
+        yield pickle.loads(b''.join(pieces))
+
+
+def parts_of_input(one: Input, program: Optional[str], asked: Words, jobs: Optional[int]) -> Read:
+    """The recordings of an input, by as many processes as a call asks for, or else as its size wants."""
     try:
         data = opened(one.path)
     except OSError as error:
-        failed.append((one.place, error.strerror or str(error)))
-        return []
+        return [], [(one.place, error.strerror or str(error))]
     if is_recording(data) or data[512:520] != b'FORTYtwo':
-        tasks: Iterable[Dict[str, Any]] = [dict(path=one.path, place=one.place, begin=0, end=len(data), number=-1)]
+        tasks: Iterable[Facts] = [dict(path=one.path, place=one.place, begin=0, end=len(data), number=-1)]
     else:
         tasks = image_tasks(one.path, one.place, data)
-    return [part_of(task, data, program, asked_of(asked, date_of(os.stat(one.path)))) for task in tasks]
+    clock = asked_of(asked, date_of(os.stat(one.path)))
+    return [part_of(task, data, program, clock, jobs_of(jobs, task['end'] - task['begin'])) for task in tasks], []

@@ -85,8 +85,8 @@ def attributes_of(text: str) -> Iterator[Tuple[str, object]]:
         if is_service and isinstance(channel.get('name'), str):
             name = ''.join('_' if mark in ';:' or is_control(mark) else mark for mark in channel['name'])
         yield from track(number, channel['id'], name, kind)
-        group = kind.tmats['group']
-        if group:
+        group = kind.setup['group']
+        if isinstance(group, str):
             yield 'R-1\\CDLN-%d' % number, name
             groups[group] += 1
             links += list(link('%s-%d' % (group, groups[group]), name, channel['id'], kind, tables))
@@ -104,10 +104,12 @@ def log_channels(top: Dict[str, object], channels: List[dict]) -> List[dict]:
 
 
 def is_control(mark: str) -> bool:
+    """Whether a letter is one of control."""
     return unicodedata.category(mark) == 'Cc'
 
 
 def is_whole(value: object) -> bool:
+    """Whether a value is a whole number, and no truth."""
     return isinstance(value, int) and not isinstance(value, bool)
 
 
@@ -121,11 +123,12 @@ def buses_of(channel: int, tables: Dict[str, List[dict]]) -> List[int]:
 
 
 def track(number: int, channel: int, name: str, kind: Kind) -> Iterator[Tuple[str, object]]:
+    """The attributes of a channel in group R: its number there, its ID and its name."""
     yield 'R-1\\TK1-%d' % number, channel
     yield 'R-1\\CHE-%d' % number, 'T'
     yield 'R-1\\DSI-%d' % number, name
-    yield 'R-1\\CDT-%d' % number, kind.tmats['data_type']
-    yield 'R-1\\%s-%d' % (kind.tmats['format_name'], number), kind.tmats['format']
+    yield 'R-1\\CDT-%d' % number, kind.setup['data_type']
+    yield 'R-1\\%s-%d' % (kind.setup['format_name'], number), kind.setup['format']
 
 
 def link(group: str, name: str, channel: int, kind: Kind, tables: Dict[str, List[dict]]) -> Iterator[Tuple[str, object]]:
@@ -140,10 +143,11 @@ def link(group: str, name: str, channel: int, kind: Kind, tables: Dict[str, List
     for place, bus in enumerate(buses, 1):
         yield '%s\\BID-%d' % (group, place), bus
         yield '%s\\BNA-%d' % (group, place), '%s-%s' % (name, bus) if kind.has_buses else name
-        yield '%s\\BT-%d' % (group, place), kind.tmats['bus_type']
+        yield '%s\\BT-%d' % (group, place), kind.setup['bus_type']
 
 
 def as_tmats(asked: Namespace, data: Data, out: Output) -> None:
+    """`ch10 tmats`."""
     try:
         text = bytes(data).decode('utf-8')
     except UnicodeDecodeError:

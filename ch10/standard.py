@@ -3,9 +3,12 @@ kinds of channels (`ch10.kinds`), or more than that."""
 from __future__ import annotations
 
 import mmap
-from typing import List, Optional, Tuple, Union
+from typing import Any, Dict, List, Optional, Tuple, Union
 
 Data = Union[bytes, mmap.mmap]  # what a call reads
+Value = Any  # of an entry, of a cell, or of JSON: a number, a text, bytes, a list of such, or None
+Facts = Dict[str, Value]  # what is known of a recording, by its name: as a row of a database, or as JSON
+Words = Any  # of a call, as argparse gives them
 Key = Tuple[int, int]  # a channel and a data type
 Whose = Tuple[int, int, int, int]  # of a packet: channel, data type, sequence number, counter
 
@@ -35,6 +38,7 @@ class Damaged(Fault):
         self.said = lines
 
     def lines(self) -> List[str]:
+        """A line for each stretch."""
         return self.said
 
 
@@ -67,23 +71,28 @@ def find(data: Data, what: bytes, begin: int, end: int) -> int:
 
 
 def need(held: bool, offset: int, what: str) -> None:
+    """Raises a Fault at an offset unless something holds."""
     if not held:
         raise Fault(what, offset)
 
 
 def little(data: Data, at: int, size: int) -> int:
+    """A number of so many bytes, the low one first."""
     return int.from_bytes(data[at:at + size], 'little')
 
 
 def big(data: Data, at: int, size: int) -> int:
+    """A number of so many bytes, the high one first."""
     return int.from_bytes(data[at:at + size], 'big')
 
 
 def text(data: bytes) -> str:
+    """Bytes as ASCII, without zeros and spaces at the end."""
     return data.rstrip(b'\x00 ').decode('ascii', 'replace')
 
 
 def digits(data: bytes) -> str:
+    """Bytes as hex digits; - where there are none."""
     return data.hex() or '-'
 
 
@@ -94,4 +103,5 @@ REPORT = bytes(4) + b'LOSS'  # what the body of a loss report begins with
 WIDTHS = (0, 1, 2, 4)
 SUMS = (None, 'B', 'H', 'I')
 COUNT_BITS = (1 << 48) - 1
+SUM_OF_RECORDING = 'recording_sha256'  # an attribute of a file of columns: of what it was made
 NONE_LATER = (1 << 64) - 1

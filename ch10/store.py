@@ -13,9 +13,9 @@ from __future__ import annotations
 import os
 import re
 from contextlib import contextmanager
-from typing import Any, Iterable, Iterator, List, Optional, Sequence, Set, Tuple
+from typing import Iterable, Iterator, List, Optional, Sequence, Set, Tuple
 
-from .standard import Wrong
+from .standard import Value, Wrong
 from .store_schema import MIGRATIONS
 
 DEFAULT = 'ch10.sqlite'
@@ -33,15 +33,19 @@ class Store:
     for_update = ''  # what keeps others from a row that is read, until the transaction ends
     words: dict = {}  # what stands in a schema's statements in place of {identity}, {text} and {bytes}
 
-    def rows(self, statement: str, values: Sequence[Any] = ()) -> List[Tuple]:
+    def rows(self, statement: str, values: Sequence[Value] = ()) -> List[Tuple]:
         """The rows that a statement answers; none for one that answers nothing."""
         raise NotImplementedError
 
-    def insert(self, table: str, columns: Sequence[str], rows: Iterable[Sequence[Any]]) -> None:
+    def insert(self, table: str, columns: Sequence[str], rows: Iterable[Sequence[Value]]) -> None:
         """Adds many rows to a table."""
         raise NotImplementedError
 
-    def insert_new(self, table: str, columns: Sequence[str], rows: Sequence[Sequence[Any]], keys: int) -> Set[Tuple]:
+    def copy(self, statement: str, parts: Iterable[bytes]) -> None:
+        """Adds rows that are given in the engine's own form, where it has one."""
+        raise NotImplementedError
+
+    def insert_new(self, table: str, columns: Sequence[str], rows: Sequence[Sequence[Value]], keys: int) -> Set[Tuple]:
         """Adds those rows whose first columns, so many, no row has yet, and answers what these have there. Inside a transaction."""
         raise NotImplementedError
 
@@ -53,6 +57,7 @@ class Store:
         """After much was added: lets the engine look at what there is, so that it answers the next questions by the right index."""
 
     def begin(self) -> None:
+        """Begins a transaction."""
         raise NotImplementedError
 
     def lock_for_migrations(self) -> None:
@@ -63,6 +68,7 @@ class Store:
         raise NotImplementedError
 
     def close(self) -> None:
+        """Closes the database."""
         raise NotImplementedError
 
     @contextmanager
@@ -86,6 +92,7 @@ class Store:
             self.end('ROLLBACK')
 
     def end(self, how: str) -> None:
+        """Ends a transaction: COMMIT or ROLLBACK."""
         self.rows(how)
 
     def statement(self, text: str) -> str:
@@ -103,6 +110,7 @@ LIBPQ = (r'\s*(host|hostaddr|dbname|service|user|port|password|passfile|options|
 
 
 def is_postgresql(dsn: str) -> bool:
+    """Whether a DSN is that of a server of PostgreSQL."""
     return dsn.startswith(('postgresql://', 'postgres://')) or re.match(LIBPQ, dsn) is not None
 
 

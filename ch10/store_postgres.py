@@ -6,9 +6,10 @@ import importlib
 import os
 import subprocess
 import sys
-from typing import Any, Dict, Iterable, Iterator, List, Sequence, Set, Tuple
+from typing import Dict, Iterable, Iterator, List, Sequence, Set, Tuple
 
-from .standard import Wrong
+from .arrays import Foreign
+from .standard import Value, Wrong
 from .store import Store, StoreError, partition_of, shown_dsn
 from .store_schema import ENTRIES
 
@@ -17,9 +18,12 @@ LOCK = 0x63683130  # of an advisory lock: the letters ch10
 NUMBERS = {name: number for number, (name, _) in ENTRIES.items()}  # of tables, for a lock of each
 MOST_DAYS = 100  # partitions that a transaction makes, for each takes some locks
 LAST_DAY = datetime.date.max.toordinal()
+# So that a network that is gone ends a session within some two minutes, in place of hours: what a DSN says of these goes first.
+NETWORK = {'connect_timeout': 120, 'keepalives_idle': 30, 'keepalives_interval': 10, 'keepalives_count': 6,
+           'tcp_user_timeout': 90000}
 
 
-def driver() -> Any:
+def driver() -> Foreign:
     """The module that speaks to PostgreSQL."""
     for name in ('psycopg2', 'psycopg'):
         try:
@@ -43,14 +47,14 @@ class Postgres(Store):
     def __init__(self, dsn: str) -> None:
         self.driver = driver()
         try:
-            self.base = self.driver.connect(dsn)
+            self.base = self.driver.connect(dsn, **{name: value for name, value in NETWORK.items() if name not in dsn})
             self.base.autocommit = True
             self.cursor = self.driver.ClientCursor(self.base) if hasattr(self.driver, 'ClientCursor') else self.base.cursor()
             self.cursor.execute("SET client_encoding = 'UTF8'")
         except self.driver.Error as error:
             raise StoreError('the database %s: %s' % (shown_dsn(dsn), one_line(error)))
 
-    def rows(self, statement: str, values: Sequence[Any] = ()) -> List[Tuple]:
+    def rows(self, statement: str, values: Sequence[Value] = ()) -> List[Tuple]:
         try:
             if values:
                 self.cursor.execute(statement.replace('%', '%%').replace('?', '%s'), values)
@@ -60,11 +64,11 @@ class Postgres(Store):
         except (self.driver.Error, UnicodeError) as error:
             raise StoreError('the database: %s' % one_line(error))
 
-    def insert(self, table: str, columns: Sequence[str], rows: Iterable[Sequence[Any]]) -> None:
+    def insert(self, table: str, columns: Sequence[str], rows: Iterable[Sequence[Value]]) -> None:
         """By COPY, which takes many rows in one go."""
         self.copy('COPY %s (%s) FROM STDIN' % (table, ', '.join(columns)), lines_of(rows))
 
-    def insert_new(self, table: str, columns: Sequence[str], rows: Sequence[Sequence[Any]], keys: int) -> Set[Tuple]:
+    def insert_new(self, table: str, columns: Sequence[str], rows: Sequence[Sequence[Value]], keys: int) -> Set[Tuple]:
         if not rows:
             return set()
         one, front = '(%s)' % ', '.join('?' * len(columns)), ', '.join(columns[:keys])
@@ -141,6 +145,7 @@ def day_made(table: str, day: str) -> str:
 
 
 def one_line(error: BaseException) -> str:
+    """An error of the driver in one line."""
     return ' '.join(str(error).split()) or type(error).__name__
 
 
@@ -152,6 +157,7 @@ class Parts:
         self.left = memoryview(b'')
 
     def read(self, size: int = -1) -> bytes:
+        """So many bytes of the parts, one after the other."""
         while not self.left:
             part = next(self.parts, None)
             if part is None:
@@ -166,7 +172,7 @@ class Parts:
 ESCAPES = str.maketrans({'\\': '\\\\', '\t': '\\t', '\n': '\\n', '\r': '\\r'})
 
 
-def cell(value: Any) -> str:
+def cell(value: Value) -> str:
     """A value as the text form of COPY has it."""
     if value is None:
         return '\\N'
@@ -179,7 +185,7 @@ def cell(value: Any) -> str:
     return repr(value)
 
 
-def lines_of(rows: Iterable[Sequence[Any]]) -> Iterator[bytes]:
+def lines_of(rows: Iterable[Sequence[Value]]) -> Iterator[bytes]:
     """Rows in the text form of COPY, in parts of some size."""
     held: List[str] = []
     for row in rows:

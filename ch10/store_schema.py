@@ -29,6 +29,7 @@ class Migration(NamedTuple):
     sqlite: Sequence[str] = ()
 
     def statements_for(self, engine: str) -> List[str]:
+        """The statements for an engine."""
         return list(self.statements) + list(self.postgresql if engine == 'postgresql' else self.sqlite)
 
 
@@ -190,11 +191,46 @@ QUESTIONS = (
     'CREATE INDEX channel_by_jump ON channel (recording) WHERE jumps > 0',
 )
 
-MIGRATIONS = (
+# Recordings that wait for a worker, that one has taken, or that are set apart (`ch10.work_queue`).
+QUEUE = (
+    """CREATE TABLE queue (
+    id {identity},
+    path {text} NOT NULL UNIQUE,
+    place {text} NOT NULL UNIQUE,
+    folder {text} NOT NULL,
+    state {text} NOT NULL DEFAULT 'waiting' CHECK (state IN ('waiting', 'taken', 'apart')),
+    tries INTEGER NOT NULL DEFAULT 0 CHECK (tries >= 0),
+    returns INTEGER NOT NULL DEFAULT 0 CHECK (returns >= 0),
+    due TIMESTAMPTZ NOT NULL DEFAULT now(),
+    worker {text},
+    why {text},
+    CHECK ((state = 'taken') = (worker IS NOT NULL)),
+    CHECK (state <> 'apart' OR why IS NOT NULL)
+)""",
+    "CREATE INDEX queue_by_due ON queue (due, id) WHERE state <> 'apart'",
+    "CREATE INDEX queue_taken ON queue (due) WHERE state = 'taken'",
+)
+
+# Files of columns that were made of recordings: where they lie, and what they were when that was noted.
+COLUMN_FILES = (
+    """CREATE TABLE column_file (
+    path {text} NOT NULL PRIMARY KEY,
+    recording BIGINT NOT NULL REFERENCES recording (id) ON DELETE CASCADE,
+    form {text} NOT NULL CHECK (form IN ('hdf5', 'mat')),
+    size BIGINT NOT NULL CHECK (size >= 0),
+    changed BIGINT NOT NULL,
+    file_sha256 {text} NOT NULL CHECK (length(file_sha256) = 64),
+    attached {text} NOT NULL
+)""",
+    'CREATE INDEX column_file_by_recording ON column_file (recording)')
+
+MIGRATIONS = tuple(sorted((
     Migration(1, 'catalogue', (RECORDING, PLACE, CHANNEL, DAMAGE, ATTRIBUTE) + INDEXES),
     Migration(2, 'entries', (LOADED,), postgresql=entry_tables(2, True), sqlite=entry_tables(2, False)),
     Migration(3, 'questions', QUESTIONS),
     Migration(4, 'remarks', REMARKS),
+    Migration(9, 'queue', (), postgresql=QUEUE),
+    Migration(10, 'column files', COLUMN_FILES),
 ) + tuple(  # of each kind that is newer its table
     Migration(kind.step, kind.table, (), postgresql=entry_tables(kind.step, True), sqlite=entry_tables(kind.step, False))
-    for kind in KINDS if kind.step > 4)
+    for kind in KINDS if kind.step > 4)))

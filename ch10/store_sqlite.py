@@ -4,10 +4,10 @@ from __future__ import annotations
 import os
 import sqlite3
 from time import monotonic, sleep as pause
-from typing import Any, Iterable, List, Sequence, Set, Tuple
+from typing import Iterable, List, Sequence, Set, Tuple
 from urllib.parse import quote
 
-from .standard import Wrong
+from .standard import Value, Wrong
 from .store import Store, StoreError
 
 WAIT = 300  # seconds for another program that writes
@@ -54,20 +54,20 @@ class Sqlite(Store):
                     raise
             pause(0.02)
 
-    def rows(self, statement: str, values: Sequence[Any] = ()) -> List[Tuple]:
+    def rows(self, statement: str, values: Sequence[Value] = ()) -> List[Tuple]:
         try:
             return self.base.execute(statement, values).fetchall()
         except FAULTS as error:
             raise StoreError('the database: %s' % error)
 
-    def insert(self, table: str, columns: Sequence[str], rows: Iterable[Sequence[Any]]) -> None:
+    def insert(self, table: str, columns: Sequence[str], rows: Iterable[Sequence[Value]]) -> None:
         try:
             self.base.executemany('INSERT INTO %s (%s) VALUES (%s)' % (table, ', '.join(columns), ', '.join('?' * len(columns))),
                                   rows)
         except FAULTS as error:
             raise StoreError('the database: %s' % error)
 
-    def insert_new(self, table: str, columns: Sequence[str], rows: Sequence[Sequence[Any]], keys: int) -> Set[Tuple]:
+    def insert_new(self, table: str, columns: Sequence[str], rows: Sequence[Sequence[Value]], keys: int) -> Set[Tuple]:
         statement = 'INSERT INTO %s (%s) VALUES (%s) ON CONFLICT (%s) DO NOTHING' % (
             table, ', '.join(columns), ', '.join('?' * len(columns)), ', '.join(columns[:keys]))
         try:

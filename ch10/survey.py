@@ -3,23 +3,30 @@ from __future__ import annotations
 
 from array import array
 from bisect import bisect_left, bisect_right
-from typing import Dict, Iterable, List, Optional, Sequence, Tuple
+from operator import itemgetter
+from typing import Any, Dict, Iterable, List, Mapping, Optional, Sequence, Tuple
 
 from . import walk
+from .arrays import numpy
 from .bodies import BODIES, counts
-from .clocks import BITS, COUNTLESS, NOTHING, Asked, Sessions, TimeLine, Timing
+from .clocks import BITS, COUNTLESS, NOTHING, Asked, Clock, Sessions, TimeLine, Timing
 from .columns import told_by
 from .data_types import family_of
 from .kinds import by_type
 from .log_lines import MESSAGE, Log, use
 from .packets import KNOWN, UNTOLD, Packet, Resync, Stretch, loss_of, lost_before, packet_at
 from .segments import WHY, Segments, is_segment
-from .standard import COUNT_BITS, INDEX, NETWORK_TIME, NONE_LATER, SETUP, SPAN, STREAMING, TIME, Damaged, Data, Fault, let_go
+from .standard import COUNT_BITS, INDEX, NETWORK_TIME, SETUP, SPAN, STREAMING, TIME, Damaged, Data, Fault, let_go
 from .times import Time, header_time, network_time, time
 from .tmats import Names
 
 STATES = by_type('last_state')
+FIRST_OF = itemgetter(0)
+StatesBefore = Mapping[int, Optional[int]]  # by the numbers of packets
+Column = Any  # an array of whole numbers, or a memoryview of such
+UNREAD = 1 << 63  # above the counter of a packet that has no entries, in place of their lowest instant
 REPORT_ROW = 0x100  # in place of its data type, 0x00, which others have for something else
+SUMMED = ('packets', 'bytes', 'losses', 'lost', 'untold', 'jumps', 'opaque', 'bad', 'doubled')
 
 
 def name_of(kind: int) -> str:
@@ -95,6 +102,18 @@ class Row:
         if high > span[1]:
             span[1] = high
 
+    def take(self, other: Row, base: int) -> None:
+        """Takes in a row of packets that come after its own, whose instants are counts of a session."""
+        for name in SUMMED:
+            setattr(self, name, getattr(self, name) + getattr(other, name))
+        for why, number in other.unread.items():
+            self.unread[why] = self.unread.get(why, 0) + number
+        for low, high in other.packed.values():
+            self.at(low + base)
+            self.at(high + base)
+        for low, high in other.entered.values():
+            self.add_entries(other.entries, low + base, high + base)
+
     def has_entries(self) -> bool:
         """Whether its type is one of entries that are read."""
         return self.kind in BODIES and BODIES[self.kind].keys is not None
@@ -147,7 +166,39 @@ def why_unread(packet: Packet) -> str:
     return 'another form of its type' if packet.kind in KNOWN else 'a type that is not read here'
 
 
-class Survey:
+class Surveyed:
+    """What every pass over a recording finds; `Survey` says what each is."""
+
+    rows: List[Row]
+    damage: List[Stretch]
+    fault: Optional[Fault]
+    out_of_step: int
+    begins_with_setup: bool
+    setup: Optional[bytes]
+    names: Names
+    log: Log
+    log_remarks: List[str]
+    timing: Timing
+    times: List[TimeLine]
+    sessions: Sessions
+    clock: Optional[Clock]
+
+    def drawn(self, channels: Optional[List[int]] = None) -> List[Row]:
+        """The rows of all packets but those of setup, index and loss reports."""
+        return [row for row in self.rows if row.packets and row.kind not in (SETUP, INDEX, REPORT_ROW)
+                and (channels is None or row.channel in channels)]
+
+    def span(self) -> Optional[Tuple[int, int]]:
+        """The first and the last instant, or None where there is no packet. Those of setup, index and reports matter where there
+        are no others."""
+        return ends_of(self.drawn() or self.rows)
+
+    def ends(self) -> List[Tuple[int, int]]:
+        """The same of each session; sessions between which the counter's bits were full are one."""
+        return session_ends(self.drawn() or self.rows, self.sessions)
+
+
+class Survey(Surveyed):
     """What one pass over a recording finds: to its end, or, where it does not go on, to its first fault.
 
     .rows      a `Row` of each channel and type, by channel, then type
@@ -164,43 +215,74 @@ class Survey:
     .setup     the first setup text as bytes, or None; .streaming, the first configuration of a stream, or None
     .names     what the one says of channels, or, where there is none, the other: `ch10.tmats.Names`
     .lows      of each packet that was read the lowest instant of its entries; .highs the highest; .places where it begins, after
-               the recording's first byte; .of, the number of its session
+               the recording's first byte; .of, the number of its session. A packet without entries has its counter above UNREAD as
+               its lowest, and 0 as its highest
+    .setups    the numbers of the packets of setup and of a stream's configuration
     """
 
-    def __init__(self, data: Data, begin: int, end: int, goes_on: bool = True, asked: Asked = NOTHING,
-                 more: Optional[Log] = None) -> None:
-        self.rows: List[Row] = []
+    def prepare(self, data: Data, begin: int, end: int, timing: Timing) -> None:
+        """Begins a pass at the first packet."""
+        self.data, self.begin, self.end, self.at = data, begin, end, begin
+        self.rows = []
         self.log = Log()
-        self.damage: List[Stretch] = []
+        self.damage = []
         self.passed: Dict[int, int] = {}
         self.spans: List[Tuple[Optional[int], Optional[int]]] = []
-        self.fault: Optional[Fault] = None
+        self.fault = None
         self.out_of_step, self.begins_with_setup = 0, False
-        self.setup: Optional[bytes] = None
+        self.setup = None
         self.streaming: Optional[bytes] = None
-        self.lows, self.highs, self.places, self.of = array('Q'), array('Q'), array('Q'), array('I')
-        self.timing = Timing()
-        self.sessions = self.timing.sessions
+        self.lows: Column = array('Q')
+        self.highs: Column = array('Q')
+        self.places: Column = array('Q')
+        self.of: Column = array('I')
+        self.setups: List[int] = []
+        self.timing = timing
+        self.sessions = timing.sessions
         self.latest: Dict[int, int] = {}  # of each channel where its last packet stands
         self.segments = Segments(data, begin)
         self.held: List[Tuple[Row, int, int, bool]] = []  # of packets that are of the session of what comes next
         self.states: List[Tuple[int, int, int]] = []  # of each packet that has one its number, its channel and its last state
         self.by_key: Dict[Tuple[int, int], Row] = {}
-        self.size = self.go(data, begin, end, goes_on)
+        self.sequences: Dict[int, int] = {}  # of each channel the one that comes next
+        self.report: Optional[Tuple[int, int]] = None  # of the packet before, where it is one
+        self.last: Optional[int] = None  # the instant of the packet before
+        self.resync, self.ahead = Resync(data, begin, end), walk.Ahead(data, end)
+
+    def __init__(self, data: Data, begin: int, end: int, goes_on: bool = True, asked: Asked = NOTHING,
+                 more: Optional[Log] = None, jobs: int = 1) -> None:
+        self.prepare(data, begin, end, Timing())
+        if jobs > 1:
+            from .survey_parts import walked  # read when it is asked for
+            walked(self, goes_on, jobs)
+        else:
+            self.go_to(end, goes_on)
+        self.settle(self.sessions.base)
+        del self.resync, self.ahead
+        self.size = self.at - begin
         if end == begin:
             self.fault = Fault('no packet')
         self.log_remarks = use(self.by_key, self.log, self.new_row, more)
         self.rows = [self.by_key[key] for key in sorted(self.by_key)]
         self.names = Names(self.streaming if self.setup is None else self.setup)
-        self.times: List[TimeLine] = list(self.timing.lines.values())
+        self.times = list(self.timing.lines.values())
         self.clock = self.timing.clock(asked, self.names.attributes)
 
-    def go(self, data: Data, begin: int, end: int, goes_on: bool) -> int:
-        """Goes over the recording, and answers how far it came."""
-        at, resync, report, last, gone = begin, Resync(data, begin, end), None, None, begin
-        before: Dict[int, int] = {}
-        ahead = walk.Ahead(data, end)
-        while at < end:
+    def go_to(self, limit: int, goes_on: bool) -> None:
+        """Goes on to the first packet that begins at a place or after it; or, unless it goes on, to a fault."""
+        data, begin, end, at, gone = self.data, self.begin, self.end, self.at, self.at
+        resync, before, ahead = self.resync, self.sequences, self.ahead
+        ahead.limit = limit
+        while at < limit:
+            place = ahead.place(at)
+            many = self.add_run(ahead, place, begin, before, resync) if place >= 0 and ahead.runs[place] - place >= walk.RUN else 0
+            if many:
+                self.last, self.report = int(ahead.counters[place + many - 1]) + self.sessions.base, None
+                at = int(ahead.offsets[place + many - 1] + ahead.heads['length'][place + many - 1])
+                if at - gone >= SPAN:
+                    let_go(data, gone, at)
+                    gone = at
+                continue
             try:
                 packet = packet_at(data, at, begin, end, True, True, ahead.is_summed(at))
                 found = ahead.measure(packet, at)
@@ -214,19 +296,18 @@ class Survey:
                     fault = self.placed(fault, data, at, begin, end)
                 self.fault = self.fault or fault
                 if not goes_on:
-                    self.settle(self.sessions.base)
-                    return at - begin
+                    break
                 if fault.whose:
                     resync.note(*fault.whose[:3])
                 following = resync.after(at, fault.length)
-                self.pass_over(fault, at - begin, following - at, last, before)
-                at, report = following, None
+                self.pass_over(fault, at - begin, following - at, self.last, before)
+                at, self.report = following, None
                 continue
             channel, kind, sequence, told = packet.channel, packet.kind, packet.sequence, loss_of(packet)
             base = self.base_of(packet, before)
-            last = packet.counter + base
+            instant = self.last = packet.counter + base
             if self.spans and self.spans[-1][1] is None:
-                self.close_spans(last)
+                self.close_spans(instant)
             row = self.row_of(channel, REPORT_ROW if told else kind)
             is_jump = before.get(channel, sequence) != sequence
             row.jumps += is_jump
@@ -234,16 +315,16 @@ class Survey:
                 row.doubled += 1
             self.latest[channel] = packet.offset
             before[channel] = sequence + 1 & 0xFF
-            row.add(packet, report)
+            row.add(packet, self.report)
             self.out_of_step += packet.flags >> 5 & 1
             self.begins_with_setup |= kind == SETUP and packet.offset == 0
-            report = told
+            self.report = told
             if kind in COUNTLESS:
                 self.held.append((row, len(self.lows), packet.counter, is_jump))
             else:
-                row.at(last)
+                row.at(instant)
             if packet.second is not None:
-                self.timing.add_header(last, time_of_header(packet), packet.offset)
+                self.timing.add_header(instant, time_of_header(packet), packet.offset)
             self.note(packet, found, said, row, base)
             whole = self.segments.note(packet)
             if whole:
@@ -253,8 +334,75 @@ class Survey:
             if at - gone >= SPAN:
                 let_go(data, gone, at)
                 gone = at
-        self.settle(self.sessions.base)
-        return at - begin
+        self.at = at
+
+    def add_run(self, ahead: walk.Ahead, place: int, begin: int, before: Dict[int, int], resync: Resync) -> int:
+        """Adds plain packets that follow one another from one on, as far as each goes on where its channel was: by its sequence
+        number, and by its counter. Answers how many; none where they are few, or where each has to be looked at by itself."""
+        sessions = self.sessions
+        if self.held or sessions.is_after_setup or sessions.wraps:
+            return 0
+        until = ahead.runs[place]
+        while until - place >= walk.RUN:
+            keys, heads = ahead.keys[place:until], ahead.heads[place:until]
+            order = numpy.argsort(keys, kind='stable')
+            some = keys[order]
+            is_first = numpy.append(True, some[1:] != some[:-1])
+            first = numpy.flatnonzero(is_first)
+            groups = some[first].tolist()
+            if len({key >> 8 for key in groups}) < len(groups):
+                return 0
+            sequence, counters = heads['sequence'][order].astype(numpy.int64), ahead.counters[place:until][order]
+            wrong = numpy.zeros(len(order), bool)
+            wrong[1:] = ~is_first[1:] & ((sequence[1:] != sequence[:-1] + 1 & 0xFF) | (counters[1:] < counters[:-1]))
+            for at, key in zip(first.tolist(), groups):
+                wrong[at] = (before.get(key >> 8, sequence[at]) != sequence[at] or counters[at] < sessions.last.get(key, -1)
+                             or key & 0xFF == MESSAGE and key >> 8 not in self.log.others)
+            if not wrong.any():
+                break
+            until = place + int(order[wrong].min())
+        else:
+            return 0
+        base, number = sessions.base, until - place
+        if self.spans and self.spans[-1][1] is None:
+            self.close_spans(int(ahead.counters[place]) + base)
+        lows, highs = ahead.lows[place:until] + base, ahead.highs[place:until] + base
+        offsets, last = ahead.offsets[place:until] - begin, numpy.append(first[1:], number) - 1
+        columns = [numpy.add.reduceat(column[order], first).tolist() for column in (
+            ahead.number[place:until], heads['length'].astype(numpy.int64))]
+        columns += [numpy.minimum.reduceat(lows[order], first).tolist(), numpy.maximum.reduceat(highs[order], first).tolist(),
+                    counters[first].tolist(), counters[last].tolist(), sequence[last].tolist(), offsets[order][last].tolist(),
+                    (last - first + 1).tolist()]
+        for key, entries, size, low, high, early, late, at, offset, packets in zip(groups, *columns):
+            channel, kind = key >> 8, key & 0xFF
+            row = self.row_of(channel, kind)
+            row.packets += packets
+            row.bytes += size
+            row.at(early + base)
+            row.at(late + base)
+            row.add_entries(entries, low, high)
+            self.latest[channel], before[channel] = offset, at + 1 & 0xFF
+            sessions.last[key], sessions.next[key] = late, at + 1 & 0xFF
+            if kind == MESSAGE:
+                self.segments.open.pop(channel, None)
+            resync.note(channel, kind, at)
+        if not STATES.keys().isdisjoint(key & 0xFF for key in groups):
+            self.add_states(ahead, place, until)
+        self.lows.frombytes(lows.astype(numpy.uint64).tobytes())
+        self.highs.frombytes(highs.astype(numpy.uint64).tobytes())
+        self.places.frombytes(offsets.astype(numpy.uint64).tobytes())
+        self.of.frombytes(numpy.full(number, base >> BITS, numpy.uint32).tobytes())
+        return number
+
+    def add_states(self, ahead: walk.Ahead, place: int, until: int) -> None:
+        """Takes note of the last states of those packets of a run that have some."""
+        data, number = ahead.data, len(self.lows)
+        found: List[Tuple[int, int, int]] = []
+        for kind, state in STATES.items():
+            for one in numpy.flatnonzero(ahead.kinds[place:until] == kind).tolist():
+                at, head = int(ahead.offsets[place + one]), ahead.heads[place + one]
+                found.append((number + one, int(head['channel']), state(data[at + 24:at + 24 + int(head['size'])])))
+        self.states += sorted(found, key=FIRST_OF)
 
     def is_doubled(self, data: Data, begin: int, packet: Packet) -> bool:
         """Whether a packet is the same, byte for byte, as the channel's packet before."""
@@ -296,6 +444,7 @@ class Survey:
         return self.row_of(channel, kind)
 
     def row_of(self, channel: int, kind: int) -> Row:
+        """The row of a channel and type, made where there is none."""
         row = self.by_key.get((channel, kind))
         if row is None:
             row = self.by_key[channel, kind] = Row(channel, kind)
@@ -310,7 +459,9 @@ class Survey:
             low, high = low + base, high + base
             row.add_entries(number, low, high)
         else:
-            low, high = NONE_LATER, 0
+            low, high = UNREAD | packet.counter, 0
+        if kind in (SETUP, STREAMING):
+            self.setups.append(len(self.lows))
         if said is not None:
             self.timing.add(packet.channel, packet.counter + base, said, packet.offset, packet.flags)
         elif kind in STATES and number:
@@ -357,24 +508,30 @@ class Survey:
         self.spans.append((last, None))
 
     def close_spans(self, instant: int) -> None:
+        """Takes note of the first instant after stretches."""
         for place in range(len(self.spans) - 1, -1, -1):
             if self.spans[place][1] is not None:
                 break
             self.spans[place] = self.spans[place][0], instant
 
-    def drawn(self, channels: Optional[List[int]] = None) -> List[Row]:
-        """The rows of all packets but those of setup, index and loss reports."""
-        return [row for row in self.rows if row.packets and row.kind not in (SETUP, INDEX, REPORT_ROW)
-                and (channels is None or row.channel in channels)]
+    def own_instant(self, number: int) -> int:
+        """The instant of a packet without entries, by its counter."""
+        return (self.of[number] << BITS) + (self.lows[number] & COUNT_BITS)
 
-    def span(self) -> Optional[Tuple[int, int]]:
-        """The first and the last instant, or None where there is no packet. Those of setup, index and reports matter where there
-        are no others."""
-        return ends_of(self.drawn() or self.rows)
+    def states_before(self) -> StatesBefore:
+        """What has to be known before each packet of a channel whose packets have a last state: that of its session's packet
+        before, or None."""
+        found: Dict[int, Optional[int]] = {}
+        last: Dict[Tuple[int, int], int] = {}
+        for number, channel, state in self.states:
+            key = channel, self.sessions.run_of(self.of[number])
+            found[number] = last.get(key)
+            last[key] = state
+        return found
 
-    def ends(self) -> List[Tuple[int, int]]:
-        """The same of each session; sessions between which the counter's bits were full are one."""
-        return session_ends(self.drawn() or self.rows, self.sessions)
+    def agrees(self, data: Data, begin: int, numbers: Iterable[int]) -> bool:
+        """Whether packets stand in the recording as it says, by their numbers: it was just read."""
+        return True
 
     def ends_early(self) -> bool:
         """Whether a fault ended it before the recording's end."""
@@ -389,11 +546,13 @@ class Survey:
 
 
 def stretch_text(stretch: Stretch) -> str:
+    """A stretch in words."""
     whose = '' if stretch.channel is None else ' (channel %d, %s)' % (stretch.channel, name_of(stretch.kind))
     return 'passed over: offset %d, length %d: %s%s' % (stretch.offset, stretch.length, stretch.why, whose)
 
 
 def stretch_fields(stretch: Stretch) -> dict:
+    """A stretch as JSON has it."""
     found = {'offset': stretch.offset, 'length': stretch.length, 'why': stretch.why}
     if stretch.channel is not None:
         found.update(channel=stretch.channel, type=name_of(stretch.kind))
@@ -402,7 +561,7 @@ def stretch_fields(stretch: Stretch) -> dict:
 
 def ended_fields(survey: 'Survey', size: int) -> dict:
     """Where a pass ended that does not go on after a fault."""
-    return {'ended': {'offset': survey.size, 'unread': size - survey.size, 'why': survey.fault.what}}
+    return {'ended': {'offset': survey.size, 'unread': size - survey.size, 'why': survey.fault and survey.fault.what}}
 
 
 def ends_of(rows: Sequence[Row]) -> Optional[Tuple[int, int]]:

@@ -10,12 +10,14 @@ from .doubts import NO_SETUP, doubts_of, has_no_setup, log_said, unread_in
 from .inputs import Output, is_recording, listed, shown, the_file
 from .log_lines import Log, log_of
 from .medium import File, bytes_of
+from .parallel import jobs_of
 from .standard import COUNT_BITS, Data, Fault
 from .survey import REPORT_ROW, Row, Survey, name_of, stretch_fields, stretch_text
 from .times import civil
 
 
 def summary(asked: Namespace, data: Data, out: Output) -> None:
+    """`ch10 summary`: of a recording, or of each file of an image. Raises the first fault when all is said."""
     if is_recording(data):
         if asked.file is not None:
             raise Fault('the input is a recording and no image: it has no files')
@@ -56,7 +58,7 @@ def next_log(data: Data, files: Sequence[File], number: int) -> Optional[Log]:
 def summary_of(asked: Namespace, data: Data, out: Output, begin: int, end: int, number: Optional[int],
                file: Optional[File], more: Optional[Log] = None) -> None:
     """What one recording has. Raises its first fault, if it has one, when all is said."""
-    survey = Survey(data, begin, end, asked=asked_of(asked), more=more)
+    survey = Survey(data, begin, end, asked=asked_of(asked), more=more, jobs=jobs_of(asked.jobs, end - begin))
     if asked.json:
         front = {} if file is None else {'file': number, 'name': shown(file.name), 'closed': file.closed}
         for found in fields(survey):
@@ -65,18 +67,19 @@ def summary_of(asked: Namespace, data: Data, out: Output, begin: int, end: int, 
         for line in titles(survey, end - begin, number, file) + tables(survey):
             out.line(line)
     if survey.fault:
-        raise first_of(survey)
+        raise first_of(survey, survey.fault)
 
 
-def first_of(survey: Survey) -> Optional[Fault]:
+def first_of(survey: Survey, fault: Fault) -> Fault:
     """The first fault, and how much was passed over where there is more than it."""
     if len(survey.damage) < 2:
-        return survey.fault
+        return fault
     return Fault('%s passed over, %s in all; the first: %s' % (
-        said(len(survey.damage), 'stretch', 'es'), said(sum(stretch.length for stretch in survey.damage), 'byte'), survey.fault))
+        said(len(survey.damage), 'stretch', 'es'), said(sum(stretch.length for stretch in survey.damage), 'byte'), fault))
 
 
 def said(number: int, what: str, plural: str = 's') -> str:
+    """A number with its word."""
     return '%d %s%s' % (number, what, '' if number == 1 else plural)
 
 
@@ -86,7 +89,7 @@ def titles(survey: Survey, size: int, number: Optional[int], file: Optional[File
     if file is None:
         head = 'recording: ' + what
     else:
-        head = 'file %d %s: %s, %s' % (number, shown(file.name), what, 'closed' if file.closed else 'not closed')
+        head = 'file %s %s: %s, %s' % (number, shown(file.name), what, 'closed' if file.closed else 'not closed')
     if survey.damage:
         head += '; %s of %s passed over' % (said(len(survey.damage), 'stretch', 'es'),
                                             said(sum(stretch.length for stretch in survey.damage), 'byte'))
@@ -116,6 +119,7 @@ def session_lines(survey: Survey) -> List[str]:
 
 
 def seconds_of(ticks: int) -> str:
+    """Units of 100 ns as seconds, with seven places."""
     return '%d.%07d' % divmod(ticks, 10 ** 7)
 
 
@@ -142,10 +146,12 @@ def quality_text(times: TimeLine) -> str:
 
 
 def signed_seconds(ticks: int) -> str:
+    """The same with its sign."""
     return '%s%d.%07d' % (('-' if ticks < 0 else '+',) + divmod(abs(ticks), 10 ** 7))
 
 
 def civil_text(ticks: int, dated: bool) -> str:
+    """A civil time to two places after the second, or -."""
     front = civil(ticks, dated) if ticks >= 0 else None
     return '%s.%02d' % (front, ticks % 10 ** 7 // 10 ** 5) if front else '-'
 
@@ -211,6 +217,7 @@ def fields(survey: Survey) -> Iterator[dict]:
 
 
 def of_row(row: Row, survey: Survey) -> dict:
+    """A channel as JSON has it."""
     has, clock = row.packets > 0, survey.clock
     return {
         'channel': row.channel, 'channel_name': survey.names.channel(row.channel) or None, 'type': name_of(row.kind),
@@ -223,6 +230,7 @@ def of_row(row: Row, survey: Survey) -> dict:
 
 
 def of_clock(times: TimeLine, ends: Sequence[Tuple[int, int]]) -> dict:
+    """The clock of a time channel as JSON has it."""
     drift, dated = times.drift(), times.is_dated()
     return {
         'channel': times.channel, 'packets': times.packets, 'no_time': times.packets - len(times.told),

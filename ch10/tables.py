@@ -19,9 +19,9 @@ from __future__ import annotations
 
 import mmap
 import os
-from typing import Any, Dict, Iterator, List, NamedTuple, Optional, Sequence, Union
+from typing import Dict, Iterator, List, NamedTuple, Optional, Sequence, Union
 
-from .arrays import Array, numpy
+from .arrays import Array, Foreign, numpy
 from .bodies import OWN, read
 from .clocks import Asked
 from .columns import NONE, Numbering, columns_of
@@ -31,7 +31,7 @@ from .kinds import BUS, BY_NAME, WEAPONS, Kind
 from .medium import bytes_of
 from .packets import UNTOLD
 from .replay import Ordered, Part
-from .standard import COUNT_BITS, Wrong
+from .standard import COUNT_BITS, Data, Facts, Value, Wrong
 from .survey import Row, Survey, name_of
 
 DAY = 864000000000  # in units of 100 ns
@@ -59,18 +59,18 @@ class Channel(NamedTuple):
     bytes: int
     losses: int
     lost: int
-    first: Any
-    last: Any
+    first: Value
+    last: Value
 
 
 class Entry(NamedTuple):
     """An entry: its count, its time (a datetime64[ns]), how many messages were lost before it (-1: not known), its channel, and
     the columns of its kind by their names."""
     count: int  # type: ignore[assignment]
-    time: Any
+    time: Value
     lost: int
     channel: int
-    value: Dict[str, Any]
+    value: Facts
 
 
 class Table:
@@ -93,7 +93,7 @@ class Table:
             made[name] = column
         return made
 
-    def frame(self) -> Any:
+    def frame(self) -> Foreign:
         """The columns as a DataFrame of pandas; a Wrong where that is not installed. Words are lists of numbers in it."""
         try:
             from pandas import DataFrame  # type: ignore
@@ -113,8 +113,8 @@ class Table:
 class Recording:
     """One recording of an input."""
 
-    def __init__(self, data: Any, begin: int, end: int, name: str, asked: Asked, goes_on: bool = True) -> None:
-        self.data, self.begin, self.name = data, begin, name
+    def __init__(self, data: Data, begin: int, end: int, name: str, asked: Asked, goes_on: bool = True) -> None:
+        self.data, self.begin, self.end, self.name = data, begin, end, name
         self.survey = Survey(data, begin, end, goes_on, asked=asked)
 
     @property
@@ -206,7 +206,7 @@ class Recording:
                             {name: some[name][at] for name in names})
 
 
-def column_of(kind: int, name: str, form: str, values: Sequence[Any]) -> Array:
+def column_of(kind: int, name: str, form: str, values: Sequence[Value]) -> Array:
     """Values of a column of a kind's table as an array."""
     if (kind, name) in {(one, two) for one, (two, _) in WORDS.items()}:
         return objects([numpy.frombuffer(value, WORDS[kind][1]).astype(WORDS[kind][1].replace('>', '<')) for value in values])
@@ -226,7 +226,7 @@ def moments(ticks: Array) -> Array:
     return numpy.where(has, (numpy.where(has, ticks, 0) * 100).astype('M8[ns]'), numpy.datetime64('NaT', 'ns'))
 
 
-def objects(values: Sequence[Any]) -> Array:
+def objects(values: Sequence[Value]) -> Array:
     """An array of objects, also where these are arrays of one length."""
     made = numpy.empty(len(values), object)
     for place, value in enumerate(values):
@@ -240,7 +240,7 @@ class Opened:
     def __init__(self, path: Union[str, 'os.PathLike[str]'], asked: Asked) -> None:
         with open(path, 'rb') as held:
             size = os.fstat(held.fileno()).st_size
-            self.data: Any = mmap.mmap(held.fileno(), size, access=mmap.ACCESS_READ) if size else b''
+            self.data: Data = mmap.mmap(held.fileno(), size, access=mmap.ACCESS_READ) if size else b''
         if is_recording(self.data):
             self.recordings = [Recording(self.data, 0, len(self.data), os.path.basename(os.fspath(path)), asked)]
         else:
@@ -256,7 +256,7 @@ class Opened:
     def __enter__(self) -> 'Opened':
         return self
 
-    def __exit__(self, *_: Any) -> None:
+    def __exit__(self, *_: object) -> None:
         self.close()
 
 

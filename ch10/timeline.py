@@ -2,10 +2,11 @@
 from __future__ import annotations
 
 from html import escape
-from typing import Any, Dict, List, Sequence, Tuple
+from typing import List, Sequence, Tuple
 
 from .facts import text_of
 from .picture import least_step
+from .standard import Facts
 from .times import ticks_of
 
 WIDTH, LEFT, RIGHT, ROW, TOP = 960, 250, 50, 22, 34
@@ -15,7 +16,7 @@ DAY = 864000000000
 MOST_WORD = 65  # how wide a word beside a bar is
 
 
-def timeline(parts: Sequence[Tuple[str, Dict[str, Any]]]) -> List[str]:
+def timeline(parts: Sequence[Tuple[str, Facts]]) -> List[str]:
     """The picture, and in words which recordings are not in it."""
     made: List[str] = []
     for dated in (True, False):
@@ -29,12 +30,13 @@ def timeline(parts: Sequence[Tuple[str, Dict[str, Any]]]) -> List[str]:
     return made
 
 
-def drawn(some: Sequence[Tuple[str, Dict[str, Any], int, int]], dated: bool) -> List[str]:
+def drawn(some: Sequence[Tuple[str, Facts, int, int]], dated: bool) -> List[str]:
+    """The picture of recordings whose times have a date, or of those without."""
     low, high = min(one[2] for one in some), max(one[3] for one in some)
     span = max(high - low, 1)
     height = TOP + ROW * len(some) + 30
-    said = 'Time line of %d recording%s from %s to %s' % (len(some), '' if len(some) == 1 else 's', text_of(low, dated)[:-5],
-                                                          text_of(high, dated)[:-5])
+    ends = [(text_of(end, dated) or '-')[:-5] for end in (low, high)]
+    said = 'Time line of %d recording%s from %s to %s' % (len(some), '' if len(some) == 1 else 's', ends[0], ends[1])
     made = ['<figure><svg xmlns="http://www.w3.org/2000/svg" role="img" aria-label="%s" width="%d" height="%d" viewBox="0 0 %d %d" '
             'font-family="sans-serif" '
             'font-size="12">' % (escape(said, True), WIDTH, height, WIDTH, height)]

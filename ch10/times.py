@@ -8,6 +8,7 @@ from collections import namedtuple
 from datetime import date
 from typing import List, Optional, Tuple, TYPE_CHECKING
 
+from .arrays import Array, numpy
 from .standard import COUNT_BITS, NONE_LATER, Fault, little, need
 
 if TYPE_CHECKING:
@@ -26,6 +27,7 @@ the year has 366 days, and whether the second is 60, whose units are those of th
 DAY = 24 * 3600 * 10 ** 7
 SECOND = 10 ** 7
 INVALID, FREE, ASSUMED, LOCKED = range(4)
+LAST = (1 << 63) - 1
 
 
 def time(body: bytes, word: int) -> Time:
@@ -131,6 +133,7 @@ def parts_of(said: str) -> Tuple[int, int]:
 
 
 def day_number(day: str) -> int:
+    """The number of a day, from 0001-01-01 on, or within its year. A ValueError where it is none."""
     if not day.replace('-', '').isascii():
         raise ValueError(day)
     if len(day) == 10 and day[4] == day[7] == '-':
@@ -214,12 +217,42 @@ class Range:
         self.is_all = not self.is_by_count and self.spans is None
 
     def has(self, instant: int) -> bool:
+        """Whether an instant lies in the range."""
         if self.is_by_count and not self.low <= instant & COUNT_BITS <= self.high:
             return False
         if self.spans is None:
             return True
         place = bisect_right(self.starts, instant) - 1
         return place >= 0 and instant <= self.spans[place][1]
+
+    def has_each(self, instants: Array) -> Array:
+        """The same of each of some instants."""
+        held = numpy.ones(len(instants), bool)
+        if self.is_by_count:
+            counts = instants & COUNT_BITS
+            held = (counts >= min(self.low, LAST)) & (counts <= min(self.high, LAST))
+        if self.spans is not None:
+            starts, ends = self.ends()
+            places = numpy.searchsorted(starts, instants, 'right') - 1
+            held &= (places >= 0) & (instants <= ends[places])
+        return held
+
+    def touches_each(self, lows: Array, highs: Array) -> Array:
+        """The same as `touches` of each of some pairs of instants."""
+        held = numpy.ones(len(lows), bool)
+        if self.is_by_count:
+            least, most = min(self.low, LAST), min(self.high, LAST)
+            held = (lows >> 48 != highs >> 48) | (highs & COUNT_BITS >= least) & (lows & COUNT_BITS <= most)
+        if self.spans is not None:
+            starts, ends = self.ends()
+            places = numpy.searchsorted(starts, highs, 'right') - 1
+            held &= (places >= 0) & (lows <= ends[places])
+        return held
+
+    def ends(self) -> Tuple[Array, Array]:
+        """Where its stretches of instants begin and end; one that is before all instants, where there is none."""
+        spans = self.spans or [(LAST, -1)]
+        return numpy.array([low for low, _ in spans], numpy.int64), numpy.array([high for _, high in spans], numpy.int64)
 
     def stretch(self, instant: int) -> int:
         """In which stretch of instants one lies that is in it: there are several where a clock was set back."""

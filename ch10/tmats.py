@@ -30,6 +30,7 @@ def attributes(data: bytes) -> 'OrderedDict[str, str]':
 
 
 def printable(text: str) -> str:
+    """A text with a question mark for what does not print, as far as a name goes."""
     return ''.join(letter if letter.isprintable() else '?' for letter in text)[:MOST_NAME]
 
 
@@ -52,6 +53,7 @@ class Names:
                 self.buses.setdefault(printable(value), dict(self.buses_of(link.group(1))))
 
     def buses_of(self, group: str) -> Iterator[Tuple[int, str]]:
+        """Number and name of each bus of a group B."""
         for name, value in self.attributes.items():
             bus = re.match(re.escape(group) + r'\\BID-([0-9]+)$', name)
             if bus:
@@ -65,7 +67,8 @@ class Names:
 
     def bus(self, channel: int, number: Optional[int] = None) -> str:
         """The name of a bus of a channel, or ''. Without a number that of the one bus it has."""
-        buses = self.buses.get(self.channels.get(channel, ('', '', ''))[2] or None, {})
+        link = self.channels.get(channel, ('', '', ''))[2]
+        buses = self.buses.get(link, {}) if link else {}
         if number is None:
             return next(iter(buses.values())) if len(buses) == 1 else ''
         return buses.get(number, '')
@@ -118,4 +121,5 @@ GROUPS = {'G': 'general information', 'T': 'transmission', 'R': 'recorder', 'M':
 
 
 def printable_line(text: str) -> str:
+    """A whole text with a question mark for what does not print."""
     return ''.join(letter if letter.isprintable() else '?' for letter in text)

@@ -1,9 +1,9 @@
 """What the buses of a recording carried: messages of MIL-STD-1553 by terminal and subaddress, words of ARINC 429 by label."""
 from __future__ import annotations
 
-from collections import Counter
+from collections import Counter, defaultdict
 from math import log
-from typing import Dict, Iterator, NamedTuple, Tuple
+from typing import Dict, Iterator, NamedTuple, Optional, Tuple
 
 from .arrays import Array, numpy
 from .bodies import by_kind, in_some, read
@@ -11,18 +11,20 @@ from .buses import ERRORS_1553, command_1553
 from .columns import Block, Numbering
 from .kind_1553 import NO_WORD, Words
 from .kinds import ARINC, BUS
-from .packets import packets
-from .picture import words
+from .picture import some_packets, words
 from .standard import Data
 from .survey import Survey
 
+WORDS = 5  # bits of a command word that say how many words follow
 ERRORS = sum(1 << bit for bit, _ in ERRORS_1553)
 
 
-def blocks(data: Data, begin: int, survey: Survey, kinds: Tuple[int, ...]) -> Iterator[Tuple[int, Block, Array]]:
-    """The entries of these kinds, some at a time: the kind, the entries, and the channel of each."""
+def blocks(data: Data, begin: int, survey: Survey, kinds: Tuple[int, ...],
+           of: Optional[range] = None) -> Iterator[Tuple[int, Block, Array]]:
+    """The entries of these kinds, some at a time: the kind, the entries, and the channel of each. Of all packets, or of some by
+    their numbers."""
     numbering = Numbering()
-    wanted = (packet for packet in packets(data, begin, begin + survey.size, False, survey.passed) if packet.kind in kinds)
+    wanted = (packet for packet in some_packets(data, begin, survey, of) if packet.kind in kinds)
     for some in in_some(wanted):
         for kind, places in by_kind(some).items():
             found, _ = read([some[place] for place in places], numbering)
@@ -47,32 +49,39 @@ class Traffic(NamedTuple):
     labels: Dict[Tuple, Counter]
 
 
-def buses_of(data: Data, begin: int, survey: Survey) -> Traffic:
+def words_of(data: Data, begin: int, survey: Survey, of: Optional[range] = None) -> Tuple[Counter, Counter]:
+    """How often each command is there, as channel, word and errors in one number; and each label, as channel, bus and label. Of all
+    packets, or of some by their numbers."""
     commands: Counter = Counter()
     labelled: Counter = Counter()
-    for kind, block, channel in blocks(data, begin, survey, (BUS, ARINC)):
+    for kind, block, channel in blocks(data, begin, survey, (BUS, ARINC), of):
         if kind == BUS:
             found = Words(block)
-            counted((channel << 17 | found.command) << 16 | found.status & ERRORS, commands)
+            counted((channel << 12 | found.command >> WORDS) << 16 | found.status & ERRORS, commands)
         else:
             counted(channel << 16 | block.numbers(0, 4) >> 24 << 8 | block.numbers(4, 4) & 0xFF, labelled)
-    messages: Dict[Tuple, Counter] = {}
-    errors: Dict[Tuple, Counter] = {}
-    wrong: Dict[Tuple, Counter] = {}
+    return commands, labelled
+
+
+def traffic_of(commands: Counter, labelled: Counter) -> Traffic:
+    """What those words say that the buses carried."""
+    messages: Dict[Tuple, Counter] = defaultdict(Counter)
+    errors: Dict[Tuple, Counter] = defaultdict(Counter)
+    wrong: Dict[Tuple, Counter] = defaultdict(Counter)
     for both, number in commands.items():
-        command, status = both >> 16 & 0x1FFFF, both & 0xFFFF
+        command, status = (both >> 16 & 0xFFF) << WORDS, both & 0xFFFF
         rt, direction, sa, _, _ = command_1553(None if command == NO_WORD else command)
-        key = both >> 33, -1 if rt is None else rt, direction
-        messages.setdefault(key, Counter())[sa] += number
+        key = both >> 28, -1 if rt is None else rt, direction
+        messages[key][sa] += number
         if status:
-            wrong.setdefault(key, Counter())[sa] += number
+            wrong[key][sa] += number
         for bit, name in ERRORS_1553:
             if status >> bit & 1:
-                errors.setdefault(key, Counter())[name] += number
-    labels: Dict[Tuple, Counter] = {}
+                errors[key][name] += number
+    labels: Dict[Tuple, Counter] = defaultdict(Counter)
     for one, number in labelled.items():
-        labels.setdefault((one >> 16, one >> 8 & 0xFF), Counter())[one & 0xFF] += number
-    return Traffic(messages, wrong, errors, labels)
+        labels[one >> 16, one >> 8 & 0xFF][one & 0xFF] += number
+    return Traffic(dict(messages), dict(wrong), dict(errors), dict(labels))
 
 
 # ---- drawn

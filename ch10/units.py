@@ -25,7 +25,7 @@ from __future__ import annotations
 
 import csv
 import re
-from typing import Any, Callable, Dict, Iterator, List, NamedTuple, Optional, Tuple
+from typing import Callable, Dict, Iterator, List, NamedTuple, Optional, Tuple
 
 from .arrays import Array, numpy
 from .columns import Block
@@ -33,7 +33,7 @@ from .kind_1553 import NO_WORD, Words
 from .kind_can import size_of
 from .kind_discrete import up
 from .kinds import ARINC, BUS, CAN, DISCRETE
-from .standard import Wrong
+from .standard import Facts, Wrong
 
 PCM = 0x09
 KINDS = {'1553': BUS, 'arinc': ARINC, 'can': CAN, 'discrete': DISCRETE, 'pcm': PCM}
@@ -114,6 +114,7 @@ def plain(raw: Array, size: int, form: str) -> Array:
 
 
 def bits_in(one: Measurement, number: Array) -> Array:
+    """The bits of a measurement in numbers."""
     found = number >> one.low
     return found if one.size >= 64 else found & (1 << one.size) - 1
 
@@ -127,6 +128,7 @@ def joined(pieces: Tuple[Piece, ...], word: Callable[[int], Array], number: int)
 
 
 def read_1553(one: Measurement, block: Block) -> Tuple[Array, Array]:
+    """Which messages have a measurement, and its bits in each."""
     words = Words(block)
     has = words.has.copy()
     for key, low, mask in (('rt', 11, 31), ('tr', 10, 1), ('sa', 5, 31)):
@@ -153,6 +155,7 @@ def read_1553(one: Measurement, block: Block) -> Tuple[Array, Array]:
 
 
 def read_arinc(one: Measurement, block: Block) -> Tuple[Array, Array]:
+    """The same of words of ARINC 429."""
     head, word = block.numbers(0, 4), block.numbers(4, 4)
     has = numpy.ones(len(block), bool)
     for key, low, mask in (('label', 0, 0xFF), ('sdi', 8, 3)):
@@ -164,6 +167,7 @@ def read_arinc(one: Measurement, block: Block) -> Tuple[Array, Array]:
 
 
 def read_can(one: Measurement, block: Block) -> Tuple[Array, Array]:
+    """The same of CAN frames."""
     mark, size = block.numbers(12, 4), size_of(block)
     is_long = mark >> 31
     has = numpy.where(is_long != 0, mark & 0x1FFFFFFF, mark & 0x7FF) == one.keys['id']
@@ -179,6 +183,7 @@ def read_can(one: Measurement, block: Block) -> Tuple[Array, Array]:
 
 
 def read_discrete(one: Measurement, block: Block) -> Tuple[Array, Array]:
+    """The same of discretes."""
     return bits_in(one, block.numbers(8, 4) >> up(block.words)), numpy.ones(len(block), bool)
 
 
@@ -206,6 +211,7 @@ def measurements(path: str) -> List[Measurement]:
 
 
 def of_csv(text: str, path: str) -> Iterator[Measurement]:
+    """The measurements of a document in CSV. A Wrong where a line is none."""
     rows = csv.reader(text.lstrip('\ufeff').splitlines())
     heads = [head.strip().lower() for head in next(rows, [])]
     others = [head for head in heads if head not in NAMES]
@@ -223,6 +229,7 @@ def of_csv(text: str, path: str) -> Iterator[Measurement]:
 
 
 def whole(cells: Dict[str, str], name: str, most: int, base: int = 10) -> Optional[int]:
+    """The whole number in a cell, up to a most, or None where it is empty. A ValueError where it has none."""
     said = cells.get(name, '')
     if not said:
         return None
@@ -236,6 +243,7 @@ def whole(cells: Dict[str, str], name: str, most: int, base: int = 10) -> Option
 
 
 def span(said: str, name: str) -> Tuple[int, int]:
+    """First and last number of a cell, as 5 or 5-12. A ValueError where it has none."""
     found = re.match(r'([0-9]{1,2})(?:-([0-9]{1,2}))?$', said)
     if not found:
         raise ValueError('%s %r is not as 5 or 5-12' % (name, said[:20]))
@@ -244,6 +252,7 @@ def span(said: str, name: str) -> Tuple[int, int]:
 
 
 def decimal(cells: Dict[str, str], name: str, other: float) -> float:
+    """The number in a cell, or another where it is empty. A ValueError where it has none."""
     try:
         value = float(cells.get(name, '') or other)
     except ValueError:
@@ -254,6 +263,7 @@ def decimal(cells: Dict[str, str], name: str, other: float) -> float:
 
 
 def of_row(cells: Dict[str, str]) -> Measurement:
+    """The measurement of a row. A ValueError where it is none."""
     kind = KINDS.get(cells['kind'].lower())
     if kind is None:
         raise ValueError('the kind %r is none of %s' % (cells['kind'][:20], ', '.join(KINDS)))
@@ -261,7 +271,7 @@ def of_row(cells: Dict[str, str]) -> Measurement:
         raise ValueError('a measurement without a name')
     low, high = span(cells['bits'], 'bits')
     words = span(cells.get('word') or '1', 'word')
-    keys: Dict[str, Any] = {}
+    keys: Facts = {}
     if kind == BUS:
         tr = cells.get('tr', '').upper()
         if tr not in ('', 'T', 'R') or not 1 <= words[0] <= words[1] <= min(32, words[0] + 1):

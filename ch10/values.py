@@ -6,7 +6,7 @@ from heapq import merge
 import json
 import os
 import sqlite3
-from typing import Dict, Iterator, List, NamedTuple, Optional, Tuple
+from typing import Dict, Iterator, List, NamedTuple, Optional, Tuple, Union
 
 from .arrays import numpy
 from .bodies import read
@@ -54,7 +54,7 @@ class Values:
 
     def rows(self) -> Iterator[Row]:
         """The entries and minor frames with measurements, by instant, then channel, then place."""
-        return merge(self.entries(), self.frames(), key=lambda row: row[:3])
+        return iter(merge(self.entries(), self.frames(), key=lambda row: row[:3]))
 
     def entries(self) -> Iterator[Row]:
         """The entries with measurements."""
@@ -79,6 +79,7 @@ class Values:
             yield from held
 
     def has(self, instant: int) -> bool:
+        """Whether an instant is asked for."""
         return self.within.is_all or self.within.has(instant)
 
     def frames(self) -> Iterator[Row]:
@@ -106,6 +107,7 @@ class Values:
                     yield Row(one, packet.channel, (number << 32) + place, values)
 
     def time(self, instant: int) -> Optional[str]:
+        """The civil time of an instant as text, or None."""
         return self.survey.clock.text(instant) if self.survey.clock else None
 
     def judge(self, out: Output) -> None:
@@ -123,7 +125,8 @@ def values(asked: Namespace, data: Data, out: Output) -> None:
         into_database(asked.out, found)
     elif asked.json:
         for row in found.rows():
-            line = {'channel': row.channel, 'count': row.instant & COUNT_BITS, 'time': found.time(row.instant)}
+            line: Dict[str, Union[int, float, str, None]] = {
+                'channel': row.channel, 'count': row.instant & COUNT_BITS, 'time': found.time(row.instant)}
             line.update((found.all[number].name, float(said(value))) for number, value in sorted(row.values.items()))
             out.line(json.dumps(line))
     else:
@@ -190,6 +193,7 @@ def plot(asked: Namespace, data: Data, out: Output) -> None:
 
 
 def panel(found: Values, one: Measurement, points: List[Tuple[int, float]], top: int, ends: Tuple[int, int]) -> List[str]:
+    """A measurement's curve over time, as SVG."""
     low, high = ends
     wide, tall = WIDTH - LEFT - RIGHT, HEIGHT - TOP - BOTTOM
     parts = [words(LEFT, top + 24, title(one), size=15, weight='bold')]

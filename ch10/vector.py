@@ -6,9 +6,9 @@ too many.
 """
 from __future__ import annotations
 
-from typing import Any, Callable, Dict, Iterator, List, Optional, Union, TYPE_CHECKING
+from typing import Callable, Dict, Iterator, List, Optional, Union, TYPE_CHECKING
 
-from .arrays import Array, numpy
+from .arrays import Array, Foreign, numpy
 from .bodies import read
 from .columns import (LONGEST, NONE, ROOM, Bits, Block, Changed, Coded, Each, Hexed, Number, Numbering, Octets, Printed, Ready,
                       wide_view)
@@ -34,10 +34,10 @@ LAST = (1 << 63) - 1
 
 EVERY = slice(None)
 MOST_TOGETHER = 2 * LONGEST  # bytes of a piece that is written together with others
-VOIDS: Dict[int, Any] = {}  # types of so many bytes
+VOIDS: Dict[int, Foreign] = {}  # types of so many bytes
 
 
-def void(wide: int) -> Any:
+def void(wide: int) -> Foreign:
     """The type of so many bytes."""
     found = VOIDS.get(wide)
     if found is None:
@@ -53,10 +53,12 @@ class Sheet:
         self.views: Dict[int, Array] = {}  # items of so many bytes, one from each place on
 
     def need(self, size: int) -> None:
+        """Makes room for so many bytes."""
         if len(self.octets) < size:
             self.octets, self.views = numpy.empty(size + size // 8, numpy.uint8), {}
 
     def put(self, at: Array, wide: int, items: Array) -> None:
+        """Puts items of a width at places."""
         view = self.views.get(wide)
         if view is None:
             view = self.views[wide] = wide_view(self.octets, wide)
@@ -68,7 +70,8 @@ class Piece:
     each."""
 
     def __init__(self, source: Array, starts: Optional[Array], wide: int, lengths: Optional[Array] = None) -> None:
-        self.source, self.starts, self.wide, self.lengths = source, starts, wide, lengths
+        self.source, self.wide, self.lengths = source, wide, lengths
+        self.starts: Array = starts
         self.at: Array = None  # where in a sheet it is to be
         self.room: Optional[Array] = None  # and how much room there is from there on, where that may be less than .wide
 
@@ -88,7 +91,7 @@ class Piece:
         """
         if self.wide > MOST_TOGETHER:
             left = self.write_long(sheet)
-            wide = int(self.lengths[left].max()) if len(left) else 0
+            wide = 0 if self.lengths is None or not len(left) else int(self.lengths[left].max())
             if not wide:
                 return
         elif self.room is None:
@@ -102,7 +105,7 @@ class Piece:
             some, left = left[fits], left[~fits]
             if len(some):
                 sheet.put(self.at[some], wide, self.items(wide, some))
-            wide = int(self.lengths[left].max()) if len(left) else 0
+            wide = 0 if self.lengths is None or not len(left) else int(self.lengths[left].max())
             if not wide:
                 return
 
@@ -116,6 +119,7 @@ class Piece:
         return numpy.flatnonzero(~is_long)
 
     def items(self, wide: int, some: Union[Array, slice]) -> Array:
+        """The bytes of some lines, as items of a width."""
         return wide_view(self.source, wide)[self.starts[some]]
 
 
@@ -148,6 +152,7 @@ class Table:
         self.is_whole = False
 
     def pieces(self, keys: Array) -> Piece:
+        """The pieces of keys."""
         if not self.is_whole:
             top = int(keys.max()) + 1
             if top > len(self.is_known):
@@ -158,6 +163,7 @@ class Table:
         return TableRows(self, keys)
 
     def widen(self, number: int, wide: int) -> None:
+        """Makes the table as long and as wide as that."""
         rows, lengths, is_known = self.rows, self.lengths, self.is_known
         self.rows, self.lengths = numpy.zeros((number, wide), numpy.uint8), numpy.zeros(number, numpy.int64)
         self.is_known = numpy.zeros(number, bool)
@@ -165,6 +171,7 @@ class Table:
         self.lengths[:len(rows)], self.is_known[:len(rows)] = lengths, is_known
 
     def add(self, keys: Array) -> None:
+        """Adds keys that are not in it."""
         texts = list(map(self.make, keys.tolist()))
         lengths = numpy.array(list(map(len, texts)), numpy.int64)
         if lengths.max() > self.rows.shape[1]:
@@ -272,7 +279,7 @@ class Vector:
         for kind, packets in groups.items():
             block = between(in_order(self.block(packets)), part.low, part.high)
             if not self.within.is_all:
-                block = block.keep(numpy.fromiter(map(self.within.has, block.count.tolist()), bool, len(block)))
+                block = block.keep(self.within.has_each(block.count))
             if len(block):
                 blocks[kind] = block
         if not blocks:
@@ -405,7 +412,7 @@ class Vector:
                 known, keys = numpy.arange(low, int(second.max()) + 1), second - low
             else:
                 known, keys = numpy.unique(second, return_inverse=True)
-            texts = [before + civil(each * SECOND, clock.dated).encode() + b'.' for each in known.tolist()]
+            texts = [before + (civil(each * SECOND, clock.dated) or '').encode() + b'.' for each in known.tolist()]
             columns += [numpy.take(numpy.frombuffer(b''.join(texts), numpy.uint8).reshape(len(texts), -1), keys.reshape(-1), 0),
                         self.decimals.right(block.columns['part'], 2)[:, 1:]]
         wide = sum(column.shape[1] for column in columns)
@@ -419,6 +426,7 @@ class Vector:
         return apart + [Piece(padded(rows.reshape(-1), wide), numpy.arange(0, wide * len(rows), wide) + fewer, wide, wide - fewer)]
 
     def table(self, name: tuple, make: Callable[[int], bytes]) -> Table:
+        """The table of this name, made once."""
         found = self.tables.get(name)
         if found is None:
             found = self.tables[name] = Table(make)
@@ -498,6 +506,7 @@ class Vector:
         return said
 
     def numbers(self, kind: int, group: Number, place: int) -> List[Piece]:
+        """The pieces of numbers."""
         low, high = int(group.array.min()), int(group.array.max())
         if self.form.is_truth(kind, place) or low < 0:
             return self.each(kind, Each(group.values()), place)
@@ -513,13 +522,16 @@ class Vector:
         return Piece(padded(rows.reshape(-1), most), numpy.arange(0, most * len(rows), most) + fewer, most, most - fewer)
 
     def hexed(self, kind: int, group: Hexed, place: int) -> List[Piece]:
+        """The pieces of hex digits of one width."""
         return [Fixed(group.rows())]
 
     def octets(self, kind: int, group: Octets, place: int) -> List[Piece]:
+        """The pieces of hex digits of bytes."""
         stretches = [(group.start, group.size)] + ([] if group.then is None else [(group.then, group.rest)])
         return [Piece(group.source, start, int(size.max()), size) for start, size in stretches]
 
     def each(self, kind: int, group: Each, place: int) -> List[Piece]:
+        """The pieces of any values."""
         if group.number == 1:
             texts = [self.form.cell(kind, place, value).encode('utf-8', 'replace') for value in group.values()]
         else:
@@ -527,6 +539,7 @@ class Vector:
         return [texts_piece(texts)]
 
     def ready(self, kind: int, group: Ready, place: int) -> List[Piece]:
+        """The pieces of texts as they are."""
         return [texts_piece([text.encode('utf-8', 'replace') for text in group.values()])]
 
     def printed(self, kind: int, group: Printed, place: int) -> List[Piece]:
@@ -555,12 +568,14 @@ class Vector:
         return [quote(wraps.astype(numpy.int64)), text, quote(wraps.astype(numpy.int64))]
 
     def bits(self, kind: int, group: Bits, place: int) -> List[Piece]:
+        """The pieces of binary digits."""
         pairs = numpy.unpackbits(group.states.astype('>u4').view(numpy.uint8).reshape(-1, 4), axis=1) + 0x30
         most = int(group.bits.max())
         starts = numpy.arange(32, 32 * len(group.states) + 1, 32) - group.bits
         return [Piece(padded(pairs.reshape(-1), 32), starts, most, None if int(group.bits.min()) == most else group.bits)]
 
     def changed(self, kind: int, group: Changed, place: int) -> List[Piece]:
+        """The pieces of what changed."""
         return [self.changes(quarter, group.differ, group.states) for quarter in range(4)
                 if (group.differ >> 8 * quarter & 0xFF).any()]
 

@@ -15,11 +15,12 @@ import signal
 import subprocess
 import sys
 import threading
-from typing import Any, Callable, Dict, Iterable, Iterator, Optional, Tuple
+from typing import Callable, Generator, Iterable, Optional, Tuple, TYPE_CHECKING
 
+from .standard import Facts
 from .store import StoreError
 
-Task = Dict[str, Any]
+Task = Facts
 TOP = os.path.dirname(os.path.dirname(os.path.abspath(__file__)))
 # whatever stands in the folder that the call is made in
 START = 'import sys; sys.path[0] = sys.argv[1]; from ch10.workers import main; main()'
@@ -35,6 +36,11 @@ def processors() -> int:
         return os.cpu_count() or 1
 
 
+if TYPE_CHECKING:
+    Ready = queue.Queue[Tuple[Task, Task]]  # where tasks with their answers are put
+    Waiting = Tuple[Task, Ready]
+
+
 class Room:
     """Bytes of memory that tasks share: one that needs more than there is left waits."""
 
@@ -42,6 +48,7 @@ class Room:
         self.size, self.left, self.turn = size, size, threading.Condition()
 
     def take(self, size: int) -> int:
+        """Takes so many bytes, at most all, when they are free; answers how many."""
         size = min(size, self.size)
         with self.turn:
             self.turn.wait_for(lambda: self.left >= size)
@@ -49,6 +56,7 @@ class Room:
         return size
 
     def give(self, size: int) -> None:
+        """Gives bytes back."""
         with self.turn:
             self.left += size
             self.turn.notify_all()
@@ -63,6 +71,7 @@ class Worker:
         self.process: Optional[subprocess.Popen] = None
 
     def do(self, task: Task) -> Task:
+        """What comes of a task, or that the process ended."""
         if self.process is None:
             kept = signal.pthread_sigmask(signal.SIG_BLOCK, (signal.SIGINT,))
             try:
@@ -72,6 +81,8 @@ class Worker:
                 signal.pthread_sigmask(signal.SIG_SETMASK, kept)
             self.send(self.setting)
         self.send(task)
+        if self.process is None or self.process.stdout is None:
+            return self.ended()
         said = self.process.stdout.readline()
         if not said.endswith(b'\n'):
             return self.ended()
@@ -84,10 +95,14 @@ class Worker:
         return answer
 
     def ended(self) -> Task:
+        """What is said of a process that ended."""
         self.close()
         return {'error': 'the process that read it ended: is there enough memory, or was the file cut off meanwhile?'}
 
     def send(self, task: Task) -> None:
+        """Sends a task, unless the process has ended."""
+        if self.process is None or self.process.stdin is None:
+            return
         try:
             self.process.stdin.write(json.dumps(task).encode() + b'\n')
             self.process.stdin.flush()
@@ -95,13 +110,15 @@ class Worker:
             pass
 
     def close(self) -> None:
+        """Ends the process."""
         process, self.process = self.process, None
         if process is not None:
             process.kill()
             process.wait()
             for stream in (process.stdin, process.stdout):
                 try:
-                    stream.close()
+                    if stream is not None:
+                        stream.close()
                 except BrokenPipeError:
                     pass
 
@@ -115,7 +132,7 @@ class Pool:
         number = min(number, MOST)
         self.number, self.room, self.over, self.most = number, room, threading.Event(), ahead * number
         self.alone = work_of(setting) if number == 1 else None
-        self.waiting: queue.Queue = queue.Queue()
+        self.waiting: queue.Queue[Optional[Waiting]] = queue.Queue()
         self.workers = [Worker(setting) for _ in range(number)]
         self.threads = [threading.Thread(target=self.serve, args=(worker,), daemon=True) for worker in self.workers if number > 1]
         for thread in self.threads:
@@ -124,7 +141,7 @@ class Pool:
     def __enter__(self) -> Pool:
         return self
 
-    def __exit__(self, *why: Any) -> None:
+    def __exit__(self, *why: object) -> None:
         self.over.set()
         getattr(self.alone, 'close', lambda: None)()
         for _ in self.threads:
@@ -136,9 +153,11 @@ class Pool:
 
     def serve(self, worker: Worker) -> None:
         """What a worker's thread does."""
-        for task, ready in iter(self.waiting.get, None):
-            if self.over.is_set():
+        while True:
+            waiting = self.waiting.get()
+            if waiting is None or self.over.is_set():
                 break
+            task, ready = waiting
             held = self.room.take(task.get('bytes', 0)) if self.room else 0
             try:
                 ready.put((task, worker.do(task)))
@@ -148,14 +167,14 @@ class Pool:
                 if self.room:
                     self.room.give(held)
 
-    def done(self, tasks: Iterable[Task]) -> Iterator[Tuple[Task, Task]]:
+    def done(self, tasks: Iterable[Task]) -> Generator[Tuple[Task, Task], None, None]:
         """Each task with what came of it, as they get done. No more tasks are taken than there are worked on and waited for. What
         comes of the tasks of a call that is given up reaches no other one."""
         if self.alone:
             for task in tasks:
                 yield task, needed(self.workers[0].do(task) if task.get('mapped') else answer_of(self.alone, task))
             return
-        ready: queue.Queue = queue.Queue()
+        ready: Ready = queue.Queue()
         under_way = 0
         for task in tasks:
             self.waiting.put((task, ready))
@@ -197,6 +216,7 @@ def work_of(setting: Task) -> Callable[[Task], Task]:
 
 
 def main() -> None:
+    """What a process does: reads the setting, then tasks, and answers each, until its input ends."""
     gc.set_threshold(100000)
     setting = work = None
     for line in sys.stdin.buffer:
