@@ -46,17 +46,17 @@ body_is counter es body is =
     let packet = is.0 in record {
       opens = opens_as counter es packet.some packet.gaps;
       suits = all_suit es;
-      agrees = eq-eqb (length es % 65536 % 65536) (length es) (omega (arith, packet.told));
+      agrees = eq-eqb (length es % 65536 % 65536) (length es) (omega (arith, packet.reported));
       fits = fits_are counter es packet.fields packet.gaps.1;
-      spelled = is.1 ∙ sym (bytes_are counter es packet.told);
+      spelled = is.1 ∙ sym (bytes_are counter es packet.reported);
     }
 
 pub is_body : (counter : ℕ) (es : List ArincEntry) (body : List ℕ) → IsBody arinc_form 0 counter es body → IsArinc counter es body
 is_body counter es body is =
-    let told : length es < 65536 = omega (arith, eqb-true (length es % 65536 % 65536) (length es) is.agrees) in
+    let reported : length es < 65536 = omega (arith, eqb-true (length es % 65536 % 65536) (length es) is.agrees) in
     let fits = are_fits counter es is.fits in
     let first = first_at counter es is.opens fits.1 in
-    (record { some = first.0; told = told; fields = fits.0; gaps = first.1 }, is.spelled ∙ bytes_are counter es told)
+    (record { some = first.0; reported = reported; fields = fits.0; gaps = first.1 }, is.spelled ∙ bytes_are counter es reported)
 
 pub foreign_is : (body : List ℕ) → IsForeign arinc_form body → IsForeignArinc body
 foreign_is body f = (f.0, concat f.1, f.2, omega (arith, fixed_length 8 f.1 f.4, eqb-true (f.0 % 65536) (length f.1) f.3), f.5)
@@ -81,8 +81,8 @@ body-length counter es = omega (arith, entries-length counter es)
 
 -- words of a packet, by their first
 pub packet_from : (counter : ℕ) (es : List ArincEntry) (d : ArincEntry) → 0 < length es → (get_or es 0 d).count ≡ counter → length es < 65536 → FitsAll arinc_form counter es → FitsArincBody counter es
-packet_from counter [] d some first told fits = absurd (omega (arith, some))
-packet_from counter (e ∷ es) d some first told fits = let are = are_fits counter (e ∷ es) fits in record { some = some; told = told; fields = are.0; gaps = ((first, tt), are.1) }
+packet_from counter [] d some first reported fits = absurd (omega (arith, some))
+packet_from counter (e ∷ es) d some first reported fits = let are = are_fits counter (e ∷ es) fits in record { some = some; reported = reported; fields = are.0; gaps = ((first, tt), are.1) }
 
 pub packet_fits : (counter : ℕ) (es : List ArincEntry) → FitsArincBody counter es → FitsAll arinc_form counter es
 packet_fits counter es packet = fits_are counter es packet.fields packet.gaps.1

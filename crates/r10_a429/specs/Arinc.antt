@@ -1,4 +1,5 @@
--- The body of an ARINC 429 packet: the channel specific data word, then for each word an intra-packet data header and the word. There are no stamps: a word's count is the packet's counter plus the gaps so far.
+-- The body of an ARINC 429 packet: the channel specific data word, then for each word an intra-packet data header and the
+-- word. There are no stamps: a word's count is the packet's counter plus the gaps so far.
 use Rattle.std.specs.Prelude.{◌≡◌, ℕ, ◌+◌, ◌-◌, ◌*◌, ◌%◌, ◌^◌, ◌<◌, ◌≤◌, List, [], ◌∷◌, ◌++◌, length, take}
 use Rattle.std.specs.List.{AllByRecursion}
 use Rattle.r10_count.specs.Bytes.{le_bytes, flag_at}
@@ -12,7 +13,8 @@ arinc_at count m = record { count = count; message = m }
 
 -- bus, format error, parity error, high speed, and the gap since the word before
 abbrev pub arinc_header : ℕ → ArincEntry → ℕ
-arinc_header gap e = 2 ^ 24 * e.message.bus + flag_at 23 e.message.format + flag_at 22 e.message.parity + flag_at 21 e.message.high + gap
+arinc_header gap e = 2 ^ 24 * e.message.bus + flag_at 23 e.message.format + flag_at 22 e.message.parity + flag_at 21 e.message.high
+    + gap
 
 abbrev pub arinc_entry : ℕ → ArincEntry → List ℕ
 arinc_entry gap e = le_bytes 4 (arinc_header gap e) ++ le_bytes 4 e.message.word
@@ -52,7 +54,7 @@ HasGaps counter entries = AllByRecursion (λ e. e.count ≡ counter) (take 1 ent
 -- words that a packet of this counter may have: at least one, and as many as its word can tell
 pub record FitsArincBody (counter : ℕ) (entries : List ArincEntry) : Type 0 where
   pub some : 0 < length entries
-  pub told : length entries < 2 ^ 16
+  pub reported : length entries < 2 ^ 16
   pub fields : AllByRecursion FitsArinc entries
   pub gaps : HasGaps counter entries
 
@@ -62,4 +64,5 @@ IsArinc counter entries body = FitsArincBody counter entries × (body ≡ arinc_
 
 -- whoever wrote it: a word, and eight bytes for each of as many words as it tells
 abbrev pub IsForeignArinc : List ℕ → Type 0
-IsForeignArinc body = (word : ℕ) × (rest : List ℕ) × (word < 2 ^ 32) × (length rest ≡ 8 * (word % 2 ^ 16)) × (body ≡ le_bytes 4 word ++ rest)
+IsForeignArinc body = (word : ℕ) × (rest : List ℕ) × (word < 2 ^ 32) × (length rest ≡ 8 * (word % 2 ^ 16))
+    × (body ≡ le_bytes 4 word ++ rest)

@@ -34,7 +34,8 @@ low_fits false false true gap hg = omega arith
 low_fits false false false gap hg = omega arith
 
 -- a flag above low bits is known by their sum
-bit_21 : (b c : Bool) (low other : ℕ) → low < 2 ^ 21 → other < 2 ^ 21 → flag_at 21 b + low ≡ flag_at 21 c + other → (b ≡ c) × (low ≡ other)
+bit_21 : (b c : Bool) (low other : ℕ) → low < 2 ^ 21 → other < 2 ^ 21 → flag_at 21 b + low ≡ flag_at 21 c + other → (b ≡ c)
+    × (low ≡ other)
 bit_21 true true low other hl ho e = (refl, omega arith)
 bit_21 false false low other hl ho e = (refl, omega arith)
 bit_21 true false low other hl ho e = absurd (omega arith)
@@ -48,37 +49,68 @@ low_23 : (p h : Bool) (gap : ℕ) → gap ≤ 1000000 → flag_at 22 p + (flag_a
 low_23 true h gap hg = let l = low_22 h gap hg in omega arith
 low_23 false h gap hg = let l = low_22 h gap hg in omega arith
 
-bit_22 : (b c : Bool) (low other : ℕ) → low < 2 ^ 22 → other < 2 ^ 22 → flag_at 22 b + low ≡ flag_at 22 c + other → (b ≡ c) × (low ≡ other)
+bit_22 : (b c : Bool) (low other : ℕ) → low < 2 ^ 22 → other < 2 ^ 22 → flag_at 22 b + low ≡ flag_at 22 c + other → (b ≡ c)
+    × (low ≡ other)
 bit_22 true true low other hl ho e = (refl, omega arith)
 bit_22 false false low other hl ho e = (refl, omega arith)
 bit_22 true false low other hl ho e = absurd (omega arith)
 bit_22 false true low other hl ho e = absurd (omega arith)
 
-bit_23 : (b c : Bool) (low other : ℕ) → low < 2 ^ 23 → other < 2 ^ 23 → flag_at 23 b + low ≡ flag_at 23 c + other → (b ≡ c) × (low ≡ other)
+bit_23 : (b c : Bool) (low other : ℕ) → low < 2 ^ 23 → other < 2 ^ 23 → flag_at 23 b + low ≡ flag_at 23 c + other → (b ≡ c)
+    × (low ≡ other)
 bit_23 true true low other hl ho e = (refl, omega arith)
 bit_23 false false low other hl ho e = (refl, omega arith)
 bit_23 true false low other hl ho e = absurd (omega arith)
 bit_23 false true low other hl ho e = absurd (omega arith)
 
-same_fields : (e d : ArincEntry) → e.count ≡ d.count → e.message.bus ≡ d.message.bus → e.message.format ≡ d.message.format → e.message.parity ≡ d.message.parity → e.message.high ≡ d.message.high → e.message.word ≡ d.message.word → e ≡ d
+same_fields : (e d : ArincEntry) → e.count ≡ d.count → e.message.bus ≡ d.message.bus → e.message.format ≡ d.message.format
+    → e.message.parity ≡ d.message.parity → e.message.high ≡ d.message.high → e.message.word ≡ d.message.word → e ≡ d
 same_fields e d c b f p h w =
-    let made : ArincEntry = record { count = d.count; message = record { bus = d.message.bus; format = d.message.format; parity = d.message.parity; high = d.message.high; word = d.message.word } } in
-    let is : record { count = e.count; message = record { bus = e.message.bus; format = e.message.format; parity = e.message.parity; high = e.message.high; word = e.message.word } } ≡ made = rw (c, b, f, p, h, w) refl in is
+    let made : ArincEntry =
+    record {
+      count = d.count;
+      message = record {
+        bus = d.message.bus;
+        format = d.message.format;
+        parity = d.message.parity;
+        high = d.message.high;
+        word = d.message.word;
+      };
+    } in
+    let is : record {
+      count = e.count;
+      message = record {
+        bus = e.message.bus;
+        format = e.message.format;
+        parity = e.message.parity;
+        high = e.message.high;
+        word = e.message.word;
+      };
+    } ≡ made = rw (c, b, f, p, h, w) refl in is
 
-pub arinc_one : (before : ℕ) (e d : ArincEntry) → FitsBehind before e → FitsBehind before d → arinc_entry (e.count - before) e ≡ arinc_entry (d.count - before) d → e ≡ d
+pub arinc_one : (before : ℕ) (e d : ArincEntry) → FitsBehind before e → FitsBehind before d
+    → arinc_entry (e.count - before) e ≡ arinc_entry (d.count - before) d → e ≡ d
 arinc_one before e d fe fd same =
     let ge : e.count - before ≤ 1000000 = omega (arith, fe.soon.0, fe.soon.1) in
     let gd : d.count - before ≤ 1000000 = omega (arith, fd.soon.0, fd.soon.1) in
     let le = low_fits e.message.format e.message.parity e.message.high (e.count - before) ge in
     let ld = low_fits d.message.format d.message.parity d.message.high (d.count - before) gd in
-    let words = same_u32 (arinc_header (e.count - before) e) (arinc_header (d.count - before) d) (le_bytes 4 e.message.word) (le_bytes 4 d.message.word)
+    let words = same_u32 (arinc_header (e.count - before) e) (arinc_header (d.count - before) d) (le_bytes 4 e.message.word)
+    (le_bytes 4 d.message.word)
     (omega (arith, fe.fields.bus, le)) (omega (arith, fd.fields.bus, ld)) same in
     let word = same_u32 e.message.word d.message.word [] [] fe.fields.word fd.fields.word words.1 in
     let bus : e.message.bus ≡ d.message.bus = omega (arith, words.0, le, ld) in
-    let low : flag_at 23 e.message.format + (flag_at 22 e.message.parity + (flag_at 21 e.message.high + (e.count - before))) ≡ flag_at 23 d.message.format + (flag_at 22 d.message.parity + (flag_at 21 d.message.high + (d.count - before))) = omega (arith, words.0, bus) in
-    let format = bit_23 e.message.format d.message.format (flag_at 22 e.message.parity + (flag_at 21 e.message.high + (e.count - before))) (flag_at 22 d.message.parity + (flag_at 21 d.message.high + (d.count - before)))
-    (low_23 e.message.parity e.message.high (e.count - before) ge) (low_23 d.message.parity d.message.high (d.count - before) gd) low in
-    let parity = bit_22 e.message.parity d.message.parity (flag_at 21 e.message.high + (e.count - before)) (flag_at 21 d.message.high + (d.count - before)) (low_22 e.message.high (e.count - before) ge) (low_22 d.message.high (d.count - before) gd) format.1 in
+    let low : flag_at 23 e.message.format + (flag_at 22 e.message.parity + (flag_at 21 e.message.high + (e.count - before)))
+    ≡ flag_at 23 d.message.format + (flag_at 22 d.message.parity + (flag_at 21 d.message.high + (d.count - before))) =
+    omega (arith, words.0, bus) in
+    let format = bit_23 e.message.format d.message.format
+    (flag_at 22 e.message.parity + (flag_at 21 e.message.high + (e.count - before)))
+    (flag_at 22 d.message.parity + (flag_at 21 d.message.high + (d.count - before)))
+    (low_23 e.message.parity e.message.high (e.count - before) ge)
+    (low_23 d.message.parity d.message.high (d.count - before) gd) low in
+    let parity = bit_22 e.message.parity d.message.parity (flag_at 21 e.message.high + (e.count - before))
+    (flag_at 21 d.message.high + (d.count - before)) (low_22 e.message.high (e.count - before) ge)
+    (low_22 d.message.high (d.count - before) gd) format.1 in
     let high = bit_21 e.message.high d.message.high (e.count - before) (d.count - before) (omega arith) (omega arith) parity.1 in
     let count : e.count ≡ d.count = omega (arith, high.1, fe.soon.0, fd.soon.0) in
     same_fields e d count bus format.0 parity.0 high.0 word.0
@@ -86,7 +118,7 @@ arinc_one before e d fe fd same =
 abbrev pub arinc_form : Form ArincEntry
 arinc_form = record {
   front = 8;
-  told = λ front. Some 8;
+  reported = λ front. Some 8;
   count = λ e. e.count;
   size = λ e. 8;
   spelled = λ before e. arinc_entry (e.count - before) e;

@@ -6,7 +6,8 @@ use Rattle.r10_a429.specs.Arinc.{FollowsSoon, IsForeignArinc, arinc_body}
 
 -- a word on the high speed bus 1
 abbrev pub a_word : ℕ → ArincEntry
-a_word count = record { count = count; message = record { bus = 1; format = false; parity = false; high = true; word = 0x12345678 } }
+a_word count =
+    record { count = count; message = record { bus = 1; format = false; parity = false; high = true; word = 0x12345678 } }
 
 -- at 5000, 5100 and 5300: gaps of 0, 100 and 200
 pub three_words-body : arinc_body 5000 (a_word 5000 ∷ a_word 5100 ∷ a_word 5300 ∷ [])

@@ -78,12 +78,12 @@ pub tell_losses : (channel : ℕ) (events : List EventValue) (replies : List Rep
 tell_losses channel events replies m account works few =
     let own = own_entries channel m.files in
     let waiting = waiting_of channel m.lanes in
-    let told : all_told (account.gone ++ own ++ waiting) ≡ all_told (accepted_entries channel 0 events replies) = ap all_told (account.each works) in record {
+    let reported : all_told (account.gone ++ own ++ waiting) ≡ all_told (accepted_entries channel 0 events replies) = ap all_told (account.each works) in record {
       gone = account.gone;
       erased = account.erased;
-      told = omega (
+      reported = omega (
         arith,
-        told,
+        reported,
         sum_by-append (λ (e : Entry). told_lost e.gap) (account.gone ++ own) waiting,
         sum_by-append (λ (e : Entry). told_lost e.gap) account.gone own,
         losses_add channel events replies few,

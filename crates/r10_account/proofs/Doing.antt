@@ -315,8 +315,8 @@ does_accounts s channel old Seal replies.Done new known fine does =
 does_accounts s channel old Erase replies.Done new known fine is =
     accounts_at channel old.lanes old.files (Erase, replies.Done) (map (erased_with old.files) old.lanes) new.lanes [] new.files (ap (λ (m : Machine). m.lanes) is) (ap (λ (m : Machine). m.files) is)
     (erase_accounts s channel old.mode old.lanes old.files (Erase, replies.Done) known (apart_is (λ lost. refl) refl refl))
-does_accounts s channel old Files (replies.Files files) new known fine (told, is) = unchanged channel old (Files, replies.Files files) new (apart_is (λ lost. refl) refl refl) is
-does_accounts s channel old Status (replies.Status status) new known fine (told, is) = unchanged channel old (Status, replies.Status status) new (apart_is (λ lost. refl) refl refl) is
+does_accounts s channel old Files (replies.Files files) new known fine (reported, is) = unchanged channel old (Files, replies.Files files) new (apart_is (λ lost. refl) refl refl) is
+does_accounts s channel old Status (replies.Status status) new known fine (reported, is) = unchanged channel old (Status, replies.Status status) new (apart_is (λ lost. refl) refl refl) is
 does_accounts s channel old (Cursor file channels from to) (replies.Cursor id) new known fine (free, sets) =
     quiet channel old (Cursor file channels from to, replies.Cursor id) new (apart_is (λ lost. refl) refl refl) (ap (λ (m : Machine). m.lanes) sets.1) (ap (λ (m : Machine). m.files) sets.1)
 does_accounts s channel old (Advance id) (replies.Advanced n) new known fine does =
@@ -328,6 +328,6 @@ does_accounts s channel old (Next id) (replies.Next given) new known fine does =
     quiet channel old (Next id, replies.Next given) new (apart_is (λ lost. refl) refl refl) (ap (λ (m : Machine). m.lanes) made.1.1) (ap (λ (m : Machine). m.files) made.1.1))
 does_accounts s channel old (Close id) replies.Done new known fine sets =
     quiet channel old (Close id, replies.Done) new (apart_is (λ lost. refl) refl refl) (ap (λ (m : Machine). m.lanes) sets.1) (ap (λ (m : Machine). m.files) sets.1)
-does_accounts s channel old (Find file id count) (replies.Found answer) new known fine (told, is) = unchanged channel old (Find file id count, replies.Found answer) new (apart_is (λ lost. refl) refl refl) is
-does_accounts s channel old (CountAt file parts) (replies.CountAt answer) new known fine (told, is) = unchanged channel old (CountAt file parts, replies.CountAt answer) new (apart_is (λ lost. refl) refl refl) is
+does_accounts s channel old (Find file id count) (replies.Found answer) new known fine (reported, is) = unchanged channel old (Find file id count, replies.Found answer) new (apart_is (λ lost. refl) refl refl) is
+does_accounts s channel old (CountAt file parts) (replies.CountAt answer) new known fine (reported, is) = unchanged channel old (CountAt file parts, replies.CountAt answer) new (apart_is (λ lost. refl) refl refl) is
 does_accounts s channel old event reply new known fine does = absurd does

@@ -21,7 +21,7 @@ use Rattle.r10_machine.specs.EventChecks.{refusal, event_checks, most_files}
 use Rattle.r10_machine.specs.Step.{Does, Step, Run, Replies, Refuses, GivesUp, FailsIn}
 use Rattle.r10_machine.proofs.Grown.{taping}
 use Rattle.r10_machine.proofs.Steady.{records_of, rules_parts}
-use Rattle.r10_account.specs.Found.{AreStillFirst, may_erase}
+use Rattle.r10_account.specs.FilesOfOthers.{AreStillFirst, may_erase}
 use Rattle.r10_account.proofs.Lanes.{heads}
 use Rattle.std.proofs.lemmas.Option.{same_Some}
 use Rattle.r10_machine.proofs.Keeping.{some_then}
@@ -111,8 +111,8 @@ does_still s found old Seal replies.Done new opens fine none does still =
     some_then (AreStillFirst found new.files) (last_or None old.files) _ does (λ f last made.
     stays_same found (change_last (closed_in (last_size new)) old.files) new.files (ap (λ (m : Machine). m.files) made.1) (closes (last_size new) found old.files still))
 does_still s found old Erase replies.Done new opens fine none does still = absurd (true≢false none)
-does_still s found old Files (replies.Files files) new opens fine none (told, is) still = stays_same found old.files new.files (ap (λ (m : Machine). m.files) is) still
-does_still s found old Status (replies.Status status) new opens fine none (told, is) still = stays_same found old.files new.files (ap (λ (m : Machine). m.files) is) still
+does_still s found old Files (replies.Files files) new opens fine none (reported, is) still = stays_same found old.files new.files (ap (λ (m : Machine). m.files) is) still
+does_still s found old Status (replies.Status status) new opens fine none (reported, is) still = stays_same found old.files new.files (ap (λ (m : Machine). m.files) is) still
 does_still s found old (Cursor file channels from to) (replies.Cursor id) new opens fine none (free, sets) still = stays_same found old.files new.files (ap (λ (m : Machine). m.files) sets.1) still
 does_still s found old (Advance id) (replies.Advanced n) new opens fine none does still =
     some_then (AreStillFirst found new.files) (cursor_of id old) _ does (λ c is_c moves.
@@ -120,8 +120,8 @@ does_still s found old (Advance id) (replies.Advanced n) new opens fine none doe
 does_still s found old (Next id) (replies.Next given) new opens fine none does still =
     some_then (AreStillFirst found new.files) (cursor_of id old) _ does (λ c is_c made. stays_same found old.files new.files (ap (λ (m : Machine). m.files) made.1.1) still)
 does_still s found old (Close id) replies.Done new opens fine none sets still = stays_same found old.files new.files (ap (λ (m : Machine). m.files) sets.1) still
-does_still s found old (Find file id count) (replies.Found answer) new opens fine none (told, is) still = stays_same found old.files new.files (ap (λ (m : Machine). m.files) is) still
-does_still s found old (CountAt file parts) (replies.CountAt answer) new opens fine none (told, is) still = stays_same found old.files new.files (ap (λ (m : Machine). m.files) is) still
+does_still s found old (Find file id count) (replies.Found answer) new opens fine none (reported, is) still = stays_same found old.files new.files (ap (λ (m : Machine). m.files) is) still
+does_still s found old (CountAt file parts) (replies.CountAt answer) new opens fine none (reported, is) still = stays_same found old.files new.files (ap (λ (m : Machine). m.files) is) still
 does_still s found old event reply new opens fine none does still = absurd does
 
 -- what erases nothing is no erase, where it is done or the medium fails

@@ -245,7 +245,7 @@ failed_does s channel old (Lose id lost) replies.Done new lane there its failed 
   failed = ap (λ (m : Machine). is_working m.mode) is ∙ failed;
 }
 failed_does s channel old (Lose id lost) reply new lane there its failed fine does = absurd does
-failed_does s channel old Status (replies.Status status) new lane there its failed fine (told, is) =
+failed_does s channel old Status (replies.Status status) new lane there its failed fine (reported, is) =
     stays_failed channel old (Status, replies.Status status) new (record { makes_none = λ lost. refl; accepts_none = refl; loses_none = refl }) failed (ap (λ (m : Machine). m.lanes) is) (ap (λ (m : Machine). m.files) is) (ap (λ (m : Machine). m.mode) is)
 failed_does s channel old Status reply new lane there its failed fine does = absurd does
 failed_does s channel old (Next id) (replies.Next given) new lane there its failed fine does =

@@ -46,8 +46,10 @@ StandsInFront front entries = (rest : List Entry) × (front ++ rest ≡ entries)
 abbrev pub StandsLast : List Entry → List Entry → Type 0
 StandsLast back entries = (front : List Entry) × (front ++ back ≡ entries)
 
--- The entries of a channel's accepted messages, in their order: erases took the first, those after them are in the lists of the files that this recorder began, in the files' order, and the last wait. Each stands once, and no other.
--- Of a recorder that failed the entries that no file shows, and some that waited, may be gone: what erases took, and what the files show, still stand first, and what waits stands last.
+-- The entries of a channel's accepted messages, in their order: erases took the first, those after them are in the lists of
+-- the files that this recorder began, in the files' order, and the last wait. Each stands once, and no other.
+-- Of a recorder that failed the entries that no file shows, and some that waited, may be gone: what erases took, and what the
+-- files show, still stand first, and what waits stands last.
 pub record IsAccount (channel : ℕ) (m : Machine) (entries : List Entry) : Type 0 where
   pub gone : List Entry
   pub each : is_working m.mode ≡ true → gone ++ own_entries channel m.files ++ waiting_of channel m.lanes ≡ entries
@@ -55,8 +57,11 @@ pub record IsAccount (channel : ℕ) (m : Machine) (entries : List Entry) : Type
   pub waits : StandsLast (waiting_of channel m.lanes) entries
   pub erased : erased_of channel m.lanes ≡ saturated (length gone)
 
--- What a channel had, and after it what was accepted since: erases took the first, so many as the lane's number of them rose by, up to 2^64 - 1; those after them are in own files' lists, and the last wait.
+-- What a channel had, and after it what was accepted since: erases took the first, so many as the lane's number of them rose
+-- by, up to 2^64 - 1; those after them are in own files' lists, and the last wait.
 pub record GoesOver (channel : ℕ) (old new : Machine) (accepted : List Entry) : Type 0 where
   pub gone : List Entry
-  pub each : gone ++ own_entries channel new.files ++ waiting_of channel new.lanes ≡ own_entries channel old.files ++ waiting_of channel old.lanes ++ accepted
-  pub erased : erased_of channel old.lanes ≤ 2 ^ 64 - 1 → erased_of channel new.lanes ≡ saturated (erased_of channel old.lanes + length gone)
+  pub each : gone ++ own_entries channel new.files ++ waiting_of channel new.lanes ≡ own_entries channel old.files
+      ++ waiting_of channel old.lanes ++ accepted
+  pub erased : erased_of channel old.lanes ≤ 2 ^ 64 - 1 → erased_of channel new.lanes ≡ saturated
+      (erased_of channel old.lanes + length gone)

@@ -1,5 +1,5 @@
 pub mod Accepted
 pub mod Account
-pub mod Found
+pub mod FilesOfOthers
 pub mod Sums
 pub mod Cases

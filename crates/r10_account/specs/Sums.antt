@@ -28,8 +28,10 @@ all_lost channel exchanges = sum_by (lost_by channel) exchanges
 abbrev pub all_told : List Entry → ℕ
 all_told entries = sum_by (λ e. told_lost e.gap) entries
 
--- The gaps of what erases took, of what the files have that this recorder began, and of what waits, tell all that the channel lost before its last accepted message; the rest was lost since.
+-- The gaps of what erases took, of what the files have that this recorder began, and of what waits, tell all that the channel
+-- lost before its last accepted message; the rest was lost since.
 pub record TellLosses (channel : ℕ) (m : Machine) (exchanges : List Exchange) : Type 0 where
   pub gone : List Entry
   pub erased : erased_of channel m.lanes ≡ saturated (length gone)
-  pub told : all_told gone + all_told (own_entries channel m.files) + all_told (waiting_of channel m.lanes) + lost_since channel 0 exchanges ≡ all_lost channel exchanges
+  pub reported : all_told gone + all_told (own_entries channel m.files) + all_told
+      (waiting_of channel m.lanes) + lost_since channel 0 exchanges ≡ all_lost channel exchanges

@@ -4,7 +4,7 @@ ghost use Rattle.std.specs.Prelude.{◌≡◌, ◌≤◌, ◌+◌, ◌-◌, ◌^
 ghost use Rattle.std.specs.List.{AllByRecursion, list_any};
 ghost use Rattle.r10_account.specs.Accepted.{accepted_entries, lost_since};
 ghost use Rattle.r10_account.specs.Account.{GoesOver, IsAccount, missed_of};
-ghost use Rattle.r10_account.specs.Found.{AreStillFirst, may_erase};
+ghost use Rattle.r10_account.specs.FilesOfOthers.{AreStillFirst, may_erase};
 ghost use Rattle.r10_account.specs.Sums.{TellLosses, all_lost, all_told, was_offered, was_refused};
 ghost use Rattle.r10_body.specs.Channels.{spec_of};
 ghost use Rattle.r10_machine.specs.Checks.{is_working};

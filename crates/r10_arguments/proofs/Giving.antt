@@ -7,7 +7,7 @@ use Rattle.std.proofs.lemmas.Slice.Eq.{bytes_eq-Decides}
 use Rattle.std.specs.List.{All, Contains, flat_map}
 use Rattle.std.specs.Str.{bytes_eq}
 use Rattle.r10_arguments.specs.Options.{BeginsWithOptions, GivesOption, IsLeftOut, OptionWords, as_words}
-use Rattle.r10_arguments.specs.Found.{IsFrontOption, found_words}
+use Rattle.r10_arguments.specs.FoundOptions.{IsFrontOption, found_words}
 use Rattle.r10_arguments.specs.declared.options.FoundOption.{FoundOption}
 
 pub one_of : (texts : List (Bor (List ℕ))) (i : ℕ) (d : Bor (List ℕ)) (text : List ℕ) → i < length texts → bytes_eq (get_or texts i d).now text ≡ true → Contains (map (λ (k : Bor (List ℕ)). k.now) texts) text

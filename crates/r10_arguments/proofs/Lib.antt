@@ -1,3 +1,3 @@
 mod Giving
-mod Told
+mod OptionsByWords
 mod Words

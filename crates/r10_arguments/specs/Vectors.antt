@@ -24,7 +24,8 @@ are_known =
     let P : OptionWords → Type 0 = λ g. Contains play_options g.option in
     All-cons P channel_5 (from_9 ∷ []) (1, lit< tt, refl) (All-cons P from_9 [] (2, lit< tt, refl) (All-nil P))
 
-pub both_options : GivesSelection (codes "r10" ∷ codes "play" ∷ codes "--channel" ∷ decimal 5 ∷ (codes "--from=" ++ decimal 9) ∷ []) (record { file = 0; channel = 5; from = 9; to = 281474976710655 })
+pub both_options : GivesSelection (codes "r10" ∷ codes "play" ∷ codes "--channel" ∷ decimal 5 ∷ (codes "--from=" ++ decimal 9) ∷ [])
+    (record { file = 0; channel = 5; from = 9; to = 281474976710655 })
 both_options = record {
   given = channel_5 ∷ from_9 ∷ [];
   only = record { front = refl; are_known = are_known };
@@ -39,27 +40,37 @@ two_values = refl
 abbrev is_other : List ℕ → List ℕ → Bool
 is_other word option = not (bytes_eq (take (length option) word) option)
 
-not_first : (known : List (List ℕ)) (word option behind : List ℕ) → list_all (is_other word) known ≡ true → Contains known option → word ≡ option ++ behind → ⊥
+not_first : (known : List (List ℕ)) (word option behind : List ℕ) → list_all (is_other word) known ≡ true → Contains known option
+    → word ≡ option ++ behind → ⊥
 not_first known word option behind others (k, lt, is) front =
-    let other : is_other word option ≡ true = subst (λ (o : List ℕ). is_other word o ≡ true) is (AllPass-from_list_all (is_other word) known others k option lt) in
-    let begins : take (length option) word ≡ option = ap (take (length option)) front ∙ take_at option behind (length option) refl in
+    let other : is_other word option ≡ true = subst (λ (o : List ℕ). is_other word o ≡ true) is
+    (AllPass-from_list_all (is_other word) known others k option lt) in
+    let begins : take (length option) word ≡ option = ap (take (length option)) front ∙ take_at option behind (length option) refl
+    in
     false≢true (ap not (sym ((bytes_eq-Decides (take (length option) word) option).1 begins)) ∙ other)
 
-not_so_first : (known words : List (List ℕ)) (word : List ℕ) (b : Bool) (option value : List ℕ) (rest : List (List ℕ)) → list_all (is_other word) known ≡ true → Contains known option
+not_so_first : (known words : List (List ℕ)) (word : List ℕ) (b : Bool) (option value : List ℕ) (rest : List (List ℕ))
+    → list_all (is_other word) known ≡ true → Contains known option
     → word ∷ words ≡ as_words (record { option = option; value = value; is_joined = b }) ++ rest → ⊥
-not_so_first known words word true option value rest others one front = not_first known word option (61 ∷ value) others one (ap (λ (l : List (List ℕ)). slice_index_or l 0 []) front)
+not_so_first known words word true option value rest others one front = not_first known word option (61 ∷ value) others one
+    (ap (λ (l : List (List ℕ)). slice_index_or l 0 []) front)
 not_so_first known words word false option value rest others one front =
     not_first known word option [] others one (ap (λ (l : List (List ℕ)). slice_index_or l 0 []) front ∙ sym (append-nil option))
 
 -- words do not begin with options where none that is known stands at the front of the first
-begins_not : (known words : List (List ℕ)) (word : List ℕ) → list_all (is_other word) known ≡ true → (given : List OptionWords) → BeginsWithOptions known (word ∷ words) given [] → ⊥
+begins_not : (known words : List (List ℕ)) (word : List ℕ) → list_all (is_other word) known ≡ true → (given : List OptionWords)
+    → BeginsWithOptions known (word ∷ words) given [] → ⊥
 begins_not known words word others [] begins = omega (arith, ap length begins.front)
 begins_not known words word others (g ∷ given) begins =
-    let behind : word ∷ words ≡ as_words g ++ (flat_map as_words given ++ []) = begins.front ∙ append_assoc (as_words g) (flat_map as_words given) [] in
-    not_so_first known words word g.is_joined g.option g.value (flat_map as_words given ++ []) others (All-head (λ (k : OptionWords). Contains known k.option) g given begins.are_known) behind
+    let behind : word ∷ words ≡ as_words g ++ (flat_map as_words given ++ []) = begins.front
+    ∙ append_assoc (as_words g) (flat_map as_words given) [] in
+    not_so_first known words word g.is_joined g.option g.value (flat_map as_words given ++ []) others
+    (All-head (λ (k : OptionWords). Contains known k.option) g given begins.are_known) behind
 
-pub misspelled : (given : List OptionWords) → HasOnlyOptions play_options (codes "r10" ∷ codes "play" ∷ codes "--chanel" ∷ codes "5" ∷ []) given → ⊥
+pub misspelled : (given : List OptionWords) → HasOnlyOptions play_options
+    (codes "r10" ∷ codes "play" ∷ codes "--chanel" ∷ codes "5" ∷ []) given → ⊥
 misspelled given = begins_not play_options (codes "5" ∷ []) (codes "--chanel") refl given
 
-pub end_of_options : (given : List OptionWords) → HasOnlyOptions play_options (codes "r10" ∷ codes "play" ∷ codes "--" ∷ []) given → ⊥
+pub end_of_options : (given : List OptionWords) → HasOnlyOptions play_options (codes "r10" ∷ codes "play" ∷ codes "--" ∷ []) given
+    → ⊥
 end_of_options given = begins_not play_options [] (codes "--") refl given

@@ -3,7 +3,7 @@
 ghost use Rattle.std.specs.Prelude.{◌≡◌, ◌↔◌, ◌<◌, length, IsTrue, Ok, IfOk, IfSome, IfNone, codes, map, string_bytes};
 ghost use Rattle.std.specs.Fmt.{decimal};
 ghost use Rattle.std.specs.List.{Contains};
-ghost use Rattle.r10_arguments.specs.Found.{found_words};
+ghost use Rattle.r10_arguments.specs.FoundOptions.{found_words};
 ghost use Rattle.r10_arguments.specs.Options.{GivesOption, GivesOr, HasOnlyOptions};
 ghost use Rattle.r10_arguments.specs.Words.{AsksSim, AsksImage, AsksImageOf, AsksFiles, AsksCheck, AsksRun, AsksRunImage};
 ghost use Rattle.r10_arguments.specs.Words.{AsksSession, AsksOnly, AsksCommand, AsksOther, AsksText, AsksHelpBehind, AsksHelpWord};

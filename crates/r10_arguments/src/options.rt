@@ -4,7 +4,7 @@ ghost use Rattle.std.specs.Prelude.{◌≡◌, ◌<◌, ◌↔◌, ℕ, List, Is
 ghost use Rattle.std.specs.List.{Contains};
 ghost use Rattle.r10_arguments.specs.Options.{BeginsWithOptions, GivesOption, HasOnlyOptions, IsLeftOut, OptionWords};
 ghost use Rattle.r10_arguments.specs.Words.{format_options, play_options};
-ghost use Rattle.r10_arguments.specs.Found.{IsFrontOption, found_words};
+ghost use Rattle.r10_arguments.specs.FoundOptions.{IsFrontOption, found_words};
 
 use std::alloc::{AllocError, Global};
 

@@ -48,7 +48,7 @@ body_is es body is =
 
 pub is_body : (es : List BusEntry) (body : List ℕ) → IsBody bus_form 0 0 es body → IsBus es body
 is_body es body is =
-    let told = eqb-true (length es % 16777216 % 16777216) (length es) is.agrees in
+    let reported = eqb-true (length es % 16777216 % 16777216) (length es) is.agrees in
     let lt : length es < 2 ^ 24 = omega arith in
     (record { some = opens_some es is.opens; counted = lt; fields = are_fits 0 es is.fits }, is.spelled ∙ bytes_are es lt)
 

@@ -1,4 +1,5 @@
--- The body of a MIL-STD-1553 packet: the channel specific data word, then for each message an intra-packet time stamp, the block status word, the gap times word, the length word, and the message's 16-bit words.
+-- The body of a MIL-STD-1553 packet: the channel specific data word, then for each message an intra-packet time stamp, the
+-- block status word, the gap times word, the length word, and the message's 16-bit words.
 use Rattle.std.specs.Prelude.{◌≡◌, ℕ, ◌+◌, ◌*◌, ◌%◌, ◌^◌, ◌<◌, ◌≤◌, ◌==◌, cond, Option, Some, None, List, ◌++◌, length, bit_and}
 use Rattle.std.specs.List.{flat_map, AllByRecursion, concat}
 use Rattle.r10_count.specs.Bytes.{le_bytes, u16_at}
@@ -17,7 +18,8 @@ words_low_first words = flat_map (le_bytes 2) words
 
 -- the length is that of the words in bytes
 abbrev pub bus_entry : BusEntry → List ℕ
-bus_entry e = stamp e.count ++ le_bytes 2 e.message.status ++ le_bytes 2 e.message.gap ++ le_bytes 2 (2 * length e.message.words) ++ words_low_first e.message.words
+bus_entry e = stamp e.count ++ le_bytes 2 e.message.status ++ le_bytes 2 e.message.gap ++ le_bytes 2 (2 * length e.message.words)
+    ++ words_low_first e.message.words
 
 -- the length of an entry in the body
 abbrev pub bus_entry_size : BusEntry → ℕ
@@ -33,7 +35,8 @@ bus_at count m = record { count = count; message = m }
 abbrev pub bus_of : ℕ → ℕ → ℕ → List ℕ → BusEntry
 bus_of count status gap words = bus_at count (record { status = status; gap = gap; words = words })
 
--- the bits of the block status that have a name: bus B (13), message error, RT to RT, format error, response timeout (12 to 9), word count error, sync type error and invalid word (5 to 3)
+-- the bits of the block status that have a name: bus B (13), message error, RT to RT, format error, response timeout (12 to
+-- 9), word count error, sync type error and invalid word (5 to 3)
 abbrev pub named_bits : ℕ
 named_bits = 0x3E38
 

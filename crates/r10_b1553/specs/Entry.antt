@@ -1,5 +1,6 @@
 -- Bus messages as entries of a body.
-use Rattle.std.specs.Prelude.{◌≡◌, ℕ, ◌+◌, ◌*◌, ◌%◌, ◌^◌, ◌<◌, ◌≤◌, ◌==◌, Bool, true, false, cond, Some, None, List, [], ◌∷◌, ◌++◌, length, take, bit_and, refl}
+use Rattle.std.specs.Prelude.{◌≡◌, ℕ, ◌+◌, ◌*◌, ◌%◌, ◌^◌, ◌<◌, ◌≤◌, ◌==◌, Bool, true, false, cond, Some, None, List, [], ◌∷◌, ◌++◌}
+use Rattle.std.specs.Prelude.{length, take, bit_and, refl}
 use Rattle.std.proofs.Common.{arith, lit<, ap, sym, ◌∙◌}
 use Rattle.std.proofs.lemmas.Bool.{eq-eqb}
 use Rattle.std.proofs.lemmas.Nat.{from_le_bytes-to_le_bytes_2, and_le_r}
@@ -7,7 +8,8 @@ use Rattle.std.specs.List.{AllByRecursion}
 use Rattle.r10_count.specs.Bytes.{le_bytes, u16_at}
 use Rattle.r10_count.proofs.Fronts.{same_stamp, same_u16}
 use Rattle.r10_count.specs.Form.{Form, IsEntryBytes}
-use Rattle.r10_b1553.specs.Bus.{bus_entry, bus_of, bus_entry_size, named_bits, words_low_first, bus_told_size, bus_told_bytes, FitsBus}
+use Rattle.r10_b1553.specs.Bus.{bus_entry, bus_of, bus_entry_size, named_bits, words_low_first, bus_told_size, bus_told_bytes}
+use Rattle.r10_b1553.specs.Bus.{FitsBus}
 use Rattle.r10_b1553.specs.declared.entry.BusEntry.{BusEntry}
 
 told_even : (even : Bool) (bytes n : ℕ) → cond even (Some (14 + bytes)) None ≡ Some n → 14 ≤ n
@@ -26,7 +28,8 @@ words-size [] = refl
 words-size (w ∷ words) = omega (arith, words-size words)
 
 -- the words of bytes
-pub words-one : (v w : List ℕ) → AllByRecursion (λ x. x < 2 ^ 16) v → AllByRecursion (λ x. x < 2 ^ 16) w → words_low_first v ≡ words_low_first w → v ≡ w
+pub words-one : (v w : List ℕ) → AllByRecursion (λ x. x < 2 ^ 16) v → AllByRecursion (λ x. x < 2 ^ 16) w
+    → words_low_first v ≡ words_low_first w → v ≡ w
 words-one [] [] hv hw e = refl
 words-one [] (b ∷ w) hv hw e = absurd (omega (arith, ap length e))
 words-one (a ∷ v) [] hv hw e = absurd (omega (arith, ap length e))
@@ -47,7 +50,8 @@ pub bus_entry-told : (e : BusEntry) → FitsBus e → IsEntryBytes 14 bus_told_s
 bus_entry-told e fits =
     let size = bus_entry-size e in
     let few = fits.few in
-    let head : u16_at (take 14 (bus_entry e)) 12 ≡ 2 * length e.message.words = from_le_bytes-to_le_bytes_2 (2 * length e.message.words) (omega arith) in
+    let head : u16_at (take 14 (bus_entry e)) 12 ≡ 2 * length e.message.words =
+    from_le_bytes-to_le_bytes_2 (2 * length e.message.words) (omega arith) in
     (omega (arith, size), even-told (take 14 (bus_entry e)) (length e.message.words) head ∙ ap (λ n. Some n) (sym size))
 
 -- the bits that have a name are among the lower 14
@@ -64,16 +68,21 @@ bus_entry-one e d fe fd same =
     let few_d = fd.few in
     let lengths_e = le_bytes 2 (2 * length e.message.words) ++ words_low_first e.message.words in
     let lengths_d = le_bytes 2 (2 * length d.message.words) ++ words_low_first d.message.words in
-    let counts = same_stamp e.count d.count (le_bytes 2 e.message.status ++ le_bytes 2 e.message.gap ++ lengths_e) (le_bytes 2 d.message.status ++ le_bytes 2 d.message.gap ++ lengths_d) fe.count fd.count same in
-    let statuses = same_u16 e.message.status d.message.status (le_bytes 2 e.message.gap ++ lengths_e) (le_bytes 2 d.message.gap ++ lengths_d) (status-fits e.message.status fe.status) (status-fits d.message.status fd.status) counts.1 in
+    let counts = same_stamp e.count d.count (le_bytes 2 e.message.status ++ le_bytes 2 e.message.gap ++ lengths_e)
+    (le_bytes 2 d.message.status ++ le_bytes 2 d.message.gap ++ lengths_d) fe.count fd.count same in
+    let statuses = same_u16 e.message.status d.message.status (le_bytes 2 e.message.gap ++ lengths_e)
+    (le_bytes 2 d.message.gap ++ lengths_d) (status-fits e.message.status fe.status)
+    (status-fits d.message.status fd.status) counts.1 in
     let gaps = same_u16 e.message.gap d.message.gap lengths_e lengths_d fe.gap fd.gap statuses.1 in
-    let sizes = same_u16 (2 * length e.message.words) (2 * length d.message.words) (words_low_first e.message.words) (words_low_first d.message.words) (omega arith) (omega arith) gaps.1 in
-    same_bus_fields e.count d.count e.message.status d.message.status e.message.gap d.message.gap e.message.words d.message.words counts.0 statuses.0 gaps.0 (words-one e.message.words d.message.words fe.words fd.words sizes.1)
+    let sizes = same_u16 (2 * length e.message.words) (2 * length d.message.words) (words_low_first e.message.words)
+    (words_low_first d.message.words) (omega arith) (omega arith) gaps.1 in
+    same_bus_fields e.count d.count e.message.status d.message.status e.message.gap d.message.gap e.message.words d.message.words
+    counts.0 statuses.0 gaps.0 (words-one e.message.words d.message.words fe.words fd.words sizes.1)
 
 abbrev pub bus_form : Form BusEntry
 bus_form = record {
   front = 14;
-  told = bus_told_size;
+  reported = bus_told_size;
   count = λ e. e.count;
   spelled = λ before e. bus_entry e;
   size = bus_entry_size;

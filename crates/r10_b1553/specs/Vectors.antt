@@ -14,7 +14,8 @@ pub no_words-body : bus_body (bus_of 0 0x3E38 0x0102 [] ∷ [])
 no_words-body = refl
 
 -- bits 13, 12, 11, 10, 9, 5, 4 and 3
-pub bits_kept : bit_and 0x2000 named_bits ∷ bit_and 0x1000 named_bits ∷ bit_and 0x800 named_bits ∷ bit_and 0x400 named_bits ∷ bit_and 0x200 named_bits ∷ bit_and 0x20 named_bits ∷ bit_and 0x10 named_bits ∷ bit_and 8 named_bits ∷ []
+pub bits_kept : bit_and 0x2000 named_bits ∷ bit_and 0x1000 named_bits ∷ bit_and 0x800 named_bits ∷ bit_and 0x400 named_bits
+    ∷ bit_and 0x200 named_bits ∷ bit_and 0x20 named_bits ∷ bit_and 0x10 named_bits ∷ bit_and 8 named_bits ∷ []
     ≡ 0x2000 ∷ 0x1000 ∷ 0x800 ∷ 0x400 ∷ 0x200 ∷ 0x20 ∷ 0x10 ∷ 8 ∷ []
 bits_kept = refl
 

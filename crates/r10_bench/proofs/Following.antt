@@ -5,7 +5,7 @@ use Rattle.r10_body.specs.declared.spec.ChannelSpec.{ChannelSpec}
 use Rattle.r10_builder.specs.Packing.{last_sample_count}
 use Rattle.r10_builder.specs.State.{BuilderState, HasRoomForTwo, IsReadyWith, Pushed}
 use Rattle.r10_builder.specs.declared.closed.Closed.{Closed}
-use Rattle.r10_bench.specs.Behind.{IsBehind}
+use Rattle.r10_bench.specs.BuilderAfterLane.{IsBehind}
 use Rattle.r10_builder.proofs.Lists.{last_more}
 
 -- what comes at this count comes later too, or at once

@@ -2,7 +2,7 @@
 
 ghost use Rattle.std.specs.Prelude.{◌≡◌, ◌≤◌, IfOk, OnOk};
 ghost use Rattle.r10_lane.specs.Lanes.{reached};
-ghost use Rattle.r10_bench.specs.Behind.{IsBehind};
+ghost use Rattle.r10_bench.specs.BuilderAfterLane.{IsBehind};
 
 use crate::copy::copy_all;
 use crate::fault::BenchFault;

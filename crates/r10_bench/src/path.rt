@@ -5,7 +5,7 @@ ghost use Rattle.r10_body.specs.Gaps.{IsSoundGap};
 ghost use Rattle.r10_body.specs.Messages.{channel_refusal};
 ghost use Rattle.r10_body.specs.declared.entry.Sample.{Sample as SampleValue};
 ghost use Rattle.r10_lane.specs.Lanes.{reached};
-ghost use Rattle.r10_bench.specs.Behind.{IsBehind};
+ghost use Rattle.r10_bench.specs.BuilderAfterLane.{IsBehind};
 
 use crate::figures::Packets;
 use r10_body::{Refusal, Sample, Timed};

@@ -73,7 +73,7 @@ one_plain p q x y fp fq a b same =
     with_gap p q one.0 (plain_gap p.gap q.gap one.1 a b fp.gap fq.gap)
 
 -- after the same packets the gap is reported
-one_gap : (told : Option LossBody) (p q : Packet) → IsGapTold told p → IsGapTold told q → flagged p ≡ flagged q → FitsPacket p → FitsPacket q → p.gap ≡ q.gap
+one_gap : (reported : Option LossBody) (p q : Packet) → IsGapTold reported p → IsGapTold reported q → flagged p ≡ flagged q → FitsPacket p → FitsPacket q → p.gap ≡ q.gap
 one_gap None p q a b e fp fq = plain_gap p.gap q.gap e a b fp.gap fq.gap
 one_gap (Some loss) p q a b e fp fq = a.1 ∙ sym b.1
 

@@ -116,13 +116,13 @@ some_messages counter c fits other = absurd (other refl)
 data_covered : (p : Packet) → FitsPacket p → is_setup_packet p ≡ false → is_index p ≡ false → is_report_packet p ≡ false → length (packet_bytes p) + 64 + lost_cost p.gap ≤ sum_by entry_cost (packet_entries p)
 data_covered p fits other plain said = omega (arith, packet_short p, content_covered p.content p.counter p.channel p.gap other plain said fits.content)
 
-owed_is : (told : Option LossBody) (p : Packet) → IsGapTold told p → owed told ≤ lost_cost p.gap
-owed_is None p told = omega arith
-owed_is (Some loss) p told = let is : lost_cost p.gap ≡ 68 = ap lost_cost told.1 in omega (arith, is)
+owed_is : (reported : Option LossBody) (p : Packet) → IsGapTold reported p → owed reported ≤ lost_cost p.gap
+owed_is None p reported = omega arith
+owed_is (Some loss) p reported = let is : lost_cost p.gap ≡ 68 = ap lost_cost reported.1 in omega (arith, is)
 
-owed_none : (told : Option LossBody) (p : Packet) → IsGapTold told p → p.gap ≡ Whole → owed told ≡ 0
-owed_none None p told whole = refl
-owed_none (Some loss) p told whole = absurd (let no : Lost loss.lost ≡ Whole = sym told.1 ∙ whole in cc)
+owed_none : (reported : Option LossBody) (p : Packet) → IsGapTold reported p → p.gap ≡ Whole → owed reported ≡ 0
+owed_none None p reported whole = refl
+owed_none (Some loss) p reported whole = absurd (let no : Lost loss.lost ≡ Whole = sym reported.1 ∙ whole in cc)
 
 -- a packet reports where it is a report
 pub report_at : (p : Packet) (c : Content) → p.content ≡ c → (b : Bool) → (type_of c == 0) ≡ b → (owed (report_of p) ≡ cond b 68 0) × ((type_of c == 0) ≡ true → length (body_of p.counter c) ≡ 20)
@@ -154,9 +154,9 @@ packet_covered before p false false is said may other =
 pub not_setup : (before : List Packet) (p : Packet) → 0 < length before → MayFollow before p → is_setup_packet p ≡ false
 not_setup before p some may = false_from_ne_true (is_setup_packet p) (λ h. let none : length before ≡ 0 = may.start.0.0 h in omega arith)
 
-pub last_with : (told : Option LossBody) (before : List Packet) (p : Packet) → report_from told (before ++ p ∷ []) ≡ report_of p
-last_with told [] p = refl
-last_with told (q ∷ before) p = last_with (report_of q) before p
+pub last_with : (reported : Option LossBody) (before : List Packet) (p : Packet) → report_from reported (before ++ p ∷ []) ≡ report_of p
+last_with reported [] p = refl
+last_with reported (q ∷ before) p = last_with (report_of q) before p
 
 rest_covered : (before ps : List Packet) → 0 < length before → EachFollows before ps
     → length (file_bytes ps) + 64 * count_by is_data ps + owed (last_report before) ≤ sum_by entry_cost (file_entries ps) + index_bytes ps + owed (report_from (last_report before) ps) + 40 * count_by is_report_packet ps

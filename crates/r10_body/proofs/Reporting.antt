@@ -46,8 +46,8 @@ report_long before p may said =
     omega (arith, at.1 said, packet-length p, rest_length p, none_wide p.check (own_whole p before may (inr said)).1)
 
 untold : (o : Option LossBody) (p : Packet) → IsGapTold o p → p.gap ≡ Whole → o ≡ None
-untold None p told whole = refl
-untold (Some loss) p told whole = absurd (let no : Lost loss.lost ≡ Whole = sym told.1 ∙ whole in cc)
+untold None p reported whole = refl
+untold (Some loss) p reported whole = absurd (let no : Lost loss.lost ≡ Whole = sym reported.1 ∙ whole in cc)
 
 -- an index packet or a report follows no report
 pub quiet_before : (before : List Packet) (p : Packet) → MayFollow before p → (is_index p ≡ true) ⊎ (is_report_packet p ≡ true) → last_report before ≡ None

@@ -8,7 +8,7 @@ use Rattle.r10_indexbody.specs.declared.entry.RootEntry.{RootEntry}
 use Rattle.r10_body.proofs.Lenient.{strict-lenient}
 use Rattle.r10_body.proofs.Recording.{setup-first, time-second, uart-third, node-fourth}
 use Rattle.r10_body.specs.Content.{FitsContent, root, uart}
-use Rattle.r10_body.specs.Faults.{IsAtFault, KeepsHeader, KeepsFiller, ReadsPacket, BreaksRule, first_packet, rule, IsAnswered}
+use Rattle.r10_body.specs.Faults.{IsAtFault, KeepsHeader, KeepsFiller, ReadsPacket, BreaksRule, first_packet, rule, IsFollowedByFlagged}
 use Rattle.r10_body.specs.Faults as broken_rules
 use Rattle.r10_body.specs.Foreign.{IsForeignPacket}
 use Rattle.r10_body.specs.Packets.{Packet, packet_bytes, file_bytes}
@@ -45,15 +45,15 @@ least_eight before p bytes header filler reads keeps m (broken_rules.events q he
 least_eight before p bytes header filler reads keeps m (broken_rules.reports q loss here is breaks) = lit≤ tt
 
 fault_8 : (before : List Packet) (p : Packet) → EachFollows [] before → IsForeignPacket (first_packet (packet_bytes p)) → KeepsHeader (packet_bytes p) → KeepsFiller (packet_bytes p) → ReadsPacket (packet_bytes p) p
-    → KeepsBelow before p → ¬ KeepsIndex before p → IfSome (last_report before) (λ loss. IsAnswered loss (packet_bytes p)) → IsAtFault (file_bytes before ++ packet_bytes p) true (length (file_bytes before)) (Rule 8)
-fault_8 before p each foreign header filler reads keeps breaks told = record {
+    → KeepsBelow before p → ¬ KeepsIndex before p → IfSome (last_report before) (λ loss. IsFollowedByFlagged loss (packet_bytes p)) → IsAtFault (file_bytes before ++ packet_bytes p) true (length (file_bytes before)) (Rule 8)
+fault_8 before p each foreign header filler reads keeps breaks reported = record {
   packets = before;
   rest = packet_bytes p;
   bytes_are = refl;
   offset_is = refl;
   strict = each;
   unclosed = λ e. absurd (false≢true (sym e));
-  answered = told;
+  answered = reported;
   wrong = rule foreign (broken_rules.index p reads breaks) (least_eight before p (packet_bytes p) header filler reads keeps);
 }
 

@@ -33,10 +33,12 @@ selects_other type body =
 abbrev pub is_loss_report : ℕ → List ℕ → Bool
 is_loss_report type body = type == type_user && loss_bodies.is_loss_body body
 
--- a packet with a secondary header or with another intra-packet time than the counter's, of another type, or of a form that isn't read
+-- a packet with a secondary header or with another intra-packet time than the counter's, of another type, or of a form that
+-- isn't read
 abbrev pub is_opaque_packet : Header → List ℕ → Bool
 is_opaque_packet h body =
-    bit_of 7 h.flags || bit_of 6 h.flags || not (list_any (λ type. type == h.data_type) known_types || is_loss_report h.data_type body)
+    bit_of 7 h.flags || bit_of 6 h.flags || not (list_any (λ type. type == h.data_type) known_types
+    || is_loss_report h.data_type body)
     || selects_other h.data_type body
 
 -- the body is a word and exactly the entries that its type has

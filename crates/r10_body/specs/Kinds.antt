@@ -44,7 +44,7 @@ pub record ChannelKind (E : Type 0) : Type 1 where
   pub said : E → Timed
 
 -- the bodies of these entries are the bodies of the kind
-pub record IsOfKind {E : Type 0} (form : Form E) (k : ChannelKind E) : Type 0 where
+pub record IsFormOfKind {E : Type 0} (form : Form E) (k : ChannelKind E) : Type 0 where
   pub body : (setting counter : ℕ) (es : List E) (body : List ℕ) → IsBody form setting (k.origin counter) es body
       → IsBodyOf (kind_type k.kind) counter (k.content setting es) body
   pub only : (counter : ℕ) (c : Content) (body : List ℕ) → IsBodyOf (kind_type k.kind) counter c body
@@ -55,8 +55,9 @@ pub record IsOfKind {E : Type 0} (form : Form E) (k : ChannelKind E) : Type 0 wh
 
 -- no entries have this body on a channel of another setting and not on one of this
 abbrev pub IsSettingIn : {E : Type 0} → Form E → ChannelKind E → List ℕ → ℕ → Type 0
-IsSettingIn {E} form k body told =
-    (setting counter : ℕ) (es : List E) → IsBody form setting (k.origin counter) es body → IsBody form told (k.origin counter) es body
+IsSettingIn {E} form k body reported =
+    (setting counter : ℕ) (es : List E) → IsBody form setting (k.origin counter) es body
+    → IsBody form reported (k.origin counter) es body
 
 -- ---- serial lines
 
@@ -69,24 +70,45 @@ uart_kind = record {
 }
 
 uart_foreign : (body : List ℕ) → IsForeignUart body → IsForeignBody (kind_type kinds.Uart) body
-uart_foreign body is = record { setup = λ e. absurd (omega (arith, e)); event = λ e. absurd (omega (arith, e)); index = λ e. absurd (omega (arith, e)); time = λ e. absurd (omega (arith, e)); bus = λ e. absurd (omega (arith, e)); discrete = λ e. absurd (omega (arith, e)); message = λ e. absurd (omega (arith, e)); arinc = λ e. absurd (omega (arith, e)); uart = λ _. is }
+uart_foreign body is = record {
+  setup = λ e. absurd (omega (arith, e));
+  event = λ e. absurd (omega (arith, e));
+  index = λ e. absurd (omega (arith, e));
+  time = λ e. absurd (omega (arith, e));
+  bus = λ e. absurd (omega (arith, e));
+  discrete =
+      λ e. absurd (omega (arith, e));
+  message = λ e. absurd (omega (arith, e));
+  arinc = λ e. absurd (omega (arith, e));
+  uart =
+      λ _. is;
+}
 
 uart_of_any : (body : List ℕ) → IsForeignUart body → IsForeign uart_form body
 uart_of_any body is = (is.0, is.1, is.2, refl, is.3, is.4)
 
 -- the setting isn't looked at
-pub uart_setting : (setting : ℕ) (es : List UartEntry) (body : List ℕ) → IsBody uart_form setting 0 es body → IsBody uart_form 0 0 es body
-uart_setting setting es body is = record { opens = is.opens; suits = is.suits; agrees = is.agrees; fits = is.fits; spelled = is.spelled }
+pub uart_setting : (setting : ℕ) (es : List UartEntry) (body : List ℕ) → IsBody uart_form setting 0 es body
+    → IsBody uart_form 0 0 es body
+uart_setting setting es body is = record {
+  opens = is.opens;
+  suits = is.suits;
+  agrees = is.agrees;
+  fits = is.fits;
+  spelled = is.spelled;
+}
 
-uart_makes : (setting counter : ℕ) (es : List UartEntry) (body : List ℕ) → IsBody uart_form setting 0 es body → IsBodyOf (kind_type kinds.Uart) counter (uart es) body
-uart_makes setting counter es body is = let own = uart_laws.is_body es body (uart_setting setting es body is) in record { type_is = refl; fits = own.0; body_is = own.1 }
+uart_makes : (setting counter : ℕ) (es : List UartEntry) (body : List ℕ) → IsBody uart_form setting 0 es body
+    → IsBodyOf (kind_type kinds.Uart) counter (uart es) body
+uart_makes setting counter es body is = let own = uart_laws.is_body es body (uart_setting setting es body is)
+    in record { type_is = refl; fits = own.0; body_is = own.1 }
 
 uart_only : (counter : ℕ) (c : Content) (body : List ℕ) → IsBodyOf (kind_type kinds.Uart) counter c body
     → (setting : ℕ) × (es : List UartEntry) × IsBody uart_form setting 0 es body × (c ≡ uart es)
 uart_only counter (uart es) body is = (0, es, uart_laws.body_is es body (is.fits, is.body_is), refl)
 uart_only counter c body is = absurd (omega (arith, is.type_is))
 
-pub uart_is_kind : IsOfKind uart_form uart_kind
+pub uart_is_kind : IsFormOfKind uart_form uart_kind
 uart_is_kind = record {
   body = uart_makes;
   only = uart_only;
@@ -106,24 +128,45 @@ bus_kind = record {
 }
 
 bus_foreign : (body : List ℕ) → IsForeignBus body → IsForeignBody (kind_type kinds.Bus1553) body
-bus_foreign body is = record { setup = λ e. absurd (omega (arith, e)); event = λ e. absurd (omega (arith, e)); index = λ e. absurd (omega (arith, e)); time = λ e. absurd (omega (arith, e)); bus = λ _. is; discrete = λ e. absurd (omega (arith, e)); message = λ e. absurd (omega (arith, e)); arinc = λ e. absurd (omega (arith, e)); uart = λ e. absurd (omega (arith, e)) }
+bus_foreign body is = record {
+  setup = λ e. absurd (omega (arith, e));
+  event = λ e. absurd (omega (arith, e));
+  index = λ e. absurd (omega (arith, e));
+  time = λ e. absurd (omega (arith, e));
+  bus = λ _. is;
+  discrete =
+      λ e. absurd (omega (arith, e));
+  message = λ e. absurd (omega (arith, e));
+  arinc = λ e. absurd (omega (arith, e));
+  uart =
+      λ e. absurd (omega (arith, e));
+}
 
 bus_of_any : (body : List ℕ) → IsForeignBus body → IsForeign bus_form body
 bus_of_any body is = (is.0, is.1, is.2, eq-eqb (is.0 % 16777216) (length is.1) is.3, is.4, is.5)
 
 -- the setting isn't looked at
-pub bus_setting : (setting : ℕ) (es : List BusEntry) (body : List ℕ) → IsBody bus_form setting 0 es body → IsBody bus_form 0 0 es body
-bus_setting setting es body is = record { opens = is.opens; suits = is.suits; agrees = is.agrees; fits = is.fits; spelled = is.spelled }
+pub bus_setting : (setting : ℕ) (es : List BusEntry) (body : List ℕ) → IsBody bus_form setting 0 es body
+    → IsBody bus_form 0 0 es body
+bus_setting setting es body is = record {
+  opens = is.opens;
+  suits = is.suits;
+  agrees = is.agrees;
+  fits = is.fits;
+  spelled = is.spelled;
+}
 
-bus_makes : (setting counter : ℕ) (es : List BusEntry) (body : List ℕ) → IsBody bus_form setting 0 es body → IsBodyOf (kind_type kinds.Bus1553) counter (bus es) body
-bus_makes setting counter es body is = let own = bus_laws.is_body es body (bus_setting setting es body is) in record { type_is = refl; fits = own.0; body_is = own.1 }
+bus_makes : (setting counter : ℕ) (es : List BusEntry) (body : List ℕ) → IsBody bus_form setting 0 es body
+    → IsBodyOf (kind_type kinds.Bus1553) counter (bus es) body
+bus_makes setting counter es body is = let own = bus_laws.is_body es body (bus_setting setting es body is)
+    in record { type_is = refl; fits = own.0; body_is = own.1 }
 
 bus_only : (counter : ℕ) (c : Content) (body : List ℕ) → IsBodyOf (kind_type kinds.Bus1553) counter c body
     → (setting : ℕ) × (es : List BusEntry) × IsBody bus_form setting 0 es body × (c ≡ bus es)
 bus_only counter (bus es) body is = (0, es, bus_laws.body_is es body (is.fits, is.body_is), refl)
 bus_only counter c body is = absurd (omega (arith, is.type_is))
 
-pub bus_is_kind : IsOfKind bus_form bus_kind
+pub bus_is_kind : IsFormOfKind bus_form bus_kind
 bus_is_kind = record {
   body = bus_makes;
   only = bus_only;
@@ -144,27 +187,51 @@ arinc_kind = record {
 }
 
 arinc_foreign : (body : List ℕ) → IsForeignArinc body → IsForeignBody (kind_type kinds.Arinc) body
-arinc_foreign body is = record { setup = λ e. absurd (omega (arith, e)); event = λ e. absurd (omega (arith, e)); index = λ e. absurd (omega (arith, e)); time = λ e. absurd (omega (arith, e)); bus = λ e. absurd (omega (arith, e)); discrete = λ e. absurd (omega (arith, e)); message = λ e. absurd (omega (arith, e)); arinc = λ _. is; uart = λ e. absurd (omega (arith, e)) }
+arinc_foreign body is = record {
+  setup = λ e. absurd (omega (arith, e));
+  event = λ e. absurd (omega (arith, e));
+  index = λ e. absurd (omega (arith, e));
+  time = λ e. absurd (omega (arith, e));
+  bus = λ e. absurd (omega (arith, e));
+  discrete =
+      λ e. absurd (omega (arith, e));
+  message = λ e. absurd (omega (arith, e));
+  arinc = λ _. is;
+  uart =
+      λ e. absurd (omega (arith, e));
+}
 
 -- the setting isn't looked at
-pub arinc_setting : (setting counter : ℕ) (es : List ArincEntry) (body : List ℕ) → IsBody arinc_form setting counter es body → IsBody arinc_form 0 counter es body
-arinc_setting setting counter es body is = record { opens = is.opens; suits = is.suits; agrees = is.agrees; fits = is.fits; spelled = is.spelled }
+pub arinc_setting : (setting counter : ℕ) (es : List ArincEntry) (body : List ℕ) → IsBody arinc_form setting counter es body
+    → IsBody arinc_form 0 counter es body
+arinc_setting setting counter es body is = record {
+  opens = is.opens;
+  suits = is.suits;
+  agrees = is.agrees;
+  fits = is.fits;
+  spelled = is.spelled;
+}
 
-arinc_makes : (setting counter : ℕ) (es : List ArincEntry) (body : List ℕ) → IsBody arinc_form setting counter es body → IsBodyOf (kind_type kinds.Arinc) counter (arinc es) body
-arinc_makes setting counter es body is = let own = arinc_laws.is_body counter es body (arinc_setting setting counter es body is) in record { type_is = refl; fits = own.0; body_is = own.1 }
+arinc_makes : (setting counter : ℕ) (es : List ArincEntry) (body : List ℕ) → IsBody arinc_form setting counter es body
+    → IsBodyOf (kind_type kinds.Arinc) counter (arinc es) body
+arinc_makes setting counter es body is = let own = arinc_laws.is_body counter es body (arinc_setting setting counter es body is)
+    in record { type_is = refl; fits = own.0; body_is = own.1 }
 
 arinc_only : (counter : ℕ) (c : Content) (body : List ℕ) → IsBodyOf (kind_type kinds.Arinc) counter c body
     → (setting : ℕ) × (es : List ArincEntry) × IsBody arinc_form setting counter es body × (c ≡ arinc es)
 arinc_only counter (arinc es) body is = (0, es, arinc_laws.body_is counter es body (is.fits, is.body_is), refl)
 arinc_only counter c body is = absurd (omega (arith, is.type_is))
 
-pub arinc_is_kind : IsOfKind arinc_form arinc_kind
+pub arinc_is_kind : IsFormOfKind arinc_form arinc_kind
 arinc_is_kind = record {
   body = arinc_makes;
   only = arinc_only;
   messages = λ setting counter es. refl;
   count = λ e. refl;
-  foreign = λ body. ((λ is. arinc_foreign body (arinc_laws.foreign_is body is)), (λ is. arinc_laws.is_foreign body (is.arinc refl)));
+  foreign = λ body. (
+    (λ is. arinc_foreign body (arinc_laws.foreign_is body is)),
+    (λ is. arinc_laws.is_foreign body (is.arinc refl)),
+  );
 }
 
 -- ---- discretes
@@ -179,28 +246,47 @@ discrete_kind = record {
 }
 
 discrete_foreign : (body : List ℕ) → IsForeignDiscrete body → IsForeignBody (kind_type kinds.Discrete) body
-discrete_foreign body is = record { setup = λ e. absurd (omega (arith, e)); event = λ e. absurd (omega (arith, e)); index = λ e. absurd (omega (arith, e)); time = λ e. absurd (omega (arith, e)); bus = λ e. absurd (omega (arith, e)); discrete = λ _. is; message = λ e. absurd (omega (arith, e)); arinc = λ e. absurd (omega (arith, e)); uart = λ e. absurd (omega (arith, e)) }
+discrete_foreign body is = record {
+  setup = λ e. absurd (omega (arith, e));
+  event = λ e. absurd (omega (arith, e));
+  index = λ e. absurd (omega (arith, e));
+  time = λ e. absurd (omega (arith, e));
+  bus = λ e. absurd (omega (arith, e));
+  discrete =
+      λ _. is;
+  message = λ e. absurd (omega (arith, e));
+  arinc = λ e. absurd (omega (arith, e));
+  uart =
+      λ e. absurd (omega (arith, e));
+}
 
 -- the word tells the setting
-pub discrete_setting : (told setting : ℕ) (es : List DiscreteEntry) (body : List ℕ) → ((bits : ℕ) (rest : List ℕ) → bits < 32 → body ≡ le_bytes 4 (8 * bits) ++ rest → told ≡ bits)
-    → IsBody discrete_form setting 0 es body → IsBody discrete_form told 0 es body
-discrete_setting told setting es body tells is = discrete_laws.told_body told setting es body tells (discrete_laws.is_body setting es body is)
+pub discrete_setting : (reported setting : ℕ) (es : List DiscreteEntry) (body : List ℕ)
+    → ((bits : ℕ) (rest : List ℕ) → bits < 32 → body ≡ le_bytes 4 (8 * bits) ++ rest → reported ≡ bits)
+    → IsBody discrete_form setting 0 es body → IsBody discrete_form reported 0 es body
+discrete_setting reported setting es body tells is = discrete_laws.told_body reported setting es body tells
+    (discrete_laws.is_body setting es body is)
 
-discrete_makes : (setting counter : ℕ) (es : List DiscreteEntry) (body : List ℕ) → IsBody discrete_form setting 0 es body → IsBodyOf (kind_type kinds.Discrete) counter (discrete setting es) body
-discrete_makes setting counter es body is = let own = discrete_laws.is_body setting es body is in record { type_is = refl; fits = own.0; body_is = own.1 }
+discrete_makes : (setting counter : ℕ) (es : List DiscreteEntry) (body : List ℕ) → IsBody discrete_form setting 0 es body
+    → IsBodyOf (kind_type kinds.Discrete) counter (discrete setting es) body
+discrete_makes setting counter es body is = let own = discrete_laws.is_body setting es body is
+    in record { type_is = refl; fits = own.0; body_is = own.1 }
 
 discrete_only : (counter : ℕ) (c : Content) (body : List ℕ) → IsBodyOf (kind_type kinds.Discrete) counter c body
     → (setting : ℕ) × (es : List DiscreteEntry) × IsBody discrete_form setting 0 es body × (c ≡ discrete setting es)
 discrete_only counter (discrete bits es) body is = (bits, es, discrete_laws.body_is bits es body (is.fits, is.body_is), refl)
 discrete_only counter c body is = absurd (omega (arith, is.type_is))
 
-pub discrete_is_kind : IsOfKind discrete_form discrete_kind
+pub discrete_is_kind : IsFormOfKind discrete_form discrete_kind
 discrete_is_kind = record {
   body = discrete_makes;
   only = discrete_only;
   messages = λ setting counter es. refl;
   count = λ e. refl;
-  foreign = λ body. ((λ is. discrete_foreign body (discrete_laws.foreign_is body is)), (λ is. discrete_laws.is_foreign body (is.discrete refl)));
+  foreign = λ body. (
+    (λ is. discrete_foreign body (discrete_laws.foreign_is body is)),
+    (λ is. discrete_laws.is_foreign body (is.discrete refl)),
+  );
 }
 
 -- ---- messages of other sources
@@ -214,24 +300,45 @@ message_kind = record {
 }
 
 message_foreign : (body : List ℕ) → IsForeignMessage body → IsForeignBody (kind_type kinds.Message) body
-message_foreign body is = record { setup = λ e. absurd (omega (arith, e)); event = λ e. absurd (omega (arith, e)); index = λ e. absurd (omega (arith, e)); time = λ e. absurd (omega (arith, e)); bus = λ e. absurd (omega (arith, e)); discrete = λ e. absurd (omega (arith, e)); message = λ _. is; arinc = λ e. absurd (omega (arith, e)); uart = λ e. absurd (omega (arith, e)) }
+message_foreign body is = record {
+  setup = λ e. absurd (omega (arith, e));
+  event = λ e. absurd (omega (arith, e));
+  index = λ e. absurd (omega (arith, e));
+  time = λ e. absurd (omega (arith, e));
+  bus = λ e. absurd (omega (arith, e));
+  discrete =
+      λ e. absurd (omega (arith, e));
+  message = λ _. is;
+  arinc = λ e. absurd (omega (arith, e));
+  uart =
+      λ e. absurd (omega (arith, e));
+}
 
 message_of_any : (body : List ℕ) → IsForeignMessage body → IsForeign message_form body
 message_of_any body is = (is.0, is.1, is.2, eq-eqb (is.0 % 65536) (length is.1) is.3, is.4, is.5)
 
 -- the setting isn't looked at
-pub message_setting : (setting : ℕ) (es : List MessageEntry) (body : List ℕ) → IsBody message_form setting 0 es body → IsBody message_form 0 0 es body
-message_setting setting es body is = record { opens = is.opens; suits = is.suits; agrees = is.agrees; fits = is.fits; spelled = is.spelled }
+pub message_setting : (setting : ℕ) (es : List MessageEntry) (body : List ℕ) → IsBody message_form setting 0 es body
+    → IsBody message_form 0 0 es body
+message_setting setting es body is = record {
+  opens = is.opens;
+  suits = is.suits;
+  agrees = is.agrees;
+  fits = is.fits;
+  spelled = is.spelled;
+}
 
-message_makes : (setting counter : ℕ) (es : List MessageEntry) (body : List ℕ) → IsBody message_form setting 0 es body → IsBodyOf (kind_type kinds.Message) counter (message es) body
-message_makes setting counter es body is = let own = message_laws.is_body es body (message_setting setting es body is) in record { type_is = refl; fits = own.0; body_is = own.1 }
+message_makes : (setting counter : ℕ) (es : List MessageEntry) (body : List ℕ) → IsBody message_form setting 0 es body
+    → IsBodyOf (kind_type kinds.Message) counter (message es) body
+message_makes setting counter es body is = let own = message_laws.is_body es body (message_setting setting es body is)
+    in record { type_is = refl; fits = own.0; body_is = own.1 }
 
 message_only : (counter : ℕ) (c : Content) (body : List ℕ) → IsBodyOf (kind_type kinds.Message) counter c body
     → (setting : ℕ) × (es : List MessageEntry) × IsBody message_form setting 0 es body × (c ≡ message es)
 message_only counter (message es) body is = (0, es, message_laws.body_is es body (is.fits, is.body_is), refl)
 message_only counter c body is = absurd (omega (arith, is.type_is))
 
-pub message_is_kind : IsOfKind message_form message_kind
+pub message_is_kind : IsFormOfKind message_form message_kind
 message_is_kind = record {
   body = message_makes;
   only = message_only;

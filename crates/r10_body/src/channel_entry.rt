@@ -1,7 +1,7 @@
 //! The entries of the packets of channels: what belongs to one kind of channel alone.
 
 ghost use Rattle.std.specs.Prelude.{◌≡◌};
-ghost use Rattle.r10_body.specs.Kinds.{ChannelKind, IsOfKind, IsSettingIn};
+ghost use Rattle.r10_body.specs.Kinds.{ChannelKind, IsFormOfKind, IsSettingIn};
 
 use crate::entry::Timed;
 use crate::message::Message;
@@ -30,7 +30,7 @@ pub trait ChannelEntry: BodyEntry {
         ensures { result ≡ channel.said self };
 
     /// The bodies of such entries are the bodies of the kind.
-    ghost is_kind: { IsOfKind Self.BodyEntry.form channel };
+    ghost is_kind: { IsFormOfKind Self.BodyEntry.form channel };
 }
 
 impl ChannelEntry for UartEntry {

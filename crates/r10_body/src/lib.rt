@@ -22,6 +22,7 @@ mod refusal;
 mod same;
 mod spec;
 mod spelling;
+pub mod status;
 mod text;
 
 pub use channel_entry::ChannelEntry;

@@ -32,7 +32,7 @@ use Rattle.r10_body.proofs.Rules.{entries_more, follows_fit, follows_more}
 use Rattle.r10_body.proofs.Sentences.{rest_length}
 use Rattle.r10_builder.specs.Packing.{IsClosedPacket, entry_on, first_count}
 use Rattle.r10_builder.specs.declared.closed.Closed.{Closed}
-use Rattle.r10_builder.specs.Next.{ChannelGoesOn, HasType, IsGrowing, event_packet, grown_by, report_packet, reporting, setup_packet, time_packet}
+use Rattle.r10_builder.specs.Next.{ChannelGoesOn, HasType, IsGrowing, event_packet, extended_by, report_packet, reporting, setup_packet, time_packet}
 use Rattle.r10_builder.proofs.Rising.{rise_join}
 
 -- ---- what a channel of messages carries
@@ -145,7 +145,7 @@ record IsFront (packets : List Packet) (p : Packet) (type : ℕ) (before : List 
   pub unindexed : count_by is_index before ≡ 0
   pub type_is : HasType p.channel type before
   pub entries : file_entries before ≡ file_entries packets
-  pub told : IsGapTold (last_report before) p
+  pub reported : IsGapTold (last_report before) p
 
 plain_front : (packets : List Packet) (p : Packet) (type : ℕ) → told_lost p.gap ≡ 0 → IsGrowing packets → HasType p.channel type packets → IsFront packets p type packets
 plain_front packets p type untold growing has = record {
@@ -154,7 +154,7 @@ plain_front packets p type untold growing has = record {
   unindexed = growing.unindexed;
   type_is = has;
   entries = refl;
-  told = rw growing.quiet untold;
+  reported = rw growing.quiet untold;
 }
 
 reported_front : (packets : List Packet) (p : Packet) (type n : ℕ) → p.gap ≡ Lost n → 0 < n → n < 2 ^ 64 → IsGrowing packets → 0 < p.channel → p.channel < 2 ^ 16 → HasType p.channel type packets
@@ -167,7 +167,7 @@ reported_front packets p type n lost some few growing above small has =
       unindexed = omega (arith, growing.unindexed, counted is_index packets r, counted_no is_index r refl);
       type_is = all_more (λ (q : Packet). q.channel ≡ p.channel → type_of q.content ≡ type) packets r has (λ e. absurd (omega (arith, above, e)));
       entries = entries_more packets r ∙ append-nil (file_entries packets);
-      told = subst (λ o. IsGapTold o p) (sym (last_with None packets r)) (refl, lost);
+      reported = subst (λ o. IsGapTold o p) (sym (last_with None packets r)) (refl, lost);
     }
 
 abbrev reporting_with : List Packet → Packet → Gap → List Packet
@@ -185,8 +185,8 @@ front_at packets p type sound growing above small has = front_with packets p typ
 
 -- what is reported doesn't depend on the number
 told_numbered : (o : Option _) (before : List Packet) (p : Packet) → IsGapTold o p → IsGapTold o (numbered before p)
-told_numbered None before p told = told
-told_numbered (Some loss) before p told = told
+told_numbered None before p reported = reported
+told_numbered (Some loss) before p reported = reported
 
 behind_front : (packets before : List Packet) (spec : ChannelSpec) (samples : List Sample) (closed : Closed) (closes : IsClosedPacket spec samples closed) → IsFront packets closes.packet (kind_type spec.kind) before
     → 0 < spec.id → last_count 0 (on_channel spec.id (file_entries packets)) ≤ first_count samples → MayFollow before (numbered before closes.packet)
@@ -217,7 +217,7 @@ behind_front packets before spec samples closed closes front above_zero behind =
       index = keeps_index before (numbered before p) p.content refl (omega (arith, above)) front.unindexed;
       counters = (λ o. absurd (omega arith), λ h. absurd (not_own (type_of p.content) above h));
       events = keeps_events before (numbered before p) p.content refl (omega (arith, above));
-      reports = (told_numbered (last_report before) before p front.told, rw (no_report p (ne_eqb (type_of p.content) 0 (λ e. omega (arith, above, e)))) tt);
+      reports = (told_numbered (last_report before) before p front.reported, rw (no_report p (ne_eqb (type_of p.content) 0 (λ e. omega (arith, above, e)))) tt);
     }
 
 front_of : (packets : List Packet) (spec : ChannelSpec) (samples : List Sample) (closed : Closed) (closes : IsClosedPacket spec samples closed)
@@ -235,7 +235,7 @@ handed_out_follows packets spec samples closed closes growing goes =
 
 -- and packets grow with both
 pub grown : (packets : List Packet) (spec : ChannelSpec) (samples : List Sample) (closed : Closed) (closes : IsClosedPacket spec samples closed)
-    → IsGrowing packets → ChannelGoesOn packets spec.id (kind_type spec.kind) (first_count samples) → IsGrowing (grown_by packets closes.packet)
+    → IsGrowing packets → ChannelGoesOn packets spec.id (kind_type spec.kind) (first_count samples) → IsGrowing (extended_by packets closes.packet)
 grown packets spec samples closed closes growing goes =
     let before : List Packet = reporting packets closes.packet in
     let p : Packet = numbered before closes.packet in

@@ -16,7 +16,7 @@ use Rattle.r10_body.proofs.ChannelLists.{channel_more, packet_off_channel}
 use Rattle.r10_body.proofs.Sums.{same_sum}
 use Rattle.r10_builder.specs.Packing.{entry_on}
 use Rattle.r10_builder.specs.State.{BuilderState}
-use Rattle.r10_builder.specs.Grows.{BuildersAreApart, Grows, HasNone, all_held, held, is_open_builder, taken_in}
+use Rattle.r10_builder.specs.Grows.{BuildersAreApart, Grows, HasNoneOf, all_held, held, is_open_builder, taken_in}
 use Rattle.r10_builder.proofs.Places.{not_first}
 
 -- ---- samples of a channel
@@ -38,7 +38,7 @@ two_of f (x ∷ xs) ys = ap (λ t. f x ∷ t) (two_of f xs ys)
 pub split : (channel : ℕ) (b : BuilderState) (builders : List BuilderState) → on_channel channel (all_held (b ∷ builders)) ≡ on_channel channel (held b) ++ on_channel channel (all_held builders)
 split channel b builders = filter-append (is_entry_on channel) (held b) (all_held builders)
 
-pub none_held : (builders : List BuilderState) (channel : ℕ) → HasNone channel builders → on_channel channel (all_held builders) ≡ []
+pub none_held : (builders : List BuilderState) (channel : ℕ) → HasNoneOf channel builders → on_channel channel (all_held builders) ≡ []
 none_held [] channel none = refl
 none_held (b ∷ builders) channel none =
     split channel b builders
@@ -153,7 +153,7 @@ closes packets builders i d new more p written lt apart same samples says = λ c
 
 -- ---- a packet of another channel
 
-between_at : (packets : List Packet) (builders : List BuilderState) (p : Packet) (channel : ℕ) (b : Bool) → p.channel == channel ≡ b → HasNone p.channel builders
+between_at : (packets : List Packet) (builders : List BuilderState) (p : Packet) (channel : ℕ) (b : Bool) → p.channel == channel ≡ b → HasNoneOf p.channel builders
     → on_channel channel (taken_in (packets ++ p ∷ []) builders) ≡ on_channel channel (taken_in packets builders) ++ on_channel channel (packet_entries p)
 between_at packets builders p channel true on none =
     let is : p.channel ≡ channel = eqb-true p.channel channel on in
@@ -173,7 +173,7 @@ between_at packets builders p channel false off none =
     ∙ sym (append-nil (on_channel channel (taken_in packets builders)))
     ∙ ap (λ (es : List Entry). on_channel channel (taken_in packets builders) ++ es) (sym gone)
 
-pub between : (packets : List Packet) (builders : List BuilderState) (p : Packet) → HasNone p.channel builders → Grows packets builders (packet_entries p) (packets ++ p ∷ []) builders
+pub between : (packets : List Packet) (builders : List BuilderState) (p : Packet) → HasNoneOf p.channel builders → Grows packets builders (packet_entries p) (packets ++ p ∷ []) builders
 between packets builders p none = λ channel. between_at packets builders p channel (p.channel == channel) refl none
 
 -- ---- one after the other

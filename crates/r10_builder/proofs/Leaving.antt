@@ -11,7 +11,7 @@ use Rattle.r10_body.specs.declared.entry.Entry.{Entry}
 use Rattle.r10_body.specs.declared.entry.Sample.{Sample}
 use Rattle.r10_body.specs.declared.spec.ChannelSpec.{ChannelSpec}
 use Rattle.r10_builder.specs.Grows.{BuildersAreApart, is_open_builder}
-use Rattle.r10_builder.specs.LeftOpen.{ChangesFirst, LeavesOpen, LeavesOpenUpTo, TakesOne, closing, filled, next_open, open_in, sample_of, still_open, with_taken}
+use Rattle.r10_builder.specs.LeftOpen.{ChangesFirst, LeavesOpen, LeavesOpenUpTo, TakesIntoBuilder, closing, filled_up, next_open, open_in, sample_of_entry, still_open, with_taken}
 use Rattle.r10_builder.specs.Packing.{entry_on, reason}
 use Rattle.r10_builder.specs.Settings.{AreChannelSettings, is_of, is_old, specs_of}
 use Rattle.r10_builder.specs.State.{BuilderState, HandsOut, Pushed}
@@ -99,10 +99,10 @@ on_none : (channel id : ℕ) (s : Sample) → (id ≡ channel → ⊥) → on_ch
 on_none channel id s apart = rw (ne_eqb channel id (λ same. apart (sym same))) refl
 
 taken_own : (b : BuilderState) (channel : ℕ) (s : Sample) → b.spec.id ≡ channel → with_taken (entry_on channel s ∷ []) b ≡ next_open (reason b.spec b.samples s) b.samples s
-taken_own b channel s same = ap (λ (es : List Entry). filled b.spec b.samples (map sample_of es)) (on_own channel b.spec.id s same)
+taken_own b channel s same = ap (λ (es : List Entry). filled_up b.spec b.samples (map sample_of_entry es)) (on_own channel b.spec.id s same)
 
 taken_other : (b : BuilderState) (channel : ℕ) (s : Sample) → (b.spec.id ≡ channel → ⊥) → with_taken (entry_on channel s ∷ []) b ≡ b.samples
-taken_other b channel s apart = ap (λ (es : List Entry). filled b.spec b.samples (map sample_of es)) (on_none channel b.spec.id s apart)
+taken_other b channel s apart = ap (λ (es : List Entry). filled_up b.spec b.samples (map sample_of_entry es)) (on_none channel b.spec.id s apart)
 
 others_stay : (builders : List BuilderState) (channel id : ℕ) (s : Sample) → id ≡ channel → AllByRecursion (λ (c : BuilderState). c.spec.id ≡ id → ⊥) builders → open_in builders ≡ map (with_taken (entry_on channel s ∷ [])) builders
 others_stay [] channel id s same apart = refl
@@ -116,7 +116,7 @@ one_left (b ∷ builders) (suc i) d new channel s lt apart on is =
     both (sym (taken_other b channel s (λ same. not_first b d builders i (omega arith) apart.0 (on ∙ sym same)))) (one_left builders i d new channel s (omega arith) apart.1 on is)
 
 pub taken_there : (builders : List BuilderState) (channel i : ℕ) (old new : BuilderState) (s : Sample) (closed : Option Closed) → position (is_of channel) builders ≡ Some i → old ≡ get_or builders i old → AreChannelSettings 0 (specs_of builders)
-    → new.spec ≡ old.spec → Pushed old s closed new → TakesOne channel s closed builders (set builders i new)
+    → new.spec ≡ old.spec → Pushed old s closed new → TakesIntoBuilder channel s closed builders (set builders i new)
 taken_there builders channel i old new s closed place here are same pushed =
     let at = place_found (is_of channel) builders i old place in
     record {
@@ -127,13 +127,13 @@ taken_there builders channel i old new s closed place here are same pushed =
 
 pub takes_one : {E : Type 0} (builders : List BuilderState) (channel i : ℕ) (old new : BuilderState) (s : Sample) (result : Result (Option Closed) E) → position (is_of channel) builders ≡ Some i → old ≡ get_or builders i old → AreChannelSettings 0 (specs_of builders)
     → new.spec ≡ old.spec → MatchResult result (λ closed. Pushed old s closed new) (λ _. new.samples ≡ old.samples)
-    → MatchResult result (λ closed. TakesOne channel s closed builders (set builders i new)) (λ _. LeavesOpen still_open builders (set builders i new))
+    → MatchResult result (λ closed. TakesIntoBuilder channel s closed builders (set builders i new)) (λ _. LeavesOpen still_open builders (set builders i new))
 takes_one builders channel i old new s (Ok closed) place here are same pushed = taken_there builders channel i old new s closed place here are same pushed
 takes_one builders channel i old new s (Err e) place here are same pushed = still_there builders i old new here pushed
 
 pub joins_one : {E : Type 0} (builders : List BuilderState) (channel i : ℕ) (old new : BuilderState) (s : Sample) (result : Result Bool E) → position (is_of channel) builders ≡ Some i → old ≡ get_or builders i old → AreChannelSettings 0 (specs_of builders)
     → new.spec ≡ old.spec → IfOk result (λ joined. IsTrue joined → Pushed old s None new) → OnErr result (new.samples ≡ old.samples)
-    → MatchResult result (λ joined. IsTrue joined → TakesOne channel s None builders (set builders i new)) (λ _. LeavesOpen still_open builders (set builders i new))
+    → MatchResult result (λ joined. IsTrue joined → TakesIntoBuilder channel s None builders (set builders i new)) (λ _. LeavesOpen still_open builders (set builders i new))
 joins_one builders channel i old new s (Ok joined) place here are same pushed kept = λ yes. taken_there builders channel i old new s None place here are same (pushed yes)
 joins_one builders channel i old new s (Err e) place here are same pushed kept = still_there builders i old new here kept
 
@@ -244,19 +244,19 @@ closing_same test tells b c spec same = ap (λ (t : Bool). cond t [] b.samples) 
 pub then_closing : (test : BuilderState → Bool) → TellsOpen test → (xs ys zs : List BuilderState) → specs_of ys ≡ specs_of xs → LeavesOpen still_open xs ys → LeavesOpen (closing test) ys zs → LeavesOpen (closing test) xs zs
 then_closing test tells xs ys zs specs opens closes = closes ∙ same_left (closing test) (closing_same test tells) xs ys specs opens
 
-filled_more : (spec : ChannelSpec) (samples xs ys : List Sample) → filled spec (filled spec samples xs) ys ≡ filled spec samples (xs ++ ys)
+filled_more : (spec : ChannelSpec) (samples xs ys : List Sample) → filled_up spec (filled_up spec samples xs) ys ≡ filled_up spec samples (xs ++ ys)
 filled_more spec samples [] ys = refl
 filled_more spec samples (s ∷ xs) ys = filled_more spec (next_open (reason spec samples s) samples s) xs ys
 
-samples_of_both : (id : ℕ) (xs ys : List Entry) → map sample_of (on_channel id xs) ++ map sample_of (on_channel id ys) ≡ map sample_of (on_channel id (xs ++ ys))
-samples_of_both id xs ys = sym (ap (λ (es : List Entry). map sample_of es) (filter-append (is_entry_on id) xs ys) ∙ map-append sample_of (on_channel id xs) (on_channel id ys))
+samples_of_both : (id : ℕ) (xs ys : List Entry) → map sample_of_entry (on_channel id xs) ++ map sample_of_entry (on_channel id ys) ≡ map sample_of_entry (on_channel id (xs ++ ys))
+samples_of_both id xs ys = sym (ap (λ (es : List Entry). map sample_of_entry es) (filter-append (is_entry_on id) xs ys) ∙ map-append sample_of_entry (on_channel id xs) (on_channel id ys))
 
 two_taken : (xs ys : List Entry) (b c : BuilderState) → c.spec ≡ b.spec → c.samples ≡ with_taken xs b → with_taken ys c ≡ with_taken (xs ++ ys) b
 two_taken xs ys b c spec samples =
-    ap (λ (s : ChannelSpec). filled s c.samples (map sample_of (on_channel s.id ys))) spec
-    ∙ ap (λ (l : List Sample). filled b.spec l (map sample_of (on_channel b.spec.id ys))) samples
-    ∙ filled_more b.spec b.samples (map sample_of (on_channel b.spec.id xs)) (map sample_of (on_channel b.spec.id ys))
-    ∙ ap (λ (l : List Sample). filled b.spec b.samples l) (samples_of_both b.spec.id xs ys)
+    ap (λ (s : ChannelSpec). filled_up s c.samples (map sample_of_entry (on_channel s.id ys))) spec
+    ∙ ap (λ (l : List Sample). filled_up b.spec l (map sample_of_entry (on_channel b.spec.id ys))) samples
+    ∙ filled_more b.spec b.samples (map sample_of_entry (on_channel b.spec.id xs)) (map sample_of_entry (on_channel b.spec.id ys))
+    ∙ ap (λ (l : List Sample). filled_up b.spec b.samples l) (samples_of_both b.spec.id xs ys)
 
 all_taken : (xs ys : List Entry) (old new : List BuilderState) → specs_of new ≡ specs_of old → LeavesOpen (with_taken xs) old new → map (with_taken ys) new ≡ map (with_taken (xs ++ ys)) old
 all_taken xs ys [] [] specs opens = refl
@@ -269,7 +269,7 @@ pub then_taken : (xs ys : List Entry) (old new later : List BuilderState) → sp
 then_taken xs ys old new later specs one two = two ∙ all_taken xs ys old new specs one
 
 taken_same : (more : List Entry) (b c : BuilderState) → b.spec ≡ c.spec → b.samples ≡ c.samples → with_taken more b ≡ with_taken more c
-taken_same more b c spec samples = ap (λ (s : ChannelSpec). filled s b.samples (map sample_of (on_channel s.id more))) spec ∙ ap (λ (l : List Sample). filled c.spec l (map sample_of (on_channel c.spec.id more))) samples
+taken_same more b c spec samples = ap (λ (s : ChannelSpec). filled_up s b.samples (map sample_of_entry (on_channel s.id more))) spec ∙ ap (λ (l : List Sample). filled_up c.spec l (map sample_of_entry (on_channel c.spec.id more))) samples
 
 pub still_then_taken : (more : List Entry) (xs ys zs : List BuilderState) → specs_of ys ≡ specs_of xs → LeavesOpen still_open xs ys → LeavesOpen (with_taken more) ys zs → LeavesOpen (with_taken more) xs zs
 still_then_taken more xs ys zs specs opens taken = taken ∙ same_left (with_taken more) (taken_same more) xs ys specs opens

@@ -19,7 +19,7 @@ use Rattle.r10_body.specs.declared.message.Message.{Message}
 use Rattle.r10_body.specs.declared.message.Message.TheVariants as messages
 use Rattle.r10_body.specs.declared.spec.ChannelSpec.{ChannelSpec}
 use Rattle.r10_builder.specs.Packing.{is_near, tenth}
-use Rattle.r10_builder.specs.Spelled.{Reaches, all_bytes, message_bytes, sample_bytes}
+use Rattle.r10_builder.specs.Spelled.{IsWithinTenth, all_bytes, message_bytes, sample_bytes}
 
 pub record Taken (spec : ChannelSpec) (m : Message) : Type 0 where
   pub kind : is_kind spec.kind m ≡ true
@@ -63,7 +63,7 @@ all_length spec before (s ∷ samples) all =
 
 -- ---- ranges
 
-pub reaches : (kind : Kind) (before count : ℕ) (m : Message) → is_kind kind m ≡ true → before ≤ count → is_near kind before count ≡ true → Reaches before count m
+pub reaches : (kind : Kind) (before count : ℕ) (m : Message) → is_kind kind m ≡ true → before ≤ count → is_near kind before count ≡ true → IsWithinTenth before count m
 reaches kinds.Arinc before count (messages.Arinc m) is le near = (le, leb-true count (before + tenth) near)
 reaches kind before count (messages.Arinc m) is le near = absurd (false≢true is)
 reaches kind before count m is le near = tt

@@ -5,12 +5,12 @@ use Rattle.r10_body.specs.Packets.{Packet}
 use Rattle.r10_body.specs.declared.spec.ChannelSpec.{ChannelSpec}
 use Rattle.r10_builder.specs.Packing.{IsLimited}
 use Rattle.r10_builder.specs.State.{BuilderState}
-use Rattle.r10_builder.specs.Grows.{BuildersAreApart, HasNone}
+use Rattle.r10_builder.specs.Grows.{BuildersAreApart, HasNoneOf}
 use Rattle.r10_builder.specs.Settings.{AreChannelSettings, KeepsSettings, KeepsSpec, specs_of}
 
 -- ---- settings
 
-all_above : (least : ℕ) (b : BuilderState) (builders : List BuilderState) → b.spec.id ≤ least → AreChannelSettings least (specs_of builders) → HasNone b.spec.id builders
+all_above : (least : ℕ) (b : BuilderState) (builders : List BuilderState) → b.spec.id ≤ least → AreChannelSettings least (specs_of builders) → HasNoneOf b.spec.id builders
 all_above least b [] le are = tt
 all_above least b (c ∷ builders) le are = (λ e. absurd (omega (arith, le, are.0, e)), all_above c.spec.id b builders (omega (arith, le, are.0)) are.2)
 
@@ -46,7 +46,7 @@ keeps_nowhere least [] p zero_is are = tt
 keeps_nowhere least (spec ∷ specs) p zero_is are = (λ e. absurd (omega (arith, zero_is, e, are.0)), keeps_nowhere spec.id specs p zero_is are.2)
 
 -- where a packet is on one of the channels and keeps to its settings, it keeps to all
-pub none_other : (p : Packet) (builders : List BuilderState) → HasNone p.channel builders → KeepsSettings (specs_of builders) p
+pub none_other : (p : Packet) (builders : List BuilderState) → HasNoneOf p.channel builders → KeepsSettings (specs_of builders) p
 none_other p [] none = tt
 none_other p (b ∷ builders) none = (λ e. absurd (none.0 (sym e)), none_other p builders none.1)
 
@@ -58,10 +58,10 @@ not_first b d (c ∷ builders) (suc i) lt apart same = not_first b d builders i 
 pub keeps_all : (p : Packet) (builders : List BuilderState) (i : ℕ) (d : BuilderState) → i < length builders → BuildersAreApart builders → p.channel ≡ (get_or builders i d).spec.id → KeepsSpec (get_or builders i d).spec p
     → KeepsSettings (specs_of builders) p
 keeps_all p [] i d lt apart on keeps = absurd (omega arith)
-keeps_all p (b ∷ builders) zero d lt apart on keeps = (λ e. keeps, none_other p builders (subst (λ (n : ℕ). HasNone n builders) (sym on) apart.0))
+keeps_all p (b ∷ builders) zero d lt apart on keeps = (λ e. keeps, none_other p builders (subst (λ (n : ℕ). HasNoneOf n builders) (sym on) apart.0))
 keeps_all p (b ∷ builders) (suc i) d lt apart on keeps = (λ e. absurd (not_first b d builders i (omega arith) apart.0 (sym on ∙ e)), keeps_all p builders i d (omega arith) apart.1 on keeps)
 
-pub one_there : (builders : List BuilderState) (i : ℕ) (d : BuilderState) → i < length builders → HasNone (get_or builders i d).spec.id builders → ⊥
+pub one_there : (builders : List BuilderState) (i : ℕ) (d : BuilderState) → i < length builders → HasNoneOf (get_or builders i d).spec.id builders → ⊥
 one_there [] i d lt none = absurd (omega arith)
 one_there (b ∷ builders) zero d lt none = none.0 refl
 one_there (b ∷ builders) (suc i) d lt none = one_there builders i d (omega arith) none.1

@@ -21,16 +21,18 @@ taken_in packets builders = file_entries packets ++ all_held builders
 -- on each channel there is what was there before, and then these
 abbrev pub Grows : List Packet → List BuilderState → List Entry → List Packet → List BuilderState → Type 0
 Grows packets builders more packets' builders' =
-    (channel : ℕ) → on_channel channel (taken_in packets' builders') ≡ on_channel channel (taken_in packets builders) ++ on_channel channel more
+    (channel : ℕ) → on_channel channel (taken_in packets' builders') ≡ on_channel channel (taken_in packets builders)
+    ++ on_channel channel more
 
 -- no two builders are of one channel
 abbrev pub BuildersAreApart : List BuilderState → Type 0
 BuildersAreApart [] = Unit {0}
-BuildersAreApart (b ∷ builders) = AllByRecursion (λ (c : BuilderState). c.spec.id ≡ b.spec.id → ⊥) builders × BuildersAreApart builders
+BuildersAreApart (b ∷ builders) = AllByRecursion (λ (c : BuilderState). c.spec.id ≡ b.spec.id → ⊥) builders
+    × BuildersAreApart builders
 
 -- none is of this channel
-abbrev pub HasNone : ℕ → List BuilderState → Type 0
-HasNone channel builders = AllByRecursion (λ (b : BuilderState). b.spec.id ≡ channel → ⊥) builders
+abbrev pub HasNoneOf : ℕ → List BuilderState → Type 0
+HasNoneOf channel builders = AllByRecursion (λ (b : BuilderState). b.spec.id ≡ channel → ⊥) builders
 
 abbrev pub is_open_builder : BuilderState → Bool
 is_open_builder b = nat_lt 0 (length b.samples)

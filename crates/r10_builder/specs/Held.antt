@@ -48,7 +48,8 @@ pub record IsOpenPacket (o : OpenPacket) (samples : List Sample) : Type 0 where
   pub gap : o.gap ≡ first_gap samples
 
 -- packet, body and spare buffer of a channel, of which these are the samples
-pub record HoldsSamples (spec : ChannelSpec) (packet : Option OpenPacket) (body spare : List ℕ) (samples : List Sample) : Type 0 where
+pub record HoldsSamples (spec : ChannelSpec) (packet : Option OpenPacket) (body spare : List ℕ)
+    (samples : List Sample) : Type 0 where
   pub open_is : MatchOption packet (samples ≡ []) (λ o. IsOpenPacket o samples)
   pub body_is : body ≡ open_body samples
   pub spare_is : spare ≡ []

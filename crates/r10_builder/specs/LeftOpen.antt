@@ -1,5 +1,6 @@
 -- Which packets a call closes: what it leaves in the open packet of each channel.
-use Rattle.std.specs.Prelude.{◌≡◌, ℕ, Bool, true, cond, List, [], ◌∷◌, ◌++◌, drop, find, map, take, Option, None, Some, Result, MatchResult}
+use Rattle.std.specs.Prelude.{◌≡◌, ℕ, Bool, true, cond, List, [], ◌∷◌, ◌++◌, drop, find, map, take, Option, None, Some, Result}
+use Rattle.std.specs.Prelude.{MatchResult}
 use Rattle.r10_body.specs.Files.{on_channel}
 use Rattle.r10_body.specs.declared.entry.Entry.{Entry}
 use Rattle.r10_body.specs.declared.entry.Sample.{Sample}
@@ -45,16 +46,16 @@ next_open None samples s = samples ++ s ∷ []
 next_open (Some why) samples s = s ∷ []
 
 -- samples go so into the packets of a channel, one after the other
-abbrev pub filled : ChannelSpec → List Sample → List Sample → List Sample
-filled spec samples [] = samples
-filled spec samples (s ∷ more) = filled spec (next_open (reason spec samples s) samples s) more
+abbrev pub filled_up : ChannelSpec → List Sample → List Sample → List Sample
+filled_up spec samples [] = samples
+filled_up spec samples (s ∷ more) = filled_up spec (next_open (reason spec samples s) samples s) more
 
-abbrev pub sample_of : Entry → Sample
-sample_of e = record { count = e.count; message = e.message; gap = e.gap }
+abbrev pub sample_of_entry : Entry → Sample
+sample_of_entry e = record { count = e.count; message = e.message; gap = e.gap }
 
 -- entries go so into the packets of their channels
 abbrev pub with_taken : List Entry → BuilderState → List Sample
-with_taken more b = filled b.spec b.samples (map sample_of (on_channel b.spec.id more))
+with_taken more b = filled_up b.spec b.samples (map sample_of_entry (on_channel b.spec.id more))
 
 -- ---- one builder
 
@@ -74,6 +75,6 @@ pub record ChangesFirst (test : BuilderState → Bool) (Change : BuilderState �
 
 -- A sample went into the builder of its channel, and what it closed there was handed out.
 -- On all other channels nothing was closed.
-pub record TakesOne (channel : ℕ) (s : Sample) (closed : Option Closed) (old new : List BuilderState) : Type 0 where
+pub record TakesIntoBuilder (channel : ℕ) (s : Sample) (closed : Option Closed) (old new : List BuilderState) : Type 0 where
   pub one : ChangesFirst (is_of channel) (λ was later. Pushed was s closed later) old new
   pub leaves : LeavesOpen (with_taken (entry_on channel s ∷ [])) old new

@@ -1,4 +1,5 @@
--- Two packets of a channel on which a message was lost: the packet after the loss is flagged, not the one before it, and a report stands between them.
+-- Two packets of a channel on which a message was lost: the packet after the loss is flagged, not the one before it, and a
+-- report stands between them.
 use Rattle.std.specs.Prelude.{◌≡◌, ℕ, false, List, [], ◌∷◌, ◌++◌, take, drop, refl}
 use Rattle.r10_packet.specs.Header.{header_bytes}
 use Rattle.r10_body.specs.Content.{uart, report}
@@ -12,7 +13,7 @@ use Rattle.r10_body.specs.declared.message.Kind.TheVariants as kinds
 use Rattle.r10_builder.specs.State.{BuilderState}
 use Rattle.r10_uart.specs.declared.entry.UartEntry.{UartEntry}
 use Rattle.r10_builder.specs.Grows.{taken_in}
-use Rattle.r10_builder.specs.Next.{grown_by}
+use Rattle.r10_builder.specs.Next.{extended_by}
 use Rattle.r10_body.specs.Sequence.{numbered}
 
 abbrev letter : ℕ → ℕ → UartEntry
@@ -31,12 +32,20 @@ abbrev d_alone : Packet
 d_alone = numbered (begun ++ a_and_b ∷ []) (letters (Lost 1) 1003 (letter 1003 0x44 ∷ []))
 
 abbrev the_report : Packet
-the_report = record { channel = 0; sequence = 1; gap = Whole; check = 0; counter = 1000; content = report (record { channel = 5; reserved = 0; lost = 1 }) }
+the_report = record {
+  channel = 0;
+  sequence = 1;
+  gap = Whole;
+  check = 0;
+  counter = 1000;
+  content = report (record { channel = 5; reserved = 0; lost = 1 });
+}
 
-pub report-between : grown_by (begun ++ a_and_b ∷ []) (letters (Lost 1) 1003 (letter 1003 0x44 ∷ [])) ≡ begun ++ a_and_b ∷ the_report ∷ d_alone ∷ []
+pub report-between : extended_by (begun ++ a_and_b ∷ []) (letters (Lost 1) 1003 (letter 1003 0x44 ∷ [])) ≡ begun ++ a_and_b
+    ∷ the_report ∷ d_alone ∷ []
 report-between = refl
 
-pub no-report : grown_by begun (letters Whole 1000 (letter 1000 0x41 ∷ letter 1001 0x42 ∷ [])) ≡ begun ++ a_and_b ∷ []
+pub no-report : extended_by begun (letters Whole 1000 (letter 1000 0x41 ∷ letter 1001 0x42 ∷ [])) ≡ begun ++ a_and_b ∷ []
 no-report = refl
 
 -- sequence number and flags
@@ -59,7 +68,12 @@ abbrev all_three : List Entry
 all_three = said 1001 0x42 Whole ∷ said 1003 0x44 (Lost 1) ∷ []
 
 abbrev open_d : BuilderState
-open_d = record { spec = record (channel_of kinds.Uart 0) { id = 5 }; samples = record { count = 1003; message = uart_message false 0 (0x44 ∷ []); gap = Lost 1 } ∷ []; room = 0; next_room = 0 }
+open_d = record {
+  spec = record (channel_of kinds.Uart 0) { id = 5 };
+  samples = record { count = 1003; message = uart_message false 0 (0x44 ∷ []); gap = Lost 1 } ∷ [];
+  room = 0;
+  next_room = 0;
+}
 
 abbrev none_open : BuilderState
 none_open = record open_d { samples = [] }

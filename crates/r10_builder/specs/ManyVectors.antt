@@ -41,8 +41,8 @@ not-yet-old = refl
 pub now-old : is_old 1001001 (holding 6 (text_at 1000 ∷ text_at 2000 ∷ [])) ≡ true
 now-old = refl
 
-pub nothing-open : is_old 1001001 (holding 5 []) ≡ false
-nothing-open = refl
+pub nothing-is-old : is_old 1001001 (holding 5 []) ≡ false
+nothing-is-old = refl
 
 -- at one moment the later channel's packet has aged alone
 pub first-old : find (is_old 1000501) three ≡ Some (holding 9 (text_at 500 ∷ []))
@@ -60,6 +60,7 @@ pub joins-its-packet : map (with_taken (entry_on 9 (text_at 3000) ∷ [])) three
     ≡ [] ∷ (text_at 1000 ∷ text_at 2000 ∷ []) ∷ (text_at 500 ∷ text_at 3000 ∷ []) ∷ []
 joins-its-packet = refl
 
-pub begins-the-next : map (with_taken (entry_on 6 (text_at 1001001) ∷ entry_on 9 (text_at 3000) ∷ entry_on 6 (text_at 1001002) ∷ [])) three
+pub begins-the-next : map (with_taken (entry_on 6 (text_at 1001001) ∷ entry_on 9 (text_at 3000) ∷ entry_on 6 (text_at 1001002)
+    ∷ [])) three
     ≡ [] ∷ (text_at 1001001 ∷ text_at 1001002 ∷ []) ∷ (text_at 500 ∷ text_at 3000 ∷ []) ∷ []
 begins-the-next = refl

@@ -20,7 +20,8 @@ pub record IsGrowing (packets : List Packet) : Type 0 where
 abbrev pub HasType : ℕ → ℕ → List Packet → Type 0
 HasType channel type packets = AllByRecursion (λ p. p.channel ≡ channel → type_of p.content ≡ type) packets
 
--- a channel that may go on at a count with packets of a type: setup and index are on another, its packets are of this type, and no count on it is later
+-- a channel that may go on at a count with packets of a type: setup and index are on another, its packets are of this type,
+-- and no count on it is later
 pub record ChannelGoesOn (packets : List Packet) (channel type count : ℕ) : Type 0 where
   pub above : 0 < channel
   pub type_is : HasType channel type packets
@@ -32,7 +33,14 @@ abbrev pub setup_packet : ℕ → List ℕ → Packet
 setup_packet counter text = record { channel = 0; sequence = 0; gap = Whole; check = 0; counter = counter; content = setup text }
 
 abbrev pub time_packet : ℕ → ℕ → Parts → Packet
-time_packet channel counter civil = record { channel = channel; sequence = 0; gap = Whole; check = 0; counter = counter; content = time civil }
+time_packet channel counter civil = record {
+  channel = channel;
+  sequence = 0;
+  gap = Whole;
+  check = 0;
+  counter = counter;
+  content = time civil;
+}
 
 -- the event of a number that comes next after packets
 abbrev pub event_packet : ℕ → ℕ → ℕ → List Packet → Packet
@@ -42,19 +50,32 @@ event_packet channel counter number packets = record {
   gap = Whole;
   check = 0;
   counter = counter;
-  content = event (record { count = counter; number = number; occurrence = count_by (is_event_of number) (file_entries packets) % 65536 });
+  content =
+      event
+      (record { count = counter; number = number; occurrence = count_by (is_event_of number) (file_entries packets) % 65536 });
 }
 
 -- the report of a loss on a channel
 abbrev pub report_packet : ℕ → ℕ → ℕ → Packet
-report_packet counter channel lost = record { channel = 0; sequence = 0; gap = Whole; check = 0; counter = counter; content = report (record { channel = channel; reserved = 0; lost = lost }) }
+report_packet counter channel lost = record {
+  channel = 0;
+  sequence = 0;
+  gap = Whole;
+  check = 0;
+  counter = counter;
+  content = report (record { channel = channel; reserved = 0; lost = lost });
+}
 
 -- ---- a packet that is handed out
 
 -- packets, and after them the report that tells how many messages were lost before a packet, where a number is reported
 abbrev pub reporting : List Packet → Packet → List Packet
-reporting packets p = elim p.gap [ Lost n ↦ packets ++ numbered packets (report_packet (last_time 0 packets) p.channel n) ∷ [] | _ ↦ packets ]
+reporting packets p = elim p.gap [
+  | Lost n ↦ packets ++ numbered packets (report_packet (last_time 0 packets) p.channel n)
+      ∷ []
+  | _ ↦ packets
+]
 
 -- packets with one more, and with its report
-abbrev pub grown_by : List Packet → Packet → List Packet
-grown_by packets p = reporting packets p ++ numbered (reporting packets p) p ∷ []
+abbrev pub extended_by : List Packet → Packet → List Packet
+extended_by packets p = reporting packets p ++ numbered (reporting packets p) p ∷ []

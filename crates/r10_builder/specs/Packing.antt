@@ -1,5 +1,6 @@
 -- When the open packet of a channel is closed, and what is handed out.
-use Rattle.std.specs.Prelude.{◌≡◌, ℕ, ◌+◌, ◌*◌, ◌/◌, ◌<◌, ◌≤◌, Bool, true, not, List, [], ◌∷◌, ◌++◌, length, map, Option, None, nat_lt, nat_le}
+use Rattle.std.specs.Prelude.{◌≡◌, ℕ, ◌+◌, ◌*◌, ◌/◌, ◌<◌, ◌≤◌, Bool, true, not, List, [], ◌∷◌, ◌++◌, length, map, Option, None}
+use Rattle.std.specs.Prelude.{nat_lt, nat_le}
 use Rattle.std.specs.List.{AllByRecursion, sum_by}
 use Rattle.r10_count.specs.Checks.{first_broken}
 use Rattle.r10_packet.specs.Header.{check_bits_of, check_of_bits, checksum_bits}
@@ -43,7 +44,8 @@ abbrev pub is_near : Kind → ℕ → ℕ → Bool
 is_near kinds.Arinc before count = nat_le count (before + tenth)
 is_near kind before count = true
 
--- what must hold for a sample to go into the open packet, in order, and the reason to close the packet where it doesn't; no packet is open where there are no samples
+-- what must hold for a sample to go into the open packet, in order, and the reason to close the packet where it doesn't; no
+-- packet is open where there are no samples
 abbrev pub reason : ChannelSpec → List Sample → Sample → Option Reason
 reason spec [] s = None
 reason spec (first ∷ rest) s =
@@ -72,7 +74,8 @@ pub record IsLimited (spec : ChannelSpec) : Type 0 where
 abbrev pub entry_on : ℕ → Sample → Entry
 entry_on channel s = record { channel = channel; count = s.count; message = s.message; gap = s.gap }
 
--- header and body of the first packet of a channel that says these samples, in order: its entries have their counts and messages, and of them the first alone may have a gap, which is the packet's
+-- header and body of the first packet of a channel that says these samples, in order: its entries have their counts and
+-- messages, and of them the first alone may have a gap, which is the packet's
 pub record IsClosedPacket (spec : ChannelSpec) (samples : List Sample) (closed : Closed) : Type 0 where
   pub packet : Packet
   pub header : closed.header ≡ header_of packet

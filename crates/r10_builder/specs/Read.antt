@@ -15,22 +15,26 @@ abbrev pub words_at : ℕ → List ℕ → List ℕ
 words_at zero bytes = []
 words_at (suc n) bytes = u16_at bytes 0 ∷ words_at n (drop 2 bytes)
 
-abbrev pub sample_of : ℕ → Message → Sample
-sample_of count m = record { count = count; message = m; gap = Whole }
+abbrev pub whole_sample : ℕ → Message → Sample
+whole_sample count m = record { count = count; message = m; gap = Whole }
 
 -- the sample that stands first in bytes, after one at a count
 unfoldable pub sample_at : Kind → ℕ → List ℕ → Sample
 sample_at kinds.Uart before bytes =
     let header = u32_at bytes 8 in
-    sample_of (u64_at bytes 0) (uart_message (header / 2 ^ 31 == 1) (header / 2 ^ 16 % 2 ^ 14) (take (header % 2 ^ 16) (drop 12 bytes)))
-sample_at kinds.Bus1553 before bytes = sample_of (u64_at bytes 0) (bus_message (u16_at bytes 8) (u16_at bytes 10) (words_at (u16_at bytes 12 / 2) (drop 14 bytes)))
+    whole_sample (u64_at bytes 0) (uart_message (header / 2 ^ 31 == 1) (header / 2 ^ 16 % 2 ^ 14)
+    (take (header % 2 ^ 16) (drop 12 bytes)))
+sample_at kinds.Bus1553 before bytes = whole_sample (u64_at bytes 0)
+    (bus_message (u16_at bytes 8) (u16_at bytes 10) (words_at (u16_at bytes 12 / 2) (drop 14 bytes)))
 sample_at kinds.Arinc before bytes =
     let header = u32_at bytes 0 in
-    sample_of (before + header % 2 ^ 20) (arinc_message (header / 2 ^ 24) (header / 2 ^ 23 % 2 == 1) (header / 2 ^ 22 % 2 == 1) (header / 2 ^ 21 % 2 == 1) (u32_at bytes 4))
-sample_at kinds.Discrete before bytes = sample_of (u64_at bytes 0) (discrete_message (u32_at bytes 8))
+    whole_sample (before + header % 2 ^ 20) (arinc_message (header / 2 ^ 24) (header / 2 ^ 23 % 2 == 1) (header / 2 ^ 22 % 2 == 1)
+    (header / 2 ^ 21 % 2 == 1) (u32_at bytes 4))
+sample_at kinds.Discrete before bytes = whole_sample (u64_at bytes 0) (discrete_message (u32_at bytes 8))
 sample_at kinds.Message before bytes =
     let header = u32_at bytes 8 in
-    sample_of (u64_at bytes 0) (data_message (header / 2 ^ 31 == 1) (header / 2 ^ 30 % 2 == 1) (header / 2 ^ 16 % 2 ^ 14) (take (header % 2 ^ 16) (drop 12 bytes)))
+    whole_sample (u64_at bytes 0) (data_message (header / 2 ^ 31 == 1) (header / 2 ^ 30 % 2 == 1) (header / 2 ^ 16 % 2 ^ 14)
+    (take (header % 2 ^ 16) (drop 12 bytes)))
 
 -- so many samples that stand end to end
 abbrev pub samples_at : Kind → ℕ → ℕ → List ℕ → List Sample

@@ -1,5 +1,6 @@
 -- The channels of builders, and what a packet on one of them keeps to.
-use Rattle.std.specs.Prelude.{◌≡◌, ℕ, ◌<◌, ◌≤◌, ◌+◌, Bool, false, not, nat_le, ◌==◌, List, [], ◌∷◌, length, map, find, Option, None, Some, IsSomeAnd}
+use Rattle.std.specs.Prelude.{◌≡◌, ℕ, ◌<◌, ◌≤◌, ◌+◌, Bool, false, not, nat_le, ◌==◌, List, [], ◌∷◌, length, map, find, Option}
+use Rattle.std.specs.Prelude.{None, Some, IsSomeAnd}
 use Rattle.std.specs.List.{AllByRecursion}
 use Rattle.r10_packet.specs.Header.{checksum_bits}
 use Rattle.r10_body.specs.Bodies.{discretes_of}
@@ -31,20 +32,23 @@ is_old now b = elim b.samples [ [] ↦ false | s ∷ samples ↦ not (nat_le now
 
 -- the channel has a builder, which takes the sample after those that it holds
 abbrev pub BuilderTakes : ℕ → Sample → List BuilderState → Type 0
-BuilderTakes channel s builders = IsSomeAnd (find (is_of channel) builders) (λ b. (channel_refusal b.spec s.message ≡ None) × (last_sample_count 0 b.samples ≤ s.count) × IsSoundGap s.gap)
+BuilderTakes channel s builders = IsSomeAnd (find (is_of channel) builders)
+    (λ b. (channel_refusal b.spec s.message ≡ None) × (last_sample_count 0 b.samples ≤ s.count) × IsSoundGap s.gap)
 
 -- the sample goes into the packet that is open on its channel
 abbrev pub Joins : ℕ → Sample → List BuilderState → Type 0
-Joins channel s builders = IsSomeAnd (find (is_of channel) builders) (λ b. (0 < length b.samples) × (reason b.spec b.samples s ≡ None))
+Joins channel s builders = IsSomeAnd (find (is_of channel) builders)
+    (λ b. (0 < length b.samples) × (reason b.spec b.samples s ≡ None))
 
 -- how many packets were handed out
-abbrev pub handed : Option Closed → ℕ
-handed None = 0
-handed (Some closed) = 1
+abbrev pub handed_count : Option Closed → ℕ
+handed_count None = 0
+handed_count (Some closed) = 1
 
 -- all are ready but the one of a channel that handed a packet out, which is once the packet's room is given back
 abbrev pub AreReadyWith : ℕ → Closed → List BuilderState → Type 0
-AreReadyWith channel closed builders = AllByRecursion (λ (b : BuilderState). (b.spec.id ≡ channel → IsReadyWith closed b) × ((b.spec.id ≡ channel → ⊥) → HasRoomForTwo b)) builders
+AreReadyWith channel closed builders = AllByRecursion (λ (b : BuilderState). (b.spec.id ≡ channel → IsReadyWith closed b)
+    × ((b.spec.id ≡ channel → ⊥) → HasRoomForTwo b)) builders
 
 -- a packet of a channel with these settings
 pub record KeepsSpec (spec : ChannelSpec) (p : Packet) : Type 0 where

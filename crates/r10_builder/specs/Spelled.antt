@@ -26,7 +26,10 @@ use Rattle.r10_builder.specs.declared.open_packet.OpenPacket.{OpenPacket}
 -- ---- bytes
 
 abbrev pub arinc_of : ℕ → ℕ → Bool → Bool → Bool → ℕ → ArincEntry
-arinc_of count bus format parity high word = record { count = count; message = record { bus = bus; format = format; parity = parity; high = high; word = word } }
+arinc_of count bus format parity high word = record {
+  count = count;
+  message = record { bus = bus; format = format; parity = parity; high = high; word = word };
+}
 
 abbrev pub discrete_of : ℕ → ℕ → DiscreteEntry
 discrete_of count states = record { count = count; message = record { states = states } }
@@ -44,15 +47,15 @@ unfoldable pub sample_bytes : ℕ → Sample → List ℕ
 sample_bytes before s = message_bytes before s.count s.message
 
 -- a word of an ARINC bus tells its distance from the one before
-abbrev pub Reaches : ℕ → ℕ → Message → Type 0
-Reaches before count (messages.Arinc m) = (before ≤ count) × (count ≤ before + tenth)
-Reaches before count m = Unit {0}
+abbrev pub IsWithinTenth : ℕ → ℕ → Message → Type 0
+IsWithinTenth before count (messages.Arinc m) = (before ≤ count) × (count ≤ before + tenth)
+IsWithinTenth before count m = Unit {0}
 
 -- the fields of a message are in their ranges, on a channel of so many discretes and after one at a count
 pub record Fits (bits before : ℕ) (s : Sample) : Type 0 where
   pub range : IsTrue (is_in_range bits s.message)
   pub short : IsTrue (is_short s.message)
-  pub reaches : Reaches before s.count s.message
+  pub reaches : IsWithinTenth before s.count s.message
 
 -- what the types of the fields say
 abbrev pub HasTypes : Message → Type 0

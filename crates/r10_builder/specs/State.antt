@@ -6,7 +6,8 @@ use Rattle.r10_builder.specs.Packing.{IsClosedPacket, IsLimited, reason}
 use Rattle.r10_builder.specs.declared.closed.Closed.{Closed}
 use Rattle.r10_builder.specs.declared.closed.Reason.{Reason}
 
--- the channel's settings, the samples of the open packet, and how many bytes the bodies of this packet and of the next may have before memory is asked for
+-- the channel's settings, the samples of the open packet, and how many bytes the bodies of this packet and of the next may
+-- have before memory is asked for
 pub record BuilderState : Type 0 where
   pub spec : ChannelSpec
   pub samples : List Sample
@@ -18,10 +19,12 @@ abbrev pub HandsOut : BuilderState → Reason → Closed → List Sample → Bui
 HandsOut old why closed left new =
     (closed.reason ≡ why) × (IsLimited old.spec → IsClosedPacket old.spec old.samples closed) × (new.samples ≡ left)
 
--- a push: where nothing closes the packet, the sample joins the others; else they are handed out for the first reason, and the sample stands alone
+-- a push: where nothing closes the packet, the sample joins the others; else they are handed out for the first reason, and the
+-- sample stands alone
 abbrev pub Pushed : BuilderState → Sample → Option Closed → BuilderState → Type 0
 Pushed old s None new = (reason old.spec old.samples s ≡ None) × (new.samples ≡ old.samples ++ s ∷ [])
-Pushed old s (Some closed) new = (reason old.spec old.samples s ≡ Some closed.reason) × HandsOut old closed.reason closed (s ∷ []) new
+Pushed old s (Some closed) new = (reason old.spec old.samples s ≡ Some closed.reason)
+    × HandsOut old closed.reason closed (s ∷ []) new
 
 -- there is room for two greatest packets, so that no push asks for memory
 pub record HasRoomForTwo (b : BuilderState) : Type 0 where

@@ -14,7 +14,15 @@ use Rattle.r10_builder.specs.Spelled.{open_body, sample_bytes}
 use Rattle.r10_builder.specs.declared.closed.Reason.TheVariants.{Gap, BusGap, Age, Number, Size}
 
 abbrev pub uart_channel : ℕ → ℕ → ℕ → ChannelSpec
-uart_channel check bytes number = record { id = 5; kind = kinds.Uart; capacity = 2; check = check; bytes = bytes; number = number; bits = 0 }
+uart_channel check bytes number = record {
+  id = 5;
+  kind = kinds.Uart;
+  capacity = 2;
+  check = check;
+  bytes = bytes;
+  number = number;
+  bits = 0;
+}
 
 abbrev pub text_sample : ℕ → List ℕ → Sample
 text_sample count bytes = record { count = count; message = uart_message false 0 bytes; gap = Whole }
@@ -23,7 +31,8 @@ text_sample count bytes = record { count = count; message = uart_message false 0
 pub soon-enough : reason (uart_channel 0 524288 65535) (text_sample 0 [] ∷ []) (text_sample 1000000 []) ≡ None
 soon-enough = refl
 
-pub too-late : reason (uart_channel 0 524288 65535) (text_sample 0 [] ∷ text_sample 1000000 [] ∷ []) (text_sample 1000001 []) ≡ Some Age
+pub too-late : reason (uart_channel 0 524288 65535) (text_sample 0 [] ∷ text_sample 1000000 [] ∷ [])
+    (text_sample 1000001 []) ≡ Some Age
 too-late = refl
 
 -- a tenth of a second after the first, and a count later
@@ -99,7 +108,8 @@ pub near-and-late : reason arinc_channel (word_sample 5000 ∷ word_sample 10050
 near-and-late = refl
 
 -- a UART message may be far from the last one
-pub far-text : reason (uart_channel 0 524288 65535) (text_sample 5000 [] ∷ text_sample 1005000 [] ∷ []) (text_sample 2005001 []) ≡ Some Age
+pub far-text : reason (uart_channel 0 524288 65535) (text_sample 5000 [] ∷ text_sample 1005000 [] ∷ [])
+    (text_sample 2005001 []) ≡ Some Age
 far-text = refl
 
 abbrev pub three_words : List Sample
@@ -121,7 +131,8 @@ unfolding sample_bytes
 three-words-open = refl
 
 -- and they are read back
-pub three-words-read : samples_in kinds.Arinc (Some (record { first = 5000; last = 5300; number = 3; gap = Whole })) three_words_body ≡ three_words
+pub three-words-read : samples_in kinds.Arinc (Some (record { first = 5000; last = 5300; number = 3; gap = Whole }))
+    three_words_body ≡ three_words
 unfolding samples_in sample_at
 three-words-read = refl
 
@@ -132,13 +143,18 @@ two_of count m n = record { count = count; message = m; gap = Lost 2 } ∷ recor
 
 -- they are read back from the body of their packet
 abbrev pub IsReadBack : Kind → List Sample → Type 0
-IsReadBack kind samples = samples_in kind (Some (record { first = first_count samples; last = last_sample_count 0 samples; number = length samples; gap = Lost 2 })) (open_body samples) ≡ samples
+IsReadBack kind samples =
+    samples_in kind
+    (Some (record { first = first_count samples; last = last_sample_count 0 samples; number = length samples; gap = Lost 2 }))
+    (open_body samples) ≡ samples
 
-pub two-texts-read : IsReadBack kinds.Uart (two_of 1000 (uart_message true 16383 (0x41 ∷ 0x42 ∷ 0x43 ∷ [])) (uart_message false 0 []))
+pub two-texts-read : IsReadBack kinds.Uart (two_of 1000 (uart_message true 16383 (0x41 ∷ 0x42 ∷ 0x43 ∷ []))
+    (uart_message false 0 []))
 unfolding samples_in sample_at sample_bytes
 two-texts-read = refl
 
-pub two-bus-messages-read : IsReadBack kinds.Bus1553 (two_of 2000 (bus_message 0x2000 7 (0x0821 ∷ 0xABCD ∷ [])) (bus_message 0x1038 0 []))
+pub two-bus-messages-read : IsReadBack kinds.Bus1553 (two_of 2000 (bus_message 0x2000 7 (0x0821 ∷ 0xABCD ∷ []))
+    (bus_message 0x1038 0 []))
 unfolding samples_in sample_at sample_bytes
 two-bus-messages-read = refl
 
@@ -146,6 +162,7 @@ pub two-states-read : IsReadBack kinds.Discrete (two_of 3000 (discrete_message 0
 unfolding samples_in sample_at sample_bytes
 two-states-read = refl
 
-pub two-messages-read : IsReadBack kinds.Message (two_of 4000 (data_message true false 16383 (0x41 ∷ [])) (data_message false true 1 []))
+pub two-messages-read : IsReadBack kinds.Message (two_of 4000 (data_message true false 16383 (0x41 ∷ []))
+    (data_message false true 1 []))
 unfolding samples_in sample_at sample_bytes
 two-messages-read = refl

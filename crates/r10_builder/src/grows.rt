@@ -9,13 +9,13 @@ ghost use Rattle.r10_body.specs.declared.entry.Entry.{Entry};
 ghost use Rattle.r10_body.specs.declared.entry.Sample.{Sample};
 ghost use Rattle.r10_builder.specs.Packing.{entry_on};
 ghost use Rattle.r10_builder.specs.State.{BuilderState};
-ghost use Rattle.r10_builder.specs.Grows.{BuildersAreApart, Grows, HasNone, all_held, held, taken_in};
+ghost use Rattle.r10_builder.specs.Grows.{BuildersAreApart, Grows, HasNoneOf, all_held, held, taken_in};
 
 /// Of builders that are apart, one holds what is open on its channel; where it changes, the others' channels stay.
 pub fn builders_by_channel()
     ensures own { (builders : List BuilderState) (i : ℕ) (d : BuilderState) → i < length builders → BuildersAreApart builders
         → on_channel (get_or builders i d).spec.id (all_held builders) ≡ held (get_or builders i d) }
-    ensures none { (builders : List BuilderState) (channel : ℕ) → HasNone channel builders
+    ensures none { (builders : List BuilderState) (channel : ℕ) → HasNoneOf channel builders
         → on_channel channel (all_held builders) ≡ [] }
     ensures apart { (builders : List BuilderState) (i : ℕ) (d : BuilderState) (new : BuilderState) → i < length builders
         → BuildersAreApart builders → new.spec ≡ (get_or builders i d).spec → BuildersAreApart (set builders i new) }
@@ -33,7 +33,7 @@ pub fn entries_are_kept()
         → i < length builders → BuildersAreApart builders → new.spec ≡ (get_or builders i d).spec
         → written ++ new.samples ≡ (get_or builders i d).samples ++ more → packet_entries p ≡ map (entry_on new.spec.id) written
         → Grows packets builders (map (entry_on new.spec.id) more) (packets ++ p ∷ []) (set builders i new) }
-    ensures between { (packets : List Packet) (builders : List BuilderState) (p : Packet) → HasNone p.channel builders
+    ensures between { (packets : List Packet) (builders : List BuilderState) (p : Packet) → HasNoneOf p.channel builders
         → Grows packets builders (packet_entries p) (packets ++ p ∷ []) builders }
     ensures goes_on { (a : List Packet) (b : List BuilderState) (more : List Entry) (c : List Packet)
         (d : List BuilderState) (most : List Entry) (e : List Packet) (f : List BuilderState)

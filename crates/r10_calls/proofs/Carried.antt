@@ -10,7 +10,7 @@ use Rattle.r10_machine.specs.declared.event.Event.{Event as EventValue}
 use Rattle.r10_machine.specs.declared.event.Event.TheVariants as events
 use Rattle.r10_medium.specs.Disk.{Disk}
 use Rattle.r10_calls.specs.Carrying.{DoesEach, events_of, lost_of}
-use Rattle.r10_calls.specs.Told.{DoesEvent, number_of}
+use Rattle.r10_calls.specs.EventCalls.{DoesEvent, reply_number}
 use Rattle.r10_calls.specs.declared.desk.Desk.{Desk as DeskValue}
 
 -- ---- the channel's lane
@@ -50,9 +50,9 @@ lossless : (channel : ℕ) (x : Sample) (n : ℕ) → n ≡ lost_of x.gap → n 
 lossless channel x n is none = ap (λ (k : ℕ). cond (k == 0) [] (events.Lose channel k ∷ []) ++ events.Offer channel x.count x.message ∷ []) (sym is ∙ none)
 
 pub both_done : {M : Type 0} (disk : M → Disk) (old mid new : DeskValue M) (channel : ℕ) (x : Sample) (n : ℕ) → n ≡ lost_of x.gap → n ≢ 0
-    → DoesEvent disk old (events.Lose channel n) (λ reply. number_of reply ≡ 0) mid → DoesEvent disk mid (events.Offer channel x.count x.message) (λ reply. number_of reply ≡ 0) new → DoesEach disk old (events_of channel x) new
+    → DoesEvent disk old (events.Lose channel n) (λ reply. reply_number reply ≡ 0) mid → DoesEvent disk mid (events.Offer channel x.count x.message) (λ reply. reply_number reply ≡ 0) new → DoesEach disk old (events_of channel x) new
 both_done disk old mid new channel x n is some loss offer = subst (λ (es : List EventValue). DoesEach disk old es new) (sym (lossy channel x n is some)) (mid, loss, (new, offer, refl))
 
 pub one_done : {M : Type 0} (disk : M → Disk) (old new : DeskValue M) (channel : ℕ) (x : Sample) (n : ℕ) → n ≡ lost_of x.gap → n ≡ 0
-    → DoesEvent disk old (events.Offer channel x.count x.message) (λ reply. number_of reply ≡ 0) new → DoesEach disk old (events_of channel x) new
+    → DoesEvent disk old (events.Offer channel x.count x.message) (λ reply. reply_number reply ≡ 0) new → DoesEach disk old (events_of channel x) new
 one_done disk old new channel x n is none offer = subst (λ (es : List EventValue). DoesEach disk old es new) (sym (lossless channel x n is none)) (new, offer, refl)

@@ -1,4 +1,4 @@
-mod Telling
+mod OneEvent
 mod Carried
 mod Opened
 mod Counting

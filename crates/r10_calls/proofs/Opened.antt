@@ -8,8 +8,8 @@ use Rattle.r10_medium.specs.Disk.{Disk, Image}
 use Rattle.r10_medium.specs.Stop.{Settled}
 use Rattle.r10_refinement.specs.Safe.{IsSafe}
 use Rattle.r10_world.specs.State.{WorldState}
-use Rattle.r10_world.specs.Stopping.{Recovers}
-use Rattle.r10_world.specs.Telling.{WorldStandsFor}
+use Rattle.r10_world.specs.PowerLoss.{Recovers}
+use Rattle.r10_world.specs.WorldSteps.{WorldStandsFor}
 
 pub opened : {M : Type 0} (disk : M → Disk) (text : List ℕ) (medium : M) (w : WorldState M) (s : Config)
     → w.recorder.kept.config ≡ s → IsSettings text s → w.recorder.medium ≡ medium

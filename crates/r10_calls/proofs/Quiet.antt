@@ -9,7 +9,7 @@ use Rattle.r10_machine.specs.declared.reply.Reply.TheVariants as replies
 use Rattle.r10_medium.specs.Disk.{Disk}
 use Rattle.r10_world.specs.Answering.{AnswersEach, AnswersSo, LeavesAll, MayLack, RefusesSo, first_refusal}
 use Rattle.r10_world.specs.State.{WorldState}
-use Rattle.r10_calls.specs.Told.{StepsToReply, leaves_medium}
+use Rattle.r10_calls.specs.EventCalls.{StepsToReply, leaves_medium}
 
 module _ {M : Type 0} (disk : M → Disk) (old new : WorldState M) where
   -- where the medium can't be lacking, and what can be leaves it

@@ -39,11 +39,30 @@ front e kind = record {
 abbrev pub with_message_out : Entry → MessageValue → EntryOut
 with_message_out e (Uart m) = record (front e 1) { parity = m.parity; sub = m.sub; length = length m.bytes }
 with_message_out e (Bus1553 m) = record (front e 2) { status = m.status; gap_times = m.gap; length = length m.words }
-with_message_out e (Arinc m) = record (front e 3) { bus = m.bus; format = m.format; parity = m.parity; high = m.high; word = m.word }
+with_message_out e (Arinc m) = record (front e 3) {
+  bus = m.bus;
+  format = m.format;
+  parity = m.parity;
+  high = m.high;
+  word = m.word;
+}
 with_message_out e (Discrete m) = record (front e 4) { word = m.states }
-with_message_out e (Message m) = record (front e 5) { data_error = m.data_error; format = m.format; sub = m.sub; length = length m.bytes }
+with_message_out e (Message m) = record (front e 5) {
+  data_error = m.data_error;
+  format = m.format;
+  sub = m.sub;
+  length = length m.bytes;
+}
 with_message_out e (Time civil) =
-    record (front e 6) { year = civil.year; month = civil.month; day = civil.day; hour = civil.hour; minute = civil.minute; second = civil.second; centi = civil.centi }
+    record (front e 6) {
+      year = civil.year;
+      month = civil.month;
+      day = civil.day;
+      hour = civil.hour;
+      minute = civil.minute;
+      second = civil.second;
+      centi = civil.centi;
+    }
 with_message_out e (Event number count) = record (front e 7) { number = number; occurrence = count }
 
 abbrev pub fields_of : Entry → EntryOut

@@ -7,7 +7,7 @@ use Rattle.r10_machine.specs.declared.reply.Reply.{Reply as ReplyValue}
 use Rattle.r10_machine.specs.declared.reply.Reply.TheVariants.{Next}
 use Rattle.r10_calls.specs.Entries.{fields_of}
 use Rattle.r10_calls.specs.Faults.{fault_in}
-use Rattle.r10_calls.specs.Told.{Told}
+use Rattle.r10_calls.specs.EventCalls.{Told}
 use Rattle.r10_calls.specs.declared.desk.Desk.{Desk as DeskValue}
 use Rattle.r10_calls.specs.declared.entry_out.EntryOut.{EntryOut}
 
@@ -28,9 +28,10 @@ next_fields (Next (Some e)) old = fields_of e
 next_fields reply old = old
 
 -- A cursor was asked to give its next, and of the reply this is so. What it gave is in hand then, in place of what was.
-pub record TakesInHand {M : Type 0} (disk : M → Disk) (old : DeskValue M) (id : ℕ) (tells : ReplyValue → Type 0) (new : DeskValue M) : Type 0 where
+pub record TakesInHand {M : Type 0} (disk : M → Disk) (old : DeskValue M) (id : ℕ) (tells : ReplyValue → Type 0)
+    (new : DeskValue M) : Type 0 where
   pub reply : ReplyValue
-  pub told : Told disk old.world (events.Next id) reply new.world
+  pub reported : Told disk old.world (events.Next id) reply new.world
   pub says : tells reply
   pub config : new.world.recorder.kept.config ≡ old.world.recorder.kept.config
   pub fault : new.fault ≡ fault_in reply old.fault

@@ -1,6 +1,6 @@
 pub mod Faults
 pub mod Place
-pub mod Told
+pub mod EventCalls
 pub mod Carrying
 pub mod Hand
 pub mod Copies
@@ -11,4 +11,5 @@ pub mod Listing
 pub mod Accounts
 pub mod Losses
 pub mod Opening
+pub mod Aside
 pub mod Checking

@@ -1,14 +1,16 @@
 -- Files, and how a recorder is, as a caller of another language has them.
 use Rattle.std.specs.Prelude.{ℕ, List, Option, None, Some, true, false, length, slice_get}
+use Rattle.r10_body.specs.Statuses.{place_status}
 use Rattle.r10_machine.specs.declared.mode.Mode.{Mode}
 use Rattle.r10_machine.specs.declared.mode.Mode.TheVariants.{Unmounted, Idle, Recording, Failed}
 use Rattle.r10_machine.specs.declared.reply.ChannelStatus.{ChannelStatus}
 use Rattle.r10_machine.specs.declared.reply.FileInfo.{FileInfo}
 use Rattle.r10_machine.specs.declared.reply.Status.{Status as StatusValue}
 use Rattle.r10_machine.specs.declared.reply.Reply.{Reply as ReplyValue}
-use Rattle.r10_machine.specs.declared.reply.Reply.TheVariants.{Done, Moved, Stopped, Files, Status, Cursor, Advanced, Next, Found, CountAt, Refused}
+use Rattle.r10_machine.specs.declared.reply.Reply.TheVariants.{Done, Moved, Stopped, Files, Status, Cursor, Advanced, Next, Found}
+use Rattle.r10_machine.specs.declared.reply.Reply.TheVariants.{CountAt, Refused}
 use Rattle.r10_calls.specs.Copies.{copied}
-use Rattle.r10_calls.specs.Told.{number_of}
+use Rattle.r10_calls.specs.EventCalls.{reply_number}
 use Rattle.r10_calls.specs.declared.listing.FileOut.{FileOut}
 use Rattle.r10_calls.specs.declared.listing.StatusOut.{StatusOut}
 use Rattle.r10_calls.specs.declared.listing.ChannelOut.{ChannelOut}
@@ -82,7 +84,11 @@ name_in reply n old = elim (told_file reply n) [ None ↦ old | Some f ↦ copie
 
 -- 43 where files were reported, and none of this number
 abbrev pub file_place : ReplyValue → ℕ → ℕ
-file_place reply n = elim (files_told reply) [ None ↦ number_of reply | Some fs ↦ elim (slice_get fs n) [ None ↦ 43 | Some f ↦ 0 ] ]
+file_place reply n = elim (files_told reply) [
+  | None ↦ reply_number reply
+  | Some fs ↦ elim
+      (slice_get fs n) [ None ↦ place_status | Some f ↦ 0 ]
+]
 
 abbrev pub status_given : ReplyValue → StatusOut → StatusOut
 status_given reply old = elim (status_told reply) [ None ↦ old | Some s ↦ status_out s ]
@@ -94,4 +100,8 @@ abbrev pub channel_given : ReplyValue → ℕ → ChannelOut → ChannelOut
 channel_given reply n old = elim (told_lane reply n) [ None ↦ old | Some c ↦ channel_out c ]
 
 abbrev pub lane_place : ReplyValue → ℕ → ℕ
-lane_place reply n = elim (status_told reply) [ None ↦ number_of reply | Some s ↦ elim (slice_get s.channels n) [ None ↦ 43 | Some c ↦ 0 ] ]
+lane_place reply n = elim (status_told reply) [
+  | None ↦ reply_number reply
+  | Some s ↦ elim
+      (slice_get s.channels n) [ None ↦ place_status | Some c ↦ 0 ]
+]

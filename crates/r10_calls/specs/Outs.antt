@@ -1,7 +1,8 @@
 -- What a call leaves in the numbers that were lent to it, by its reply: what the reply tells, or what was there.
 use Rattle.std.specs.Prelude.{ℕ}
 use Rattle.r10_machine.specs.declared.reply.Reply.{Reply as ReplyValue}
-use Rattle.r10_machine.specs.declared.reply.Reply.TheVariants.{Done, Moved, Stopped, Files, Status, Cursor, Advanced, Next, Found, CountAt, Refused}
+use Rattle.r10_machine.specs.declared.reply.Reply.TheVariants.{Done, Moved, Stopped, Files, Status, Cursor, Advanced, Next, Found}
+use Rattle.r10_machine.specs.declared.reply.Reply.TheVariants.{CountAt, Refused}
 
 abbrev pub moved_in : ReplyValue → ℕ → ℕ
 moved_in Done old = old

@@ -3,7 +3,8 @@ use Rattle.std.specs.Prelude.{ℕ, List, Bool, true, false, Option, None, Some}
 use Rattle.r10_body.specs.declared.entry.Entry.{Entry}
 use Rattle.r10_machine.specs.declared.reply.Found.{Found as FoundValue}
 use Rattle.r10_machine.specs.declared.reply.Reply.{Reply as ReplyValue}
-use Rattle.r10_machine.specs.declared.reply.Reply.TheVariants.{Done, Moved, Stopped, Files, Status, Cursor, Advanced, Next, Found, CountAt, Refused}
+use Rattle.r10_machine.specs.declared.reply.Reply.TheVariants.{Done, Moved, Stopped, Files, Status, Cursor, Advanced, Next, Found}
+use Rattle.r10_machine.specs.declared.reply.Reply.TheVariants.{CountAt, Refused}
 use Rattle.r10_calls.specs.Copies.{copied}
 use Rattle.r10_calls.specs.Entries.{fields_of, out_bytes, words_of}
 use Rattle.r10_calls.specs.declared.entry_out.EntryOut.{EntryOut}
@@ -20,7 +21,12 @@ lent there fields bytes words = record { there = there; fields = fields; bytes =
 
 -- what is there with an entry in it
 abbrev pub with_entry : Lent → Entry → Lent
-with_entry l e = record { there = true; fields = fields_of e; bytes = copied (out_bytes e) l.bytes; words = copied (words_of e) l.words }
+with_entry l e = record {
+  there = true;
+  fields = fields_of e;
+  bytes = copied (out_bytes e) l.bytes;
+  words = copied (words_of e) l.words;
+}
 
 -- and with none
 abbrev pub with_none : Lent → Lent

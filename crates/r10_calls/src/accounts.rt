@@ -2,15 +2,16 @@
 
 ghost use Rattle.std.specs.Prelude.{◌≡◌, find, map, IfOk};
 ghost use Rattle.std.specs.List.{position};
-ghost use Rattle.r10_calls.specs.Accounts.{account_given, account_out, accepted_on, counted, erased_on, is_on, not_yet};
+ghost use Rattle.r10_calls.specs.Accounts.{account_given, account_out, accepted_on, counted_offer, erased_on, is_counted_on};
+ghost use Rattle.r10_calls.specs.Accounts.{not_yet};
 ghost use Rattle.r10_calls.specs.Listing.{lane_place};
-ghost use Rattle.r10_calls.specs.Told.{DoesEvent, Stays};
+ghost use Rattle.r10_calls.specs.EventCalls.{DoesEvent, KeepsMedium};
 ghost use Rattle.r10_machine.specs.declared.event.Event.TheVariants as events;
 
-use crate::desk::{Desk, number_of};
-use crate::entry_out::PLACE;
+use crate::desk::{Desk, reply_number};
 use crate::place::WorldPlace;
 use r10_body::ChannelSpec;
+use r10_body::status::PLACE;
 use r10_machine::{ChannelStatus, Event, Reply};
 use r10_region::SteadyMedium;
 use std::alloc::{AllocError, Global};
@@ -63,14 +64,14 @@ pub fn none_accepted(alloc: Global, channels: &[ChannelSpec]) -> Result<Vec<Acce
 
 /// The place of a channel.
 pub(crate) fn place_of(accepted: &[Accepted], channel: u16) -> Option<usize>
-    ensures { result ≡ position (is_on channel) accepted.now }
+    ensures { result ≡ position (is_counted_on channel) accepted.now }
 {
     accepted.iter().position(|one| one.channel == channel)
 }
 
 /// Counts a message of a channel, where the offer of it answered 0.
 pub fn count_accepted(accepted: &mut Vec<Accepted>, channel: u16, answer: u32)
-    ensures { accepted.new.items ≡ counted answer channel accepted.old.items }
+    ensures { accepted.new.items ≡ counted_offer answer channel accepted.old.items }
 {
     if answer != 0 {
         return;
@@ -84,7 +85,7 @@ pub fn count_accepted(accepted: &mut Vec<Accepted>, channel: u16, answer: u32)
 
 /// The number of a channel.
 fn one_of(accepted: &[Accepted], channel: u16) -> Option<Accepted>
-    ensures { result ≡ find (is_on channel) accepted.now }
+    ensures { result ≡ find (is_counted_on channel) accepted.now }
 {
     accepted.iter().copied().find(|one| one.channel == channel)
 }
@@ -138,7 +139,7 @@ fn put_account<M: SteadyMedium + Drop>(
     ensures account { out.new ≡ account_given reply.now place accepted.now world.now.recorder.kept out.old }
 {
     let Reply::Status(status) = reply else {
-        return number_of(reply);
+        return reply_number(reply);
     };
     match status.channels.as_slice().get(place) {
         Some(channel) => {
@@ -155,7 +156,7 @@ impl<M: SteadyMedium + Drop> Desk<M> {
     pub fn account(&mut self, place: usize, accepted: &[Accepted], out: &mut AccountOut) -> u32
         ensures does { DoesEvent M.disk self.old events.Status (λ reply. (result ≡ lane_place reply place)
             × (out.new ≡ account_given reply place accepted.now self.new.world.recorder.kept out.old)) self.new }
-        ensures stays { Stays M.identity self.old self.new }
+        ensures stays { KeepsMedium M.identity self.old self.new }
     {
         let reply = self.tell(Event::Status);
         put_account(&reply, place, accepted, &self.world, out)

@@ -2,7 +2,7 @@
 
 ghost use Rattle.std.specs.Prelude.{◌≡◌, None, IfErr, IfOk, IsSome};
 ghost use Rattle.r10_calls.specs.Carrying.{DoesEach, WouldRefuse, events_of, lost_of};
-ghost use Rattle.r10_calls.specs.Told.{DoesEvent, Stays, number_of};
+ghost use Rattle.r10_calls.specs.EventCalls.{DoesEvent, KeepsMedium, reply_number};
 ghost use Rattle.r10_machine.specs.Calls.{losing};
 ghost use Rattle.r10_machine.specs.Checks.{offer_refusal};
 ghost use Rattle.r10_machine.specs.Machine.{change_first, is_channel, lane_in};
@@ -31,7 +31,7 @@ impl<M: SteadyMedium + Drop> Desk<M> {
         ensures carried { IfOk result (λ _. DoesEach M.disk self.old (events_of channel sample) self.new) }
         ensures refused { IfErr result (λ back. WouldRefuse self.old channel sample back.0 × (back.1 ≡ sample)) }
         ensures untouched { IfErr result (λ _. self.new ≡ self.old) }
-        ensures stays { Stays M.identity self.old self.new }
+        ensures stays { KeepsMedium M.identity self.old self.new }
     {
         let count = sample.count.get();
         if let Err(refusal) = self.world.would_take(channel, count, &sample.message) {
@@ -48,10 +48,10 @@ impl<M: SteadyMedium + Drop> Desk<M> {
     /// Counts a loss of a channel that is there.
     fn lose_there(&mut self, channel: u16, lost: u64)
         requires { IsSome (lane_in channel self.old.world.recorder.lanes) }
-        ensures does { DoesEvent M.disk self.old (events.Lose channel lost) (λ reply. number_of reply ≡ 0) self.new }
+        ensures does { DoesEvent M.disk self.old (events.Lose channel lost) (λ reply. reply_number reply ≡ 0) self.new }
         ensures lanes { self.new.world.recorder.lanes ≡ change_first (is_channel channel) (losing lost)
             self.old.world.recorder.lanes }
-        ensures stays { Stays M.identity self.old self.new }
+        ensures stays { KeepsMedium M.identity self.old self.new }
     {
         self.tell(Event::Lose { channel, lost });
     }
@@ -59,8 +59,8 @@ impl<M: SteadyMedium + Drop> Desk<M> {
     /// Offers a message that its channel takes.
     fn offer_there(&mut self, channel: u16, count: u64, message: Message)
         requires { offer_refusal (lane_in channel self.old.world.recorder.lanes) count message ≡ None }
-        ensures does { DoesEvent M.disk self.old (events.Offer channel count message) (λ reply. number_of reply ≡ 0) self.new }
-        ensures stays { Stays M.identity self.old self.new }
+        ensures does { DoesEvent M.disk self.old (events.Offer channel count message) (λ reply. reply_number reply ≡ 0) self.new }
+        ensures stays { KeepsMedium M.identity self.old self.new }
     {
         self.tell(Event::Offer {
             channel,

@@ -1,10 +1,11 @@
 //! What a script's text is, before a recorder is opened by it.
 
 ghost use Rattle.std.specs.Prelude.{◌≡◌, ◌⊎◌, Option, Some, None};
+ghost use Rattle.r10_body.specs.Statuses.{memory_status, script_status};
 ghost use Rattle.r10_calls.specs.Checking.{TellsFault, TellsSettings, faulty_out, script_out};
 
 use crate::copies::copy_front;
-use crate::entry_out::{OUT_OF_MEMORY, SCRIPT};
+use r10_body::status::{OUT_OF_MEMORY, SCRIPT};
 use r10_machine::Settings;
 use r10_script::{Script, read_script};
 use r10_text::ScriptFault;
@@ -55,9 +56,9 @@ fn faulty_out(line: Option<usize>, length: usize) -> ScriptOut
 
 /// Puts what is wrong, of its text what fits: 40, or 30 where that says nothing of the script.
 fn put_fault(alloc: Global, fault: &ScriptFault, out: &mut ScriptOut, text: &mut [u8]) -> u32
-    ensures refused { result ≡ 40 → TellsFault out.new text.old text.new }
-    ensures memory { result ≡ 30 → (out.new ≡ out.old) × (text.new ≡ text.old) }
-    ensures numbers { (result ≡ 30) ⊎ (result ≡ 40) }
+    ensures refused { result ≡ script_status → TellsFault out.new text.old text.new }
+    ensures memory { result ≡ memory_status → (out.new ≡ out.old) × (text.new ≡ text.old) }
+    ensures numbers { (result ≡ memory_status) ⊎ (result ≡ script_status) }
 {
     let ScriptFault::Wrong { spot, .. } = fault else {
         return OUT_OF_MEMORY;
@@ -73,9 +74,9 @@ fn put_fault(alloc: Global, fault: &ScriptFault, out: &mut ScriptOut, text: &mut
 /// What the text of a script says of its medium: 0, or 30, or 40 where it can't be taken, and then what is wrong with it.
 pub fn check_script(alloc: Global, script: &[u8], out: &mut ScriptOut, text: &mut [u8]) -> u32
     ensures taken { result ≡ 0 → TellsSettings script.now out.new × (text.new ≡ text.old) }
-    ensures refused { result ≡ 40 → TellsFault out.new text.old text.new }
-    ensures memory { result ≡ 30 → (out.new ≡ out.old) × (text.new ≡ text.old) }
-    ensures numbers { (result ≡ 0) ⊎ (result ≡ 30) ⊎ (result ≡ 40) }
+    ensures refused { result ≡ script_status → TellsFault out.new text.old text.new }
+    ensures memory { result ≡ memory_status → (out.new ≡ out.old) × (text.new ≡ text.old) }
+    ensures numbers { (result ≡ 0) ⊎ (result ≡ memory_status) ⊎ (result ≡ script_status) }
 {
     match read_script(alloc, script) {
         Ok(Script { settings, .. }) => {

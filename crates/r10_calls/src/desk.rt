@@ -2,7 +2,7 @@
 
 ghost use Rattle.std.specs.Prelude.{◌≡◌};
 ghost use Rattle.r10_calls.specs.Faults.{fault_in};
-ghost use Rattle.r10_calls.specs.Told.{ShowsMedium, Stays, StepsToReply, number_of};
+ghost use Rattle.r10_calls.specs.EventCalls.{ShowsMedium, KeepsMedium, StepsToReply, reply_number};
 
 use crate::fault::{FaultOut, fault_in};
 use crate::place::WorldPlace;
@@ -39,7 +39,7 @@ impl<M: SteadyMedium + Drop> Desk<M> {
         ensures config { self.new.world.recorder.kept.config ≡ self.old.world.recorder.kept.config }
         ensures fault { self.new.fault ≡ fault_in result self.old.fault }
         ensures hand { self.new.hand ≡ self.old.hand }
-        ensures stays { Stays M.identity self.old self.new }
+        ensures stays { KeepsMedium M.identity self.old self.new }
     {
         let reply = self.world.run(event);
         self.fault = fault_in(&reply, self.fault);
@@ -65,8 +65,8 @@ impl<M: SteadyMedium + Drop> Desk<M> {
 }
 
 /// The number of a reply: that of its refusal, 1 to 30, or 0.
-pub(crate) fn number_of(reply: &Reply) -> u32
-    ensures { result ≡ number_of reply.now }
+pub(crate) fn reply_number(reply: &Reply) -> u32
+    ensures { result ≡ reply_number reply.now }
 {
     match reply {
         Reply::Refused(refusal) => u32::from(refusal.number()),

@@ -8,24 +8,6 @@ ghost use Rattle.r10_calls.specs.Entries.{front, fields_of, out_bytes, words_of}
 use crate::copies::copy_front;
 use r10_body::{DataMessage, Entry, Gap, Message, UartMessage};
 
-/// The number of the refusal for want of memory.
-pub(crate) const OUT_OF_MEMORY: u32 = 30;
-
-/// The number of the refusal where the medium failed.
-pub(crate) const MEDIUM: u32 = 28;
-
-/// The number that is answered where less memory was lent than the call needs.
-pub(crate) const ROOM: u32 = 42;
-
-/// The number that is answered where a list has no such place.
-pub(crate) const PLACE: u32 = 43;
-
-/// Why a recorder is not opened: its script can't be taken.
-pub(crate) const SCRIPT: u32 = 40;
-
-/// Why a recorder is not opened: the medium has another number of blocks than the script says.
-pub(crate) const BLOCKS: u32 = 41;
-
 /// The bytes that a message may have.
 pub(crate) const MOST_BYTES: usize = 65_535;
 

@@ -2,6 +2,7 @@
 #![tactic(auto)]
 
 mod accounts;
+mod aside;
 mod carrying;
 mod checking;
 mod control;
@@ -20,6 +21,7 @@ mod readers;
 mod running;
 
 pub use accounts::{Accepted, AccountOut, count_accepted, none_accepted};
+pub use aside::set_aside;
 pub use checking::{ScriptOut, check_script};
 pub use desk::Desk;
 pub use entry_out::EntryOut;

@@ -4,12 +4,12 @@ ghost use Rattle.std.specs.Prelude.{◌≡◌};
 ghost use Rattle.r10_calls.specs.Copies.{copied};
 ghost use Rattle.r10_calls.specs.Listing.{file_out, status_out, channel_out, mode_number, tick_number, files_in, file_in, name_in};
 ghost use Rattle.r10_calls.specs.Listing.{file_place, status_given, channel_given, lane_place};
-ghost use Rattle.r10_calls.specs.Told.{DoesEvent, Stays, number_of};
+ghost use Rattle.r10_calls.specs.EventCalls.{DoesEvent, KeepsMedium, reply_number};
 ghost use Rattle.r10_machine.specs.declared.event.Event.TheVariants as events;
 
 use crate::copies::copy_front;
-use crate::desk::{Desk, number_of};
-use crate::entry_out::PLACE;
+use crate::desk::{Desk, reply_number};
+use r10_body::status::PLACE;
 use r10_machine::{ChannelStatus, Event, FileInfo, Mode, Reply, Status};
 use r10_region::SteadyMedium;
 
@@ -124,7 +124,7 @@ fn put_file(reply: &Reply, number: usize, out: &mut FileOut, name: &mut [u8]) ->
     ensures name { name.new ≡ name_in reply.now number name.old }
 {
     let Reply::Files(files) = reply else {
-        return number_of(reply);
+        return reply_number(reply);
     };
     match files.as_slice().get(number) {
         Some(info) => {
@@ -152,7 +152,7 @@ fn put_channel(reply: &Reply, place: usize, out: &mut ChannelOut) -> u32
     ensures channel { out.new ≡ channel_given reply.now place out.old }
 {
     let Reply::Status(status) = reply else {
-        return number_of(reply);
+        return reply_number(reply);
     };
     match status.channels.as_slice().get(place) {
         Some(channel) => {
@@ -167,19 +167,19 @@ impl<M: SteadyMedium + Drop> Desk<M> {
     /// How many files the medium has: 0, or 1, 2, 30.
     pub fn files(&mut self, count: &mut usize) -> u32
         ensures does { DoesEvent M.disk self.old events.Files
-            (λ reply. (result ≡ number_of reply) × (count.new ≡ files_in reply count.old)) self.new }
-        ensures stays { Stays M.identity self.old self.new }
+            (λ reply. (result ≡ reply_number reply) × (count.new ≡ files_in reply count.old)) self.new }
+        ensures stays { KeepsMedium M.identity self.old self.new }
     {
         let reply = self.tell(Event::Files);
         *count = files_in(&reply, *count);
-        number_of(&reply)
+        reply_number(&reply)
     }
 
     /// The file of this number, from 0: 0, or 1, 2, 30, or 43 where there are fewer. Of its name, what fits.
     pub fn file(&mut self, number: usize, out: &mut FileOut, name: &mut [u8]) -> u32
         ensures does { DoesEvent M.disk self.old events.Files (λ reply. (result ≡ file_place reply number)
             × (out.new ≡ file_in reply number out.old) × (name.new ≡ name_in reply number name.old)) self.new }
-        ensures stays { Stays M.identity self.old self.new }
+        ensures stays { KeepsMedium M.identity self.old self.new }
     {
         let reply = self.tell(Event::Files);
         put_file(&reply, number, out, name)
@@ -188,19 +188,19 @@ impl<M: SteadyMedium + Drop> Desk<M> {
     /// How the recorder is: 0, or 30.
     pub fn status(&mut self, out: &mut StatusOut) -> u32
         ensures does { DoesEvent M.disk self.old events.Status
-            (λ reply. (result ≡ number_of reply) × (out.new ≡ status_given reply out.old)) self.new }
-        ensures stays { Stays M.identity self.old self.new }
+            (λ reply. (result ≡ reply_number reply) × (out.new ≡ status_given reply out.old)) self.new }
+        ensures stays { KeepsMedium M.identity self.old self.new }
     {
         let reply = self.tell(Event::Status);
         *out = status_in(&reply, *out);
-        number_of(&reply)
+        reply_number(&reply)
     }
 
     /// How the channel at this place of the settings is, from 0: 0, or 30, or 43 where there are fewer.
     pub fn channel(&mut self, place: usize, out: &mut ChannelOut) -> u32
         ensures does { DoesEvent M.disk self.old events.Status
             (λ reply. (result ≡ lane_place reply place) × (out.new ≡ channel_given reply place out.old)) self.new }
-        ensures stays { Stays M.identity self.old self.new }
+        ensures stays { KeepsMedium M.identity self.old self.new }
     {
         let reply = self.tell(Event::Status);
         put_channel(&reply, place, out)

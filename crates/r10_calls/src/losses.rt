@@ -2,16 +2,18 @@
 
 ghost use Rattle.std.specs.Prelude.{◌≡◌, None, Some, map};
 ghost use Rattle.r10_body.specs.Gaps.{told_lost};
+ghost use Rattle.r10_body.specs.Statuses.{place_status};
 ghost use Rattle.r10_lane.specs.Losing.{losses_of};
-ghost use Rattle.r10_machine.specs.Machine.{change_first};
-ghost use Rattle.r10_calls.specs.Accounts.{is_on};
-ghost use Rattle.r10_calls.specs.Losses.{HandsOn, entry_of, erased_with, gone_lost, handed_on, handing, losses_at, untold};
-ghost use Rattle.r10_calls.specs.Told.{Stays};
+ghost use Rattle.r10_machine.specs.Machine.{change_first, entry_of};
+ghost use Rattle.r10_calls.specs.Accounts.{is_counted_on};
+ghost use Rattle.r10_calls.specs.Losses.{HandsOn, lost_with_erased, gone_lost, handed_on, handing, losses_at, untold};
+ghost use Rattle.r10_calls.specs.EventCalls.{KeepsMedium};
 
 use crate::accounts::{Accepted, AccountOut, place_of};
 use crate::desk::Desk;
-use crate::entry_out::{EntryOut, PLACE, lost_in};
+use crate::entry_out::{EntryOut, lost_in};
 use crate::hand::{is_next_in, next_fields};
+use r10_body::status::PLACE;
 use r10_body::{Entry, Sample};
 use r10_lane::Losses;
 use r10_machine::Reply;
@@ -47,7 +49,7 @@ fn gone_lost(losses: Losses, handed_lost: u64) -> u64
 
 /// One more message of a channel was handed on, and the loss before it.
 fn count_handed(accepted: &mut Vec<Accepted>, channel: u16, lost: u64)
-    ensures { accepted.new.items ≡ change_first (is_on channel) (handing lost) accepted.old.items }
+    ensures { accepted.new.items ≡ change_first (is_counted_on channel) (handing lost) accepted.old.items }
 {
     let Some(at) = place_of(accepted.as_slice(), channel) else {
         return;
@@ -88,7 +90,8 @@ pub fn untold(account: &AccountOut, losses: &LossesOut, found: u64, found_lost: 
 impl<M: SteadyMedium + Drop> Desk<M> {
     /// The losses of the channel at this place of the settings, from 0, in every mode: 0, or 43 where there are fewer.
     pub fn losses(&self, place: usize, accepted: &[Accepted], out: &mut LossesOut) -> u32
-        ensures number { result ≡ elim (losses_at accepted.now self.now.world.recorder.lanes place) [ None ↦ 43 | Some x ↦ 0 ] }
+        ensures number { result ≡ elim (losses_at accepted.now self.now.world.recorder.lanes place)
+            [ None ↦ place_status | Some x ↦ 0 ] }
         ensures given { out.new ≡ elim (losses_at accepted.now self.now.world.recorder.lanes place)
             [ None ↦ out.old | Some x ↦ x ] }
     {
@@ -112,7 +115,7 @@ impl<M: SteadyMedium + Drop> Desk<M> {
     /// Counts the losses before erased messages, right after an erase: of each channel all losses but those since the last accepted
     /// message, before those that wait, and before those that were handed on.
     pub fn count_erased(&self, accepted: &mut Vec<Accepted>)
-        ensures { accepted.new.items ≡ map (erased_with self.now.world.recorder.lanes) accepted.old.items }
+        ensures { accepted.new.items ≡ map (lost_with_erased self.now.world.recorder.lanes) accepted.old.items }
     {
         for at in 0..accepted.len() {
             accepted[at] = self.erased_of(accepted[at]);
@@ -121,7 +124,7 @@ impl<M: SteadyMedium + Drop> Desk<M> {
 
     /// What is counted of a channel after an erase.
     fn erased_of(&self, one: Accepted) -> Accepted
-        ensures { result ≡ erased_with self.now.world.recorder.lanes one }
+        ensures { result ≡ lost_with_erased self.now.world.recorder.lanes one }
     {
         match self.world.losses(one.channel) {
             Ok(losses) => Accepted {
@@ -143,7 +146,7 @@ impl<M: SteadyMedium + Drop> Desk<M> {
     ) -> u32
         ensures hands { HandsOn M.disk channel self.old accepted.old.items there.old out.old
             result self.new accepted.new.items there.new out.new }
-        ensures stays { Stays M.identity self.old self.new }
+        ensures stays { KeepsMedium M.identity self.old self.new }
     {
         match self.world.take_waiting(channel) {
             Ok(first) => {

@@ -1,12 +1,12 @@
 //! Offers of messages, by their kind. Each answers 0, or 6 to 12, or 30.
 
 ghost use Rattle.std.specs.Prelude.{◌≡◌};
-ghost use Rattle.r10_calls.specs.Told.{DoesEvent, Stays, number_of};
+ghost use Rattle.r10_calls.specs.EventCalls.{DoesEvent, KeepsMedium, reply_number};
 ghost use Rattle.r10_machine.specs.declared.event.Event.TheVariants as events;
 ghost use Rattle.r10_body.specs.Messages.{arinc_message, bus_message, data_message, discrete_message, uart_message};
 
-use crate::desk::{Desk, number_of};
-use crate::entry_out::OUT_OF_MEMORY;
+use crate::desk::{Desk, reply_number};
+use r10_body::status::OUT_OF_MEMORY;
 use r10_body::{ArincMessage, BusMessage, DataMessage, DiscreteMessage, Message, UartMessage};
 use r10_count::{Bytes, Items};
 use r10_machine::Event;
@@ -14,15 +14,16 @@ use r10_region::SteadyMedium;
 
 impl<M: SteadyMedium + Drop> Desk<M> {
     fn offer(&mut self, channel: u16, count: u64, message: Message) -> u32
-        ensures does { DoesEvent M.disk self.old (events.Offer channel count message) (λ reply. result ≡ number_of reply) self.new }
-        ensures stays { Stays M.identity self.old self.new }
+        ensures does { DoesEvent M.disk self.old (events.Offer channel count message)
+            (λ reply. result ≡ reply_number reply) self.new }
+        ensures stays { KeepsMedium M.identity self.old self.new }
     {
         let reply = self.tell(Event::Offer {
             channel,
             count,
             message,
         });
-        number_of(&reply)
+        reply_number(&reply)
     }
 
     /// A message of a serial line, at most 65,535 bytes.
@@ -35,8 +36,8 @@ impl<M: SteadyMedium + Drop> Desk<M> {
         bytes: &[u8],
     ) -> u32
         ensures does { DoesEvent M.disk self.old (events.Offer channel count (uart_message parity sub bytes.now))
-            (λ reply. result ≡ number_of reply) self.new }
-        ensures stays { Stays M.identity self.old self.new }
+            (λ reply. result ≡ reply_number reply) self.new }
+        ensures stays { KeepsMedium M.identity self.old self.new }
     {
         let Ok(bytes) = Bytes::copy_of(self.alloc, bytes) else {
             return OUT_OF_MEMORY;
@@ -55,8 +56,8 @@ impl<M: SteadyMedium + Drop> Desk<M> {
         words: &[u16],
     ) -> u32
         ensures does { DoesEvent M.disk self.old (events.Offer channel count (bus_message status gap words.now))
-            (λ reply. result ≡ number_of reply) self.new }
-        ensures stays { Stays M.identity self.old self.new }
+            (λ reply. result ≡ reply_number reply) self.new }
+        ensures stays { KeepsMedium M.identity self.old self.new }
     {
         let Ok(words) = Vec::from_slice(self.alloc, words) else {
             return OUT_OF_MEMORY;
@@ -78,8 +79,8 @@ impl<M: SteadyMedium + Drop> Desk<M> {
         word: u32,
     ) -> u32
         ensures does { DoesEvent M.disk self.old (events.Offer channel count (arinc_message bus format parity high word))
-            (λ reply. result ≡ number_of reply) self.new }
-        ensures stays { Stays M.identity self.old self.new }
+            (λ reply. result ≡ reply_number reply) self.new }
+        ensures stays { KeepsMedium M.identity self.old self.new }
     {
         let message = Message::Arinc(ArincMessage {
             bus,
@@ -94,8 +95,8 @@ impl<M: SteadyMedium + Drop> Desk<M> {
     /// The states of a channel's discretes, a bit for each.
     pub fn offer_discrete(&mut self, channel: u16, count: u64, states: u32) -> u32
         ensures does { DoesEvent M.disk self.old (events.Offer channel count (discrete_message states))
-            (λ reply. result ≡ number_of reply) self.new }
-        ensures stays { Stays M.identity self.old self.new }
+            (λ reply. result ≡ reply_number reply) self.new }
+        ensures stays { KeepsMedium M.identity self.old self.new }
     {
         let message = Message::Discrete(DiscreteMessage { states });
         self.offer(channel, count, message)
@@ -112,8 +113,8 @@ impl<M: SteadyMedium + Drop> Desk<M> {
         bytes: &[u8],
     ) -> u32
         ensures does { DoesEvent M.disk self.old (events.Offer channel count (data_message data_error format sub bytes.now))
-            (λ reply. result ≡ number_of reply) self.new }
-        ensures stays { Stays M.identity self.old self.new }
+            (λ reply. result ≡ reply_number reply) self.new }
+        ensures stays { KeepsMedium M.identity self.old self.new }
     {
         let Ok(bytes) = Bytes::copy_of(self.alloc, bytes) else {
             return OUT_OF_MEMORY;

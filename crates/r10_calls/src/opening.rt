@@ -1,6 +1,7 @@
 //! A medium is formatted, and a recorder is opened over it, with the settings of a script.
 
 ghost use Rattle.std.specs.Prelude.{◌≡◌, ◌⊎◌, IfErr, IfOk, Some, length, map};
+ghost use Rattle.r10_body.specs.Statuses.{blocks_status, medium_status, memory_status, script_status};
 ghost use Rattle.r10_medium.specs.Disk.{Rose};
 ghost use Rattle.r10_calls.specs.Accounts.{not_yet};
 ghost use Rattle.r10_calls.specs.Faults.{no_fault};
@@ -9,9 +10,9 @@ ghost use Rattle.r10_calls.specs.Opening.{FormatsByScript, FormatsOver, HasOther
 
 use crate::accounts::{Accepted, none_accepted};
 use crate::desk::Desk;
-use crate::entry_out::{BLOCKS, MEDIUM, OUT_OF_MEMORY, SCRIPT};
 use crate::fault::FaultOut;
 use crate::place::WorldPlace;
+use r10_body::status::{BLOCKS, MEDIUM, OUT_OF_MEMORY, SCRIPT};
 use r10_machine::{Reply, Settings};
 use r10_medium::BlockMedium;
 use r10_region::{Bound, NamesMedium, SteadyMedium};
@@ -23,10 +24,10 @@ use std::marker::Brand;
 
 /// The settings of a script of so many blocks, or 30, 40 where it is none, or 41 where it has another number of blocks. Its steps
 /// are not done.
-fn settings_of(alloc: Global, script: &[u8], blocks: usize) -> Result<Settings, u32>
+pub(crate) fn settings_of(alloc: Global, script: &[u8], blocks: usize) -> Result<Settings, u32>
     ensures settings { IfOk result (λ s. IsSettings script.now s × (blocks ≡ s.blocks)) }
-    ensures refused { IfErr result (λ n. (n ≡ 30) ⊎ (n ≡ 40) ⊎ (n ≡ 41)) }
-    ensures other { IfErr result (λ n. n ≡ 41 → HasOtherBlocks script.now blocks) }
+    ensures refused { IfErr result (λ n. (n ≡ memory_status) ⊎ (n ≡ script_status) ⊎ (n ≡ blocks_status)) }
+    ensures other { IfErr result (λ n. n ≡ blocks_status → HasOtherBlocks script.now blocks) }
 {
     match read_script(alloc, script) {
         Ok(Script { settings, .. }) => {
@@ -45,10 +46,11 @@ fn settings_of(alloc: Global, script: &[u8], blocks: usize) -> Result<Settings, 
 fn format_one<M: BlockMedium>(alloc: Global, medium: &mut M, script: &[u8]) -> u32
     ensures formats { result ≡ 0 → FormatsByScript script.now (M.disk medium.new) }
     ensures over { result ≡ 0 → FormatsOver script.now (M.disk medium.old).blocks (M.disk medium.new) }
-    ensures untouched { (result ≡ 30) ⊎ (result ≡ 40) ⊎ (result ≡ 41) → medium.new ≡ medium.old }
-    ensures failed { result ≡ 28 → Rose (M.disk medium.old).failures (M.disk medium.new).failures }
-    ensures other { result ≡ 41 → HasOtherBlocks script.now (length (M.disk medium.old).blocks) }
-    ensures numbers { (result ≡ 0) ⊎ (result ≡ 28) ⊎ (result ≡ 30) ⊎ (result ≡ 40) ⊎ (result ≡ 41) }
+    ensures untouched { (result ≡ memory_status) ⊎ (result ≡ script_status) ⊎ (result ≡ blocks_status) → medium.new ≡ medium.old }
+    ensures failed { result ≡ medium_status → Rose (M.disk medium.old).failures (M.disk medium.new).failures }
+    ensures other { result ≡ blocks_status → HasOtherBlocks script.now (length (M.disk medium.old).blocks) }
+    ensures numbers { (result ≡ 0) ⊎ (result ≡ medium_status) ⊎ (result ≡ memory_status) ⊎ (result ≡ script_status)
+        ⊎ (result ≡ blocks_status) }
 {
     match settings_of(alloc, script, medium.blocks()) {
         Ok(settings) => match r10_volume::format(medium, &settings) {
@@ -68,10 +70,11 @@ fn format_bound<M: SteadyMedium, N: NamesMedium>(
     requires { Some (M.identity medium) ≡ N.medium }
     ensures formats { result.0 ≡ 0 → FormatsByScript script.now (M.disk result.1) }
     ensures over { result.0 ≡ 0 → FormatsOver script.now (M.disk medium).blocks (M.disk result.1) }
-    ensures untouched { (result.0 ≡ 30) ⊎ (result.0 ≡ 40) ⊎ (result.0 ≡ 41) → result.1 ≡ medium }
-    ensures failed { result.0 ≡ 28 → Rose (M.disk medium).failures (M.disk result.1).failures }
-    ensures other { result.0 ≡ 41 → HasOtherBlocks script.now (length (M.disk medium).blocks) }
-    ensures numbers { (result.0 ≡ 0) ⊎ (result.0 ≡ 28) ⊎ (result.0 ≡ 30) ⊎ (result.0 ≡ 40) ⊎ (result.0 ≡ 41) }
+    ensures untouched { (result.0 ≡ memory_status) ⊎ (result.0 ≡ script_status) ⊎ (result.0 ≡ blocks_status) → result.1 ≡ medium }
+    ensures failed { result.0 ≡ medium_status → Rose (M.disk medium).failures (M.disk result.1).failures }
+    ensures other { result.0 ≡ blocks_status → HasOtherBlocks script.now (length (M.disk medium).blocks) }
+    ensures numbers { (result.0 ≡ 0) ⊎ (result.0 ≡ medium_status) ⊎ (result.0 ≡ memory_status) ⊎ (result.0 ≡ script_status)
+        ⊎ (result.0 ≡ blocks_status) }
     ensures named { Some (M.identity result.1) ≡ N.medium }
 {
     let mut bound = Bound::<M, N>::new(medium);
@@ -85,10 +88,11 @@ fn format_bound<M: SteadyMedium, N: NamesMedium>(
 pub fn format<M: SteadyMedium>(alloc: Global, medium: M, script: &[u8]) -> (u32, M)
     ensures formats { result.0 ≡ 0 → FormatsByScript script.now (M.disk result.1) }
     ensures over { result.0 ≡ 0 → FormatsOver script.now (M.disk medium).blocks (M.disk result.1) }
-    ensures untouched { (result.0 ≡ 30) ⊎ (result.0 ≡ 40) ⊎ (result.0 ≡ 41) → result.1 ≡ medium }
-    ensures failed { result.0 ≡ 28 → Rose (M.disk medium).failures (M.disk result.1).failures }
-    ensures other { result.0 ≡ 41 → HasOtherBlocks script.now (length (M.disk medium).blocks) }
-    ensures numbers { (result.0 ≡ 0) ⊎ (result.0 ≡ 28) ⊎ (result.0 ≡ 30) ⊎ (result.0 ≡ 40) ⊎ (result.0 ≡ 41) }
+    ensures untouched { (result.0 ≡ memory_status) ⊎ (result.0 ≡ script_status) ⊎ (result.0 ≡ blocks_status) → result.1 ≡ medium }
+    ensures failed { result.0 ≡ medium_status → Rose (M.disk medium).failures (M.disk result.1).failures }
+    ensures other { result.0 ≡ blocks_status → HasOtherBlocks script.now (length (M.disk medium).blocks) }
+    ensures numbers { (result.0 ≡ 0) ⊎ (result.0 ≡ medium_status) ⊎ (result.0 ≡ memory_status) ⊎ (result.0 ≡ script_status)
+        ⊎ (result.0 ≡ blocks_status) }
     ensures stays { M.identity result.1 ≡ M.identity medium }
 {
     format_bound::<M, Brand>(alloc, medium, script)
@@ -105,8 +109,8 @@ pub fn open<M: SteadyMedium + Drop>(
     ensures opens { IfOk result (λ r. OpensRecorder M.disk script.now medium r.0.world) }
     ensures accepted { IfOk result (λ r. r.1.items ≡ map not_yet r.0.world.recorder.kept.config.channels) }
     ensures empty { IfOk result (λ r. (r.0.fault ≡ no_fault) × (r.0.hand ≡ replies.Done)) }
-    ensures refused { IfErr result (λ n. (n ≡ 30) ⊎ (n ≡ 40) ⊎ (n ≡ 41)) }
-    ensures other { IfErr result (λ n. n ≡ 41 → HasOtherBlocks script.now (length (M.disk medium).blocks)) }
+    ensures refused { IfErr result (λ n. (n ≡ memory_status) ⊎ (n ≡ script_status) ⊎ (n ≡ blocks_status)) }
+    ensures other { IfErr result (λ n. n ≡ blocks_status → HasOtherBlocks script.now (length (M.disk medium).blocks)) }
 {
     let settings = settings_of(alloc, script, medium.blocks())?;
     let Ok(accepted) = none_accepted(alloc, settings.channels()) else {

@@ -34,7 +34,7 @@ impl<M: SteadyMedium> Model for WorldPlace<M> {
 }
 
 impl<M: SteadyMedium + Drop> WorldPlace<M> {
-    ghost use Rattle.r10_calls.specs.Told.{ShowsMedium, StepsToReply, leaves_medium};
+    ghost use Rattle.r10_calls.specs.EventCalls.{ShowsMedium, StepsToReply, leaves_medium};
     ghost use Rattle.r10_world.specs.State.{number_on};
 
     /// The place of this world.

@@ -1,7 +1,7 @@
 //! An event is done over a medium that stays the one that it is.
 
 ghost use Rattle.std.specs.Prelude.{◌≡◌, Some, true};
-ghost use Rattle.r10_calls.specs.Told.{StepsToReply, leaves_medium};
+ghost use Rattle.r10_calls.specs.EventCalls.{StepsToReply, leaves_medium};
 
 use r10_machine::{Event, Reply};
 use r10_medium::BlockMedium;

@@ -19,21 +19,24 @@ in_hand (Some x) = x ∷ []
 abbrev pub why_not : ℕ → ℕ
 why_not number = cond (number == 12) 0 number
 
--- The loss before it was counted, it was offered, and nothing is in hand. Or an offer of it would be refused: then nothing was done, and it is in hand as it was.
+-- The loss before it was counted, it was offered, and nothing is in hand. Or an offer of it would be refused: then nothing was
+-- done, and it is in hand as it was.
 abbrev pub CarriesSample : {M : Type 0} → (M → Disk) → ℕ → DeskValue M → Sample → Carry → DeskValue M → Option Sample → Type 0
 CarriesSample disk channel old x is new hand =
     ((is ≡ record { number = 0; channel = channel; carried = true }) × (hand ≡ None) × DoesEach disk old (events_of channel x) new)
-    ⊎ ((number : ℕ) × WouldRefuse old channel x number × (is ≡ record { number = why_not number; channel = channel; carried = false })
+    ⊎ ((number : ℕ) × WouldRefuse old channel x number
+    × (is ≡ record { number = why_not number; channel = channel; carried = false })
     × (hand ≡ Some x) × (new ≡ old))
 
 -- of these samples, which are at most one, the first; where there is none, nothing is done
 abbrev pub CarriesFirst : {M : Type 0} → (M → Disk) → ℕ → DeskValue M → List Sample → Carry → DeskValue M → Option Sample → Type 0
-CarriesFirst disk channel old [] is new hand = (is ≡ record { number = 0; channel = channel; carried = false }) × (new ≡ old) × (hand ≡ None)
+CarriesFirst disk channel old [] is new hand = (is ≡ record { number = 0; channel = channel; carried = false }) × (new ≡ old)
+    × (hand ≡ None)
 CarriesFirst disk channel old (x ∷ []) is new hand = CarriesSample disk channel old x is new hand
 CarriesFirst disk channel old (x ∷ y ∷ rest) is new hand = ⊥
 
 -- the next was received, where none was in hand: one that is known to come next for certain
-pub record Reaches (from : Receiving) (hand : Option Sample) (to : Receiving) (now : Option Sample) : Type 0 where
+pub record ReachesNext (from : Receiving) (hand : Option Sample) (to : Receiving) (now : Option Sample) : Type 0 where
   pub samples : List Sample
   pub took : TookReceived from samples to
   pub hand_is : in_hand now ≡ in_hand hand ++ samples
@@ -43,7 +46,8 @@ pub record Reaches (from : Receiving) (hand : Option Sample) (to : Receiving) (n
 -- ---- a call
 
 -- the sample in hand was carried, or, where there was none, the next that was received: one that is known to come next for certain
-pub record Carries {M : Type 0} (disk : M → Disk) (old : DeskValue M) (from : Carrier) (is : Carry) (new : DeskValue M) (to : Carrier) : Type 0 where
+pub record Carries {M : Type 0} (disk : M → Disk) (old : DeskValue M) (from : Carrier) (is : Carry) (new : DeskValue M)
+    (to : Carrier) : Type 0 where
   pub samples : List Sample
   pub took : TookReceived from.outlet samples to.outlet
   pub place : to.place ≡ from.place

@@ -9,7 +9,7 @@ use Rattle.r10_body.specs.declared.spec.ChannelSpec.{ChannelSpec}
 use Rattle.r10_machine.specs.declared.event.Event.TheVariants as events
 use Rattle.r10_calls.specs.Carrying.{events_of}
 use Rattle.r10_carrier.specs.Carrying.{in_hand, why_not}
-use Rattle.r10_carrier.specs.Opening.{place_of}
+use Rattle.r10_carrier.specs.Opening.{channel_place}
 
 abbrev sample : Gap → Sample
 sample gap = record { count = 70; message = discrete_message 9; gap = gap }
@@ -38,10 +38,10 @@ it_falls : why_not 11 ≡ 11
 it_falls = refl
 
 -- where a channel is
-second_is_at_1 : place_of (channel 4 ∷ channel 5 ∷ channel 6 ∷ []) 5 ≡ Some 1
+second_is_at_1 : channel_place (channel 4 ∷ channel 5 ∷ channel 6 ∷ []) 5 ≡ Some 1
 second_is_at_1 = refl
 
-a_fourth_is_nowhere : place_of (channel 4 ∷ channel 5 ∷ channel 6 ∷ []) 7 ≡ None
+a_fourth_is_nowhere : channel_place (channel 4 ∷ channel 5 ∷ channel 6 ∷ []) 7 ≡ None
 a_fourth_is_nowhere = refl
 
 nothing_is_in_hand : in_hand None ≡ []

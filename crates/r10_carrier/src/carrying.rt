@@ -1,24 +1,20 @@
 //! Samples are carried.
 
 ghost use Rattle.std.specs.Prelude.{◌≡◌, false, true, None};
-ghost use Rattle.r10_calls.specs.Told.{Stays};
-ghost use Rattle.r10_carrier.specs.Carrying.{Carries, CarriesFirst, Reaches, in_hand, why_not};
+ghost use Rattle.r10_body.specs.Statuses.{closed_status};
+ghost use Rattle.r10_calls.specs.EventCalls.{KeepsMedium};
+ghost use Rattle.r10_carrier.specs.Carrying.{Carries, CarriesFirst, ReachesNext, in_hand, why_not};
 ghost use Rattle.r10_ends.specs.Ends.{OutletGoes};
 
 use crate::carry::Carry;
 use r10_body::Sample;
+use r10_body::status::{CLOSED, OVERFLOW};
 use r10_calls::Desk;
 use r10_ends::{Carrier, OutletEnd};
 use r10_lane::LaneOut;
 use r10_port::Outlet;
 use r10_region::SteadyMedium;
 use std::alloc::Global;
-
-/// The number that is answered where a handle is not open.
-const CLOSED: u32 = 44;
-
-/// The number of the refusal of an offer into a lane that is full.
-const OVERFLOW: u32 = 12;
 
 /// Why a sample is not carried whose offer would be refused by this number: a lane that is full is no fault.
 fn why_not(number: u32) -> u32
@@ -34,7 +30,7 @@ fn carry_hand<M: SteadyMedium + Drop>(
     hand: &mut Option<Sample>,
 ) -> Carry
     ensures does { CarriesFirst M.disk channel desk.old (in_hand hand.old) result desk.new hand.new }
-    ensures stays { Stays M.identity desk.old desk.new }
+    ensures stays { KeepsMedium M.identity desk.old desk.new }
 {
     let Some(sample) = hand.take() else {
         return Carry {
@@ -62,7 +58,7 @@ fn carry_hand<M: SteadyMedium + Drop>(
 
 /// Takes the next sample in hand, if none is in it.
 fn reach(outlet: &mut Outlet, hand: &mut Option<Sample>)
-    ensures { Reaches outlet.old hand.old outlet.new hand.new }
+    ensures { ReachesNext outlet.old hand.old outlet.new hand.new }
 {
     if hand.is_none() {
         *hand = outlet.take();
@@ -72,7 +68,7 @@ fn reach(outlet: &mut Outlet, hand: &mut Option<Sample>)
 /// Carries the sample in hand, or, if there is none, the next.
 fn carry_into_lane<M: SteadyMedium + Drop>(carrier: &mut Carrier, desk: &mut Desk<M>) -> Carry
     ensures does { Carries M.disk desk.old carrier.old result desk.new carrier.new }
-    ensures stays { Stays M.identity desk.old desk.new }
+    ensures stays { KeepsMedium M.identity desk.old desk.new }
 {
     let channel = carrier.outlet.spec().id;
     reach(&mut carrier.outlet, &mut carrier.hand);
@@ -88,9 +84,9 @@ pub fn carry_one<M: SteadyMedium + Drop>(
 ) -> Carry
     ensures does { outlet.old.opened ≡ true → OutletGoes outlet.old outlet.new
         (λ from to. Carries M.disk desk.old from result desk.new to) }
-    ensures closed { outlet.old.opened ≡ false → (result ≡ record { number = 44; channel = 0; carried = false })
+    ensures closed { outlet.old.opened ≡ false → (result ≡ record { number = closed_status; channel = 0; carried = false })
         × (outlet.new ≡ outlet.old) × (desk.new ≡ desk.old) }
-    ensures stays { Stays M.identity desk.old desk.new }
+    ensures stays { KeepsMedium M.identity desk.old desk.new }
 {
     if !outlet.is_open() {
         return Carry {

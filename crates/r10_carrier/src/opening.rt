@@ -1,33 +1,23 @@
 //! The ends of a lane between threads are made, for a channel of a script.
 
 ghost use Rattle.std.specs.Prelude.{◌≡◌, ◌≢◌, ◌⊎◌, ◌↔◌, ◌<◌, IfErr, IfOk, Some, length, slice_get};
+ghost use Rattle.r10_body.specs.Statuses.{no_channel_status, memory_status, open_status, script_status};
 ghost use Rattle.r10_ends.specs.Ends.{IsOpenOne};
-ghost use Rattle.r10_carrier.specs.Opening.{LacksChannel, OpensLane, place_of};
+ghost use Rattle.r10_carrier.specs.Opening.{LacksChannel, OpensLane, channel_place};
 ghost use Rattle.r10_calls.specs.Opening.{IsSettings};
 
 use r10_body::ChannelSpec;
+use r10_body::status::{NO_CHANNEL, OPEN, OUT_OF_MEMORY, SCRIPT};
 use r10_ends::{OutletEnd, PortEnd, open_ends};
 use r10_machine::Settings;
 use r10_script::{Script, read_script};
 use r10_text::ScriptFault;
 use std::alloc::Global;
 
-/// The number that is answered where the settings have no such channel.
-const NO_CHANNEL: u32 = 6;
-
-/// The number that is answered where the script can't be taken.
-const SCRIPT: u32 = 40;
-
-/// The number that is answered where an end is open already.
-const OPEN: u32 = 45;
-
-/// The number of the refusal for want of memory.
-const OUT_OF_MEMORY: u32 = 30;
-
 /// The settings of a script, or 30, or 40 where it is none.
 fn settings_of(alloc: Global, script: &[u8]) -> Result<Settings, u32>
     ensures settings { IfOk result (λ s. IsSettings script.now s) }
-    ensures refused { IfErr result (λ n. (n ≡ 30) ⊎ (n ≡ 40)) }
+    ensures refused { IfErr result (λ n. (n ≡ memory_status) ⊎ (n ≡ script_status)) }
 {
     match read_script(alloc, script) {
         Ok(Script { settings, .. }) => Ok(settings),
@@ -37,8 +27,8 @@ fn settings_of(alloc: Global, script: &[u8]) -> Result<Settings, u32>
 }
 
 /// The place of a channel.
-fn place_of(channels: &[ChannelSpec], channel: u16) -> Option<usize>
-    ensures { result ≡ place_of channels.now channel }
+fn channel_place(channels: &[ChannelSpec], channel: u16) -> Option<usize>
+    ensures { result ≡ channel_place channels.now channel }
 {
     channels.iter().position(|spec| spec.id == channel)
 }
@@ -61,10 +51,11 @@ pub fn open_lane(
     outlet: &mut OutletEnd,
 ) -> u32
     ensures opens { result ≡ 0 → OpensLane script.now channel port.new outlet.new }
-    ensures unknown { result ≡ 6 → LacksChannel script.now channel }
+    ensures unknown { result ≡ no_channel_status → LacksChannel script.now channel }
     ensures untouched { result ≢ 0 → (port.new ≡ port.old) × (outlet.new ≡ outlet.old) }
-    ensures opened { (result ≡ 45) ↔ IsOpenOne port.old outlet.old }
-    ensures numbers { (result ≡ 0) ⊎ (result ≡ 6) ⊎ (result ≡ 30) ⊎ (result ≡ 40) ⊎ (result ≡ 45) }
+    ensures opened { (result ≡ open_status) ↔ IsOpenOne port.old outlet.old }
+    ensures numbers { (result ≡ 0) ⊎ (result ≡ no_channel_status) ⊎ (result ≡ memory_status) ⊎ (result ≡ script_status)
+        ⊎ (result ≡ open_status) }
 {
     if port.is_open() || outlet.is_open() {
         return OPEN;
@@ -73,7 +64,7 @@ pub fn open_lane(
         Ok(settings) => settings,
         Err(number) => return number,
     };
-    let Some(place) = place_of(settings.channels(), channel) else {
+    let Some(place) = channel_place(settings.channels(), channel) else {
         return NO_CHANNEL;
     };
     let spec = spec_at(settings.channels(), place);

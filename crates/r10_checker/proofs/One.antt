@@ -1,6 +1,6 @@
 -- A file has one verdict.
 use Rattle.std.proofs.Common.{◌≡◌, ℕ, List, refl, ap, ◌∙◌}
-use Rattle.r10_packet_rules.proofs.Ways.{one_count, one_offset, one_reason, apart_files}
+use Rattle.r10_packet_rules.proofs.OneWayApart.{one_count, one_offset, one_reason, apart_files}
 use Rattle.r10_packet_rules.proofs.Written.{strict_foreign}
 use Rattle.r10_checker.specs.Verdict.{IsVerdict}
 use Rattle.r10_checker.specs.declared.check.Verdict.{Verdict}

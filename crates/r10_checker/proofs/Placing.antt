@@ -10,7 +10,7 @@ use Rattle.r10_dirchain.specs.Chain.{HoldsBlock, IsDirectory}
 use Rattle.r10_dirchain.specs.Mount.{listed, listed_in}
 use Rattle.r10_dirchain.specs.declared.chain.ChainBlock.{ChainBlock}
 use Rattle.r10_dirchain.specs.declared.chain.ListedFile.{ListedFile}
-use Rattle.r10_dirchain.proofs.Standing.{each_of}
+use Rattle.r10_dirchain.proofs.RulesAsFacts.{each_of}
 use Rattle.r10_checker.specs.Place.{inside_rule, inside_rules, is_inside, IsPlaced}
 
 abbrev HasRoom : ListedFile → Type 0

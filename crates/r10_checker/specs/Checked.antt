@@ -23,11 +23,13 @@ pub record IsFileVerdict (image : Image) (f : ListedFile) (said : FileVerdict) :
 -- the medium has a directory, whose files all lie inside it, and this is stated of them, file by file
 abbrev pub AreVerdicts : Image → List FileVerdict → Type 0
 AreVerdicts image said =
-    (chain : List ChainBlock) × IsDirectory image chain × (first_broken (inside_rules (length image) chain) ≡ None) × AllZip (IsFileVerdict image) (listed chain) said
+    (chain : List ChainBlock) × IsDirectory image chain × (first_broken (inside_rules (length image) chain) ≡ None)
+    × AllZip (IsFileVerdict image) (listed chain) said
 
 -- the first block that the chain can't take, or that lists the first file outside the medium
 abbrev pub IsRefusedBlock : Image → ℕ → Type 0
-IsRefusedBlock image n = IsBad image n ⊎ ((chain : List ChainBlock) × IsDirectory image chain × (first_broken (inside_rules (length image) chain) ≡ Some n))
+IsRefusedBlock image n = IsBad image n ⊎ ((chain : List ChainBlock) × IsDirectory image chain
+    × (first_broken (inside_rules (length image) chain) ≡ Some n))
 
 -- what a refusal says of the medium; there are no others
 abbrev pub IsRefused : Image → Refusal → Type 0

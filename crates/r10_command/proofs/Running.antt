@@ -7,7 +7,7 @@ use Rattle.r10_machine.specs.Config.{Config}
 use Rattle.r10_machine.specs.Machine.{Machine, change_last, fresh}
 use Rattle.r10_medium.specs.Disk.{Disk, Image}
 use Rattle.r10_world.specs.State.{WorldState}
-use Rattle.r10_world.specs.Telling.{WorldRuns, WorldStandsFor}
+use Rattle.r10_world.specs.WorldSteps.{WorldRuns, WorldStandsFor}
 use Rattle.r10_machine.specs.Says.{MediumSays}
 use Rattle.r10_machine.specs.Step.{Run}
 use Rattle.r10_machine.specs.declared.event.Event.{Event}
@@ -77,10 +77,10 @@ last_is : (is : List Image) (image : Image) → last_or (Some image) (change_las
 last_is [] image = refl
 last_is (i ∷ is) image = put_last (Some image) i is image
 
-pub plays : {M : Type 0} (disk : M → Disk) (s config : Config) (events told : List Event) (world : WorldState M) (old new : Option (List ℕ)) → config ≡ s → told ≡ events
-    → world.recorder.kept.config ≡ s → (disk world.recorder.medium).failures ≡ 0 → RunsAndWrites disk config (fresh s.channels [] 0) told world old new
+pub plays : {M : Type 0} (disk : M → Disk) (s config : Config) (events reported : List Event) (world : WorldState M) (old new : Option (List ℕ)) → config ≡ s → reported ≡ events
+    → world.recorder.kept.config ≡ s → (disk world.recorder.medium).failures ≡ 0 → RunsAndWrites disk config (fresh s.channels [] 0) reported world old new
     → PlaysScript s events (disk world.recorder.medium).blocks old new
-plays disk s config events told world old new same all kept never ran =
+plays disk s config events reported world old new same all kept never ran =
     let image = (disk world.recorder.medium).blocks in
     let run : Run s (fresh s.channels [] 0) events ran.replies ran.images ran.machine = rw (same, all) at ran.run in
     let says : MediumSays s image ran.machine.files = subst (λ (k : Config). MediumSays k image ran.machine.files) kept ran.stands.says in

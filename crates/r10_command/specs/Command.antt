@@ -18,21 +18,25 @@ use Rattle.r10_command.specs.Written.{WritesFormatted}
 abbrev pub AsksScript : List (List ℕ) → Type 0
 AsksScript words = AsksSim words ⊎ AsksImage words
 
--- the words are those of a command that reads its input: a script, an image to be listed, a recording, or an image to be played, whatever the options of `play`
+-- the words are those of a command that reads its input: a script, an image to be listed, a recording, or an image to be
+-- played, whatever the options of `play`
 abbrev pub AsksInput : List (List ℕ) → Type 0
 AsksInput words = AsksScript words ⊎ (AsksFiles words ⊎ (AsksCheck words ⊎ AsksCommand (codes "play") words))
 
 -- the words are those of `format`, with its options, and the image was written
 abbrev pub Formats : List (List ℕ) → Option (List ℕ) → Option (List ℕ) → Type 0
-Formats words old new = (format : FormatWords) × (AsksCommand (codes "format") words × GivesAll words format) × WritesFormatted format old new
+Formats words old new = (format : FormatWords) × (AsksCommand (codes "format") words × GivesAll words format)
+    × WritesFormatted format old new
 
 -- the entries that the words ask for
 abbrev pub selected : PlayWords → Selection
 selected play = record { file = play.file; channel = play.channel; from = play.from; to = play.to }
 
--- the words are those of `play`, with its options, or some are left out, and the entries of the image were written, or why there are none
+-- the words are those of `play`, with its options, or some are left out, and the entries of the image were written, or why
+-- there are none
 abbrev pub PlaysBack : List (List ℕ) → Option (List ℕ) → Option (List ℕ) → Option (List ℕ) → Outcome → Type 0
-PlaysBack words input old new outcome = (play : PlayWords) × (AsksCommand (codes "play") words × GivesSelection words play) × IfSome input (λ bytes. Plays (selected play) (image_blocks bytes) outcome old new)
+PlaysBack words input old new outcome = (play : PlayWords) × (AsksCommand (codes "play") words × GivesSelection words play)
+    × IfSome input (λ bytes. Plays (selected play) (image_blocks bytes) outcome old new)
 
 -- the words ask for help or the version, and a text was written
 abbrev pub WritesText : List (List ℕ) → Option (List ℕ) → Option (List ℕ) → Type 0

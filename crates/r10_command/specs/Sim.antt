@@ -18,10 +18,11 @@ use Rattle.r10_command.specs.Lines.{WritesLines}
 -- a text spells a script: these settings, and the steps of these events
 abbrev pub IsScript : List ℕ → Config → List Event → Type 0
 IsScript text settings events =
-    (table : Members) × (parse_document text ≡ Some table) × HasOnly script_keys table × AreScriptSettings table settings × AreSteps settings.channels table events
+    (table : Members) × (parse_document text ≡ Some table) × HasOnly script_keys table × AreScriptSettings table settings
+    × AreSteps settings.channels table events
 
--- The events are a run from a fresh recorder without files, on a medium in memory, which does not fail. The image is what this medium reads as
--- after the last event: the run's last one, and it says the machine's files.
+-- The events are a run from a fresh recorder without files, on a medium in memory, which does not fail. The image is what this
+-- medium reads as after the last event: the run's last one, and it says the machine's files.
 pub record RunsOnFresh (s : Config) (events : List Event) (replies : List Reply) (image : Image) : Type 0 where
   pub images : List Image
   pub end : Machine
@@ -38,9 +39,11 @@ pub record PlaysScript (s : Config) (events : List Event) (image : Image) (old n
 
 -- the text is a script, and was played
 abbrev pub Simulates : List ℕ → Option (List ℕ) → Option (List ℕ) → Type 0
-Simulates text old new = (settings : Config) × (events : List Event) × (image : Image) × IsScript text settings events × PlaysScript settings events image old new
+Simulates text old new = (settings : Config) × (events : List Event) × (image : Image) × IsScript text settings events
+    × PlaysScript settings events image old new
 
 -- the text is a script, and the image of the medium that its steps left was written
 abbrev pub WritesLeft : List ℕ → Option (List ℕ) → Option (List ℕ) → Type 0
 WritesLeft text old new =
-    (settings : Config) × (events : List Event) × (replies : List Reply) × (image : Image) × IsScript text settings events × RunsOnFresh settings events replies image × Appends old new (concat image)
+    (settings : Config) × (events : List Event) × (replies : List Reply) × (image : Image) × IsScript text settings events
+    × RunsOnFresh settings events replies image × Appends old new (concat image)

@@ -4,7 +4,7 @@ ghost use Rattle.std.specs.Prelude.{◌≡◌, ◌<◌, ◌+◌, ◌^◌, [], le
 ghost use Rattle.std.specs.Io.Buffered.{writer_buffer, writer_contents};
 ghost use Rattle.r10_machine.specs.Machine.{Machine, fresh};
 ghost use Rattle.r10_medium.specs.MemoryDisk.{memory_disk};
-ghost use Rattle.r10_world.specs.Telling.{WorldStandsFor};
+ghost use Rattle.r10_world.specs.WorldSteps.{WorldStandsFor};
 ghost use Rattle.r10_command.specs.Lines.{WritesLines, RunsAndWrites};
 ghost use Rattle.r10_command.specs.Sim.{IsScript, PlaysScript, Simulates};
 ghost use Rattle.r10_command.specs.Status.{fault_status};

@@ -25,7 +25,7 @@ use Rattle.r10_machine.specs.declared.mode.Mode.TheVariants as modes
 use Rattle.r10_machine.specs.declared.event.Event.{Event as EventValue}
 use Rattle.r10_machine.specs.declared.reply.Reply.{Reply as ReplyValue}
 use Rattle.r10_machine.specs.declared.reply.Reply.TheVariants.{Refused}
-use Rattle.r10_refinement.specs.Kept.{Kept, Work, unmounted, idle, recording, failed}
+use Rattle.r10_refinement.specs.KeptState.{Kept, Work, unmounted, idle, recording, failed}
 use Rattle.r10_refinement.specs.Means.{KeptStandsFor, LaneIsCounted, LanesAreCounted, NumbersAre}
 use Rattle.r10_medium.specs.Disk.{Image}
 use Rattle.r10_openfile.specs.Machines.{HasWaiting}
@@ -34,7 +34,7 @@ use Rattle.r10_openfile.proofs.AllLanes.{none_of}
 use Rattle.r10_openfile.proofs.Fitting.{drop_front}
 use Rattle.r10_openfile.proofs.Stops.{few_on}
 use Rattle.r10_control.specs.Leading.{AreLeft, KeptStepsTaking, none_taken}
-use Rattle.r10_control.specs.Standing.{IsReachedBy, StandFor, StaysShared, StepsAlike, StepsWith, last_behind, lanes_with, with_lanes, with_taken}
+use Rattle.r10_control.specs.RepresentedLanes.{IsReachedBy, StandFor, StaysShared, StepsAlike, StepsWith, last_behind, lanes_with, machine_with_lanes, lane_with_taken}
 use Rattle.r10_control.specs.Taking.{NoneBehind, StepsByTaking, taken_of}
 use Rattle.r10_control.proofs.Apart.{apart_of}
 
@@ -59,11 +59,11 @@ last_reached last low (x ∷ xs) high less (first, climbs) = last_reached (Some 
 
 -- ---- one lane
 
-pub same_spec : (o : Option (List Sample)) (xs : List Sample) (a : Lane) → (with_taken o xs a).spec ≡ a.spec
+pub same_spec : (o : Option (List Sample)) (xs : List Sample) (a : Lane) → (lane_with_taken o xs a).spec ≡ a.spec
 same_spec None xs a = refl
 same_spec (Some waiting) xs a = refl
 
-pub sound_lane : (o : Option (List Sample)) (xs : List Sample) (a : Lane) (spec : ChannelSpec) (low high : ℕ) → a.spec ≡ spec → Gives spec low xs high → length xs ≤ spec.capacity → IsSoundLane a → IsSoundLane (with_taken o xs a)
+pub sound_lane : (o : Option (List Sample)) (xs : List Sample) (a : Lane) (spec : ChannelSpec) (low high : ℕ) → a.spec ≡ spec → Gives spec low xs high → length xs ≤ spec.capacity → IsSoundLane a → IsSoundLane (lane_with_taken o xs a)
 sound_lane None xs a spec low high same gives few sound = record {
   held = omega (arith, few, ap (λ (s : ChannelSpec). s.capacity) same);
   messages = subst (λ (s : ChannelSpec). AllByRecursion (λ (x : Sample). first_broken (message_checks s x.message) ≡ None) xs) (sym same) gives.passes;
@@ -73,21 +73,21 @@ sound_lane None xs a spec low high same gives few sound = record {
 }
 sound_lane (Some waiting) xs a spec low high same gives few sound = sound
 
-pub climbs_lane : (o : Option (List Sample)) (files : List File) (xs : List Sample) (a : Lane) (spec : ChannelSpec) (low high : ℕ) → IsReachedBy o low a → Gives spec low xs high → LaneClimbs files a → LaneClimbs files (with_taken o xs a)
+pub climbs_lane : (o : Option (List Sample)) (files : List File) (xs : List Sample) (a : Lane) (spec : ChannelSpec) (low high : ℕ) → IsReachedBy o low a → Gives spec low xs high → LaneClimbs files a → LaneClimbs files (lane_with_taken o xs a)
 climbs_lane None files xs a spec low high stands gives climbs =
     climbs_joined 0 (count_or_0 a.last) (count_or_0 (last_behind a.last xs)) (counts_on a.spec.id files) (counts_of xs)
     (climbs_front 0 (counts_on a.spec.id files) (counts_of a.waiting) (count_or_0 a.last) climbs) (climbs_behind a.last low xs high stands gives.climbs)
 climbs_lane (Some waiting) files xs a spec low high stands gives climbs = climbs
 
 waits_lane : (o : Option (List Sample)) (xs : List Sample) (a : Lane) (low : ℕ) (id : ℕ) (p : Part) → a.spec.id ≡ id → IsReachedBy o low a → (id ≡ p.channel → IfSome o (λ waiting. waiting ≡ p.samples ++ p.rest)) → (id ≡ p.channel → o ≡ None → p.rest ≡ [])
-    → (id ≡ p.channel → xs ≡ p.samples) → (with_taken o xs a).spec.id ≡ p.channel → (with_taken o xs a).waiting ≡ p.samples ++ p.rest
+    → (id ≡ p.channel → xs ≡ p.samples) → (lane_with_taken o xs a).spec.id ≡ p.channel → (lane_with_taken o xs a).waiting ≡ p.samples ++ p.rest
 waits_lane None xs a low id p same stands tells bare own is =
     let here : id ≡ p.channel = sym same ∙ is in
     own here ∙ sym (ap (λ (ys : List Sample). p.samples ++ ys) (bare here refl) ∙ append-nil p.samples)
 waits_lane (Some waiting) xs a low id p same stands tells bare own is = stands ∙ tells (sym same ∙ is)
 
 after_lane : (o o' : Option (List Sample)) (xs : List Sample) (a b : Lane) (low high n erased : ℕ) → IsReachedBy o low a → Climbs low (counts_of xs) high → n ≡ length xs → (o ≡ None → o' ≡ None)
-    → ((waiting : List Sample) → o ≡ Some waiting → (rest : List Sample) × (o' ≡ Some rest) × (waiting ≡ xs ++ rest)) → b ≡ record (without n (with_taken o xs a)) { erased = erased } → IsReachedBy o' high b
+    → ((waiting : List Sample) → o ≡ Some waiting → (rest : List Sample) × (o' ≡ Some rest) × (waiting ≡ xs ++ rest)) → b ≡ record (without n (lane_with_taken o xs a)) { erased = erased } → IsReachedBy o' high b
 after_lane None o' xs a b low high n erased stands climbs number shared stays is =
     rw (shared refl) (omega (arith, last_reached a.last low xs high stands climbs, ap (λ (l : Lane). count_or_0 l.last) is))
 after_lane (Some waiting) o' xs a b low high n erased stands climbs number shared stays is =
@@ -208,7 +208,7 @@ module _ {L : Type 0} (took : L → List Sample → L → Type 0) (quiet : L →
   counted_all parts files (x ∷ lanes) (s ∷ specs) (t ∷ taken) [] (a ∷ machines) are = absurd are
   counted_all parts files (x ∷ lanes) (s ∷ specs) (t ∷ taken) (e ∷ erased) (a ∷ machines) (one, are) = (by (quiet x), counted_all parts files lanes specs taken erased machines are)
     where
-      by : (o : Option (List Sample)) → LaneIsCounted files s t e (with_taken o (samples_on (spec_of x).id parts) a)
+      by : (o : Option (List Sample)) → LaneIsCounted files s t e (lane_with_taken o (samples_on (spec_of x).id parts) a)
       by None = record { spec_is = one.spec_is; erased_is = one.erased_is; taken_is = one.taken_is }
       by (Some waiting) = one
 
@@ -238,9 +238,9 @@ module _ {L : Type 0} (took : L → List Sample → L → Type 0) (quiet : L →
   stand_after shared parts (x ∷ lanes) (y ∷ lanes') (a ∷ machines) [] stands took_all left = absurd left
   stand_after shared parts (x ∷ lanes) (y ∷ lanes') (a ∷ machines) (b ∷ later) (same, here, stands) (gave, took_all) (is, left) =
       let xs : List Sample = samples_on (spec_of x).id parts in
-      let spec : (with_taken (quiet x) xs a).spec ≡ spec_of x = same_spec (quiet x) xs a ∙ same in (
+      let spec : (lane_with_taken (quiet x) xs a).spec ≡ spec_of x = same_spec (quiet x) xs a ∙ same in (
         ap (λ (l : Lane). l.spec) is ∙ spec ∙ sym (keeps x y xs gave),
-        after_lane (quiet x) (quiet y) xs a b (reached x) (reached y) (taken_of parts (with_taken (quiet x) xs a).spec.id) b.erased here (gives x y xs gave).climbs
+        after_lane (quiet x) (quiet y) xs a b (reached x) (reached y) (taken_of parts (lane_with_taken (quiet x) xs a).spec.id) b.erased here (gives x y xs gave).climbs
             (ap (λ (s : ChannelSpec). length (samples_on s.id parts)) spec) (λ none. shared x y xs gave none) (λ waiting quiet_is. stays x y xs waiting gave quiet_is) is,
         stand_after shared parts lanes lanes' machines later stands took_all left,
       )
@@ -263,22 +263,22 @@ module _ {L : Type 0} (took : L → List Sample → L → Type 0) (quiet : L →
 
   -- ---- the machine
 
-  pub numbers_stay : (k : Kept) (m : Machine) (lanes : List Lane) → (LanesAreCounted m.files k.config.channels k.taken k.erased m.lanes → LanesAreCounted m.files k.config.channels k.taken k.erased lanes) → NumbersAre k m → NumbersAre k (with_lanes lanes m)
+  pub numbers_stay : (k : Kept) (m : Machine) (lanes : List Lane) → (LanesAreCounted m.files k.config.channels k.taken k.erased m.lanes → LanesAreCounted m.files k.config.channels k.taken k.erased lanes) → NumbersAre k m → NumbersAre k (machine_with_lanes lanes m)
   numbers_stay k m lanes counted numbers = by k.work numbers
     where
-      by : (w : Work) → NumbersAre (record k { work = w }) m → NumbersAre (record k { work = w }) (with_lanes lanes m)
+      by : (w : Work) → NumbersAre (record k { work = w }) m → NumbersAre (record k { work = w }) (machine_with_lanes lanes m)
       by unmounted (event, generation, are, own) = (event, generation, counted are, own)
       by (idle chain) (event, generation, are, own) = (event, generation, counted are, own)
       by (recording chain o) (event, generation, are, own) = (event, generation, counted are, own)
       by failed are = tt
 
-  pub work_sound : (s : Config) (m : Machine) (lanes : List Lane) → (AllByRecursion (LaneClimbs m.files) m.lanes → AllByRecursion (LaneClimbs m.files) lanes) → SoundWork m.mode s m → SoundWork m.mode s (with_lanes lanes m)
+  pub work_sound : (s : Config) (m : Machine) (lanes : List Lane) → (AllByRecursion (LaneClimbs m.files) m.lanes → AllByRecursion (LaneClimbs m.files) lanes) → SoundWork m.mode s m → SoundWork m.mode s (machine_with_lanes lanes m)
   work_sound s m lanes climb sound = by m.mode sound
     where
-      works : IsSoundWork s m → IsSoundWork s (with_lanes lanes m)
+      works : IsSoundWork s m → IsSoundWork s (machine_with_lanes lanes m)
       works was = record { recording = was.recording; own = was.own; others = was.others; lanes = climb was.lanes; times = was.times; events = was.events }
 
-      by : (mode : Mode) → SoundWork mode s m → SoundWork mode s (with_lanes lanes m)
+      by : (mode : Mode) → SoundWork mode s m → SoundWork mode s (machine_with_lanes lanes m)
       by modes.Failed was = tt
       by modes.Unmounted was = works was
       by modes.Idle was = works was
@@ -286,7 +286,7 @@ module _ {L : Type 0} (took : L → List Sample → L → Type 0) (quiet : L →
 
   -- with what was taken waiting in its lanes it is represented too
   pub meant_with : (k : Kept) (image : Image) (failures : ℕ) (m : Machine) (parts : List Part) (lanes lanes' : List L) → KeptStandsFor k image failures m → StandFor quiet reached spec_of lanes m.lanes → TookAll took spec_of parts lanes lanes'
-      → AllByRecursion (λ (x : L). length (samples_on (spec_of x).id parts) ≤ (spec_of x).capacity) lanes → KeptStandsFor k image failures (with_lanes (lanes_with quiet spec_of parts lanes m.lanes) m)
+      → AllByRecursion (λ (x : L). length (samples_on (spec_of x).id parts) ≤ (spec_of x).capacity) lanes → KeptStandsFor k image failures (machine_with_lanes (lanes_with quiet spec_of parts lanes m.lanes) m)
   meant_with k image failures m parts lanes lanes' means stands took_all few =
       let sound = means.sound in
       let now : List Lane = lanes_with quiet spec_of parts lanes m.lanes in
@@ -317,7 +317,7 @@ module _ {L : Type 0} (took : L → List Sample → L → Type 0) (quiet : L →
       (later : Kept) (new : Image) (now : ℕ) (lanes lanes' : List L) → IsConfig k.config → ((channel : ℕ) → count_by (λ c. c == channel) order ≤ 1)
       → StepsByTaking took quiet spec_of order most says bare k old before event reply result later new now lanes lanes' → StepsAlike took quiet reached spec_of bare k old before event reply result later new now lanes lanes'
   steps_alike order most says bare k old before event reply result later new now lanes lanes' limits once takes is_bare shared m means stands =
-      each_result result _ _ _ _ (λ v. by (reply v)) (λ r. by (Refused r)) (takes.steps (with_lanes (lanes_with quiet spec_of takes.parts lanes m.lanes) m) meant waits)
+      each_result result _ _ _ _ (λ v. by (reply v)) (λ r. by (Refused r)) (takes.steps (machine_with_lanes (lanes_with quiet spec_of takes.parts lanes m.lanes) m) meant waits)
     where
       each_once : (channel : ℕ) → count_by (λ c. c == channel) (channels_of takes.parts) ≤ 1
       each_once channel =
@@ -329,7 +329,7 @@ module _ {L : Type 0} (took : L → List Sample → L → Type 0) (quiet : L →
       few : AllByRecursion (λ (x : L). length (samples_on (spec_of x).id takes.parts) ≤ (spec_of x).capacity) lanes
       few = few_each takes.parts (map spec_of lanes) lanes (λ channel. few_on (map spec_of lanes) takes.parts channel (each_once channel) takes.few) (most_each lanes apart)
 
-      meant : KeptStandsFor k old before (with_lanes (lanes_with quiet spec_of takes.parts lanes m.lanes) m)
+      meant : KeptStandsFor k old before (machine_with_lanes (lanes_with quiet spec_of takes.parts lanes m.lanes) m)
       meant = meant_with k old before m takes.parts lanes lanes' means stands takes.taken few
 
       told_so : (known : List Part) → (known ≡ takes.parts) ⊎ ((known ≡ []) × (result ≡ Err Medium)) → AllByRecursion (TellsWaiting quiet spec_of lanes) known → AllByRecursion (NoneBehind quiet spec_of lanes) known
@@ -339,9 +339,9 @@ module _ {L : Type 0} (took : L → List Sample → L → Type 0) (quiet : L →
       told_so known (inr (empty, is)) tells none = subst (λ (ps : List Part). AllByRecursion (HasWaiting (lanes_with quiet spec_of takes.parts lanes m.lanes)) ps) (sym empty) tt
 
       waits : AllByRecursion (HasWaiting (lanes_with quiet spec_of takes.parts lanes m.lanes)) takes.known
-      waits = told_so takes.known takes.told takes.waits (takes.rests is_bare)
+      waits = told_so takes.known takes.reported takes.waits (takes.rests is_bare)
 
-      by : (said : ReplyValue) → KeptStepsTaking (taken_of takes.parts) k (with_lanes (lanes_with quiet spec_of takes.parts lanes m.lanes) m) event said later new now
+      by : (said : ReplyValue) → KeptStepsTaking (taken_of takes.parts) k (machine_with_lanes (lanes_with quiet spec_of takes.parts lanes m.lanes) m) event said later new now
           → StepsWith took quiet reached spec_of k old before event said later new now lanes lanes' m
       by said leads = record {
         parts = takes.parts;

@@ -9,7 +9,7 @@ use Rattle.r10_volume.specs.Holding.{HoldsFiles, OpenState}
 use Rattle.r10_machine.specs.Config.{Config}
 use Rattle.r10_body.specs.declared.entry.Entry.{Entry}
 use Rattle.r10_machine.specs.Machine.{File, with_entries}
-use Rattle.r10_refinement.specs.Kept.{Kept, Work, unmounted, idle, recording}
+use Rattle.r10_refinement.specs.KeptState.{Kept, Work, unmounted, idle, recording}
 use Rattle.r10_refinement.specs.Means.{HasFiles}
 use Rattle.r10_medium.specs.Disk.{Image, IsWhole}
 use Rattle.r10_cursor.specs.Staying.{KeepListed}

@@ -16,7 +16,7 @@ use Rattle.r10_dirchain.proofs.FileLists.{files-with_shutdown}
 use Rattle.r10_dirchain.proofs.Usable.{place_rules_hold, placed}
 use Rattle.r10_volume.specs.Holding.{OpenState}
 use Rattle.r10_machine.specs.Machine.{Tick}
-use Rattle.r10_refinement.specs.Kept.{Kept, Work, unmounted, idle, recording, failed}
+use Rattle.r10_refinement.specs.KeptState.{Kept, Work, unmounted, idle, recording, failed}
 use Rattle.r10_medium.specs.Disk.{Disk, Image, block_at}
 use Rattle.r10_control.specs.Closing.{IsListedClosed}
 use Rattle.r10_body.specs.declared.entry.Entry.{Entry}

@@ -9,7 +9,7 @@ use Rattle.r10_machine.specs.Checks.{idle_checks}
 use Rattle.r10_machine.specs.Limits.{IsConfig}
 use Rattle.r10_machine.specs.Machine.{File, Lane, Machine}
 use Rattle.r10_machine.specs.declared.mode.Mode.TheVariants as modes
-use Rattle.r10_refinement.specs.Kept.{Kept, Work, mode_of, unmounted, idle, recording, failed}
+use Rattle.r10_refinement.specs.KeptState.{Kept, Work, mode_of, unmounted, idle, recording, failed}
 use Rattle.r10_refinement.specs.Means.{KeptStandsFor, NumbersAre}
 use Rattle.r10_refinement.proofs.Leading.{StepsStaySound, erased, failed_so}
 use Rattle.r10_medium.specs.Disk.{Image, Rose}

@@ -7,12 +7,12 @@ use Rattle.r10_body.specs.declared.entry.Entry.{Entry}
 use Rattle.r10_body.specs.declared.spec.ChannelSpec.{ChannelSpec}
 use Rattle.r10_lane.specs.Spending.{all_counts}
 use Rattle.r10_machine.proofs.Growing.{all_joined}
-use Rattle.r10_refinement.specs.Kept.{Kept}
+use Rattle.r10_refinement.specs.KeptState.{Kept}
 use Rattle.r10_medium.specs.Disk.{Image}
 use Rattle.r10_cursor.specs.declared.books.Books.{Books}
 use Rattle.r10_openfile.specs.Stopping.{AllEnd}
 use Rattle.r10_control.specs.Owns.{Owns}
-use Rattle.r10_control.proofs.Looked.{work_still}
+use Rattle.r10_control.proofs.LooksAtLanes.{work_still}
 
 -- ---- lane by lane
 

@@ -19,7 +19,7 @@ use Rattle.r10_machine.specs.SoundParts.{Climbs, IsSoundLane, LaneClimbs, count_
 use Rattle.r10_machine.proofs.Grown.{work_moved}
 use Rattle.r10_machine.proofs.Steady.{changed_all, same_specs}
 use Rattle.r10_medium.specs.Disk.{Image}
-use Rattle.r10_refinement.specs.Kept.{Kept, Work, unmounted, idle, recording, failed}
+use Rattle.r10_refinement.specs.KeptState.{Kept, Work, unmounted, idle, recording, failed}
 use Rattle.r10_refinement.specs.Means.{LanesAreCounted, KeptStandsFor, NumbersAre}
 use Rattle.r10_control.specs.Lanes.{AreLanes, StandsWithout, TakesWaiting, first_waiting, unerased}
 use Rattle.r10_control.proofs.Offers.{changed_in, is_at}

@@ -13,8 +13,8 @@ use Rattle.r10_dirchain.specs.Steps.{with_shutdown}
 use Rattle.r10_dirchain.specs.declared.chain.ChainBlock.{ChainBlock}
 use Rattle.r10_machine.specs.Config.{Config}
 use Rattle.r10_machine.specs.Machine.{Tick}
-use Rattle.r10_refinement.specs.Kept.{Kept, Work, failed, idle, recording, unmounted}
-use Rattle.r10_medium.proofs.Stops.{below_puts, puts, started, unchanged}
+use Rattle.r10_refinement.specs.KeptState.{Kept, Work, failed, idle, recording, unmounted}
+use Rattle.r10_medium.proofs.PowerLoss.{below_puts, puts, started, unchanged}
 use Rattle.r10_medium.specs.Disk.{Disk, Image, Unchanged}
 use Rattle.r10_medium.specs.Stop.{Leaves}
 use Rattle.r10_openfile.specs.AtOnce.{BeginsAtOnce, SparesFront, TurnsAtOnce}

@@ -4,7 +4,7 @@ use Rattle.r10_body.specs.declared.refusal.Refusal.TheVariants.{MediumFull}
 use Rattle.r10_machine.specs.Config.{Config}
 use Rattle.r10_machine.specs.Limits.{IsConfig}
 use Rattle.r10_machine.specs.Machine.{Machine}
-use Rattle.r10_refinement.specs.Kept.{Kept}
+use Rattle.r10_refinement.specs.KeptState.{Kept}
 use Rattle.r10_refinement.specs.Means.{KeptStandsFor}
 use Rattle.r10_refinement.proofs.Leading.{StepsStaySound, failing}
 use Rattle.r10_medium.specs.Disk.{Image}

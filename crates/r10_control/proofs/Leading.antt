@@ -5,7 +5,7 @@ use Rattle.r10_body.specs.declared.refusal.Refusal.TheVariants.{BadDirectory, Me
 use Rattle.r10_machine.specs.Limits.{IsConfig}
 use Rattle.r10_machine.specs.Machine.{Lane, Machine}
 use Rattle.r10_machine.specs.declared.mode.Mode.TheVariants as modes
-use Rattle.r10_refinement.specs.Kept.{Kept, failed}
+use Rattle.r10_refinement.specs.KeptState.{Kept, failed}
 use Rattle.r10_refinement.specs.Means.{KeptStandsFor}
 use Rattle.r10_refinement.proofs.Leading.{StepsStaySound, failed_before, failed_so, lacks_memory, refused}
 use Rattle.r10_medium.specs.Disk.{Disk, Image, Rose, Unchanged}

@@ -11,7 +11,7 @@ mod Lacking
 mod Starts
 mod Offers
 mod Statuses
-mod Looked
+mod LooksAtLanes
 mod Exhausted
 mod Writing
 mod Readings
@@ -32,7 +32,7 @@ mod Closes
 pub mod Stops
 mod Leaves
 mod Moments
-mod StopPoints
+mod PowerLossPoints
 mod FirstsTaken
 mod Works
 mod Effecting

@@ -15,17 +15,17 @@ use Rattle.r10_machine.specs.EventChecks.{refusal}
 use Rattle.r10_machine.specs.declared.event.Event.TheVariants.{Commit, Erase, Seal, Start}
 use Rattle.r10_machine.specs.declared.mode.Mode.TheVariants as modes
 use Rattle.r10_machine.specs.declared.reply.Reply.TheVariants as replies
-use Rattle.r10_refinement.specs.Kept.{Kept, Work, mode_of, idle, recording}
+use Rattle.r10_refinement.specs.KeptState.{Kept, Work, mode_of, idle, recording}
 use Rattle.r10_refinement.specs.Means.{HasFiles, KeptStandsFor}
-use Rattle.r10_medium.proofs.Stops.{weakened}
+use Rattle.r10_medium.proofs.PowerLoss.{weakened}
 use Rattle.r10_medium.specs.Disk.{Disk, Image}
 use Rattle.r10_medium.specs.Stop.{Leaves, Settled}
 use Rattle.r10_openfile.specs.Keeping.{Becomes, StopKeepsFiles, Keeps}
 use Rattle.r10_openfile.specs.Starting.{begun_file}
 use Rattle.r10_seal.specs.Leftover.{IsOpenOrClosed, IsLeftOpen, SealsLast, StaysOpen, shown_cost}
 use Rattle.r10_seal.specs.Sealing.{sealed}
-use Rattle.r10_refinement.specs.Left.{Makes}
-use Rattle.r10_refinement.specs.Left.{IsEither as MachineEither}
+use Rattle.r10_refinement.specs.PowerLossInCalls.{Makes}
+use Rattle.r10_refinement.specs.PowerLossInCalls.{IsEither as MachineEither}
 use Rattle.r10_refinement.specs.Safe.{IsSafe}
 use Rattle.r10_volume.specs.Holding.{HoldsFiles, OpenState}
 use Rattle.r10_volume.specs.Listing.{is_last_closed}
@@ -37,7 +37,7 @@ use Rattle.r10_control.proofs.Erases.{checked as erase_checked, same_check as er
 use Rattle.r10_control.proofs.Pumps.{last_changes}
 use Rattle.r10_control.proofs.Seals.{Left, checked as seal_checked, left_open, same_check as seal_check, seals_so}
 use Rattle.r10_control.proofs.Starts.{same_check as start_check}
-use Rattle.r10_control.proofs.StopPoints.{IsLeftEither, LeavesShown, idle_becomes, recorded_becomes, settled_idle}
+use Rattle.r10_control.proofs.PowerLossPoints.{IsLeftEither, LeavesShown, idle_becomes, recorded_becomes, settled_idle}
 
 -- ---- a commit
 

@@ -13,7 +13,7 @@ use Rattle.r10_dirblock.specs.Block.{is_closed}
 use Rattle.r10_dirblock.specs.declared.entry.Entry.{Entry as DirectoryEntry}
 use Rattle.r10_dirchain.specs.Chain.{listed_files}
 use Rattle.r10_dirchain.specs.declared.chain.ChainBlock.{ChainBlock}
-use Rattle.r10_dirchain.proofs.Standing.{usable_of}
+use Rattle.r10_dirchain.proofs.RulesAsFacts.{usable_of}
 use Rattle.r10_dirchain.proofs.Unique.{one_directory}
 use Rattle.r10_machine.specs.Checks.{is_recording}
 use Rattle.r10_machine.specs.Config.{Config}
@@ -22,7 +22,7 @@ use Rattle.r10_machine.specs.Machine.{File, Machine, shown_entries}
 use Rattle.r10_machine.specs.Says.{Lists, MediumSays, SaysEach, SaysFile}
 use Rattle.r10_machine.specs.Sound.{IsOwnFile, IsSoundWork, SoundWork}
 use Rattle.r10_machine.specs.SoundParts.{is_open, own_files}
-use Rattle.r10_refinement.specs.Kept.{Kept, Work, unmounted, idle, recording, failed, mode_of}
+use Rattle.r10_refinement.specs.KeptState.{Kept, Work, unmounted, idle, recording, failed, mode_of}
 use Rattle.r10_refinement.specs.Means.{HasFiles, KeptStandsFor, NumbersAre, OwnFilesAre, OwnFollow}
 use Rattle.r10_medium.specs.Disk.{Image}
 use Rattle.r10_openfile.specs.Carrying.{IsEnded}

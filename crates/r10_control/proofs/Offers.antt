@@ -22,7 +22,7 @@ use Rattle.r10_volume.specs.Holding.{OpenState}
 use Rattle.r10_machine.specs.Config.{Config}
 use Rattle.r10_machine.specs.Machine.{Lane, Machine, Tick, change_first, is_channel, lane_of, with_lane}
 use Rattle.r10_machine.proofs.Places.{changed_at, found_at, found_nowhere}
-use Rattle.r10_refinement.specs.Kept.{Kept, Work, unmounted, idle, recording, failed}
+use Rattle.r10_refinement.specs.KeptState.{Kept, Work, unmounted, idle, recording, failed}
 use Rattle.r10_refinement.specs.Means.{KeptStepsTo, KeptStandsFor}
 use Rattle.r10_medium.specs.Disk.{Image}
 use Rattle.r10_openfile.specs.Stopping.{AllEnd}

@@ -19,10 +19,10 @@ use Rattle.r10_dirchain.specs.Mount.{blocks_in}
 use Rattle.r10_dirchain.specs.Steps.{with_shutdown, last_listing}
 use Rattle.r10_dirchain.specs.declared.chain.ChainBlock.{ChainBlock}
 use Rattle.r10_dirchain.proofs.FileLists.{files-with_shutdown, files-updated, last_listing_is, last_of}
-use Rattle.r10_dirchain.proofs.Standing.{Stand, Stand-take, usable_of}
+use Rattle.r10_dirchain.proofs.RulesAsFacts.{Stand, Stand-take, usable_of}
 use Rattle.r10_dirchain.proofs.Unique.{one_directory}
 use Rattle.r10_cursor.specs.Staying.{KeepListed}
-use Rattle.r10_refinement.specs.Kept.{Kept, Work, unmounted, idle, recording, failed}
+use Rattle.r10_refinement.specs.KeptState.{Kept, Work, unmounted, idle, recording, failed}
 use Rattle.r10_medium.specs.Disk.{Image, IsWhole}
 use Rattle.r10_openfile.specs.Carrying.{EndsLast, IsEnded, IsShown}
 use Rattle.r10_openfile.specs.Keeping.{ListsLast, ended_in}
@@ -37,7 +37,7 @@ use Rattle.std.proofs.lemmas.List.Elements.{All-cons, All-nil}
 use Rattle.r10_body.specs.Packets.{Packet}
 use Rattle.r10_body.proofs.ChannelLists.{none_on_any}
 use Rattle.r10_dirchain.proofs.Usable.{place_rules_hold, placed}
-use Rattle.r10_medium.proofs.Stops.{below_puts}
+use Rattle.r10_medium.proofs.PowerLoss.{below_puts}
 use Rattle.r10_seal.specs.Sealing.{ListsSealed, SealsFile, sealed_entry}
 use Rattle.r10_control.proofs.Seals.{sealed_some}
 use Rattle.r10_control.specs.Own.{AreEnded, AreOwn, EndAfter, EndOpen, OwnGrow, OwnIn, OwnStay}

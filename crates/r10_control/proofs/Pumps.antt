@@ -22,7 +22,7 @@ use Rattle.r10_machine.specs.Machine.{File, Lane, Machine, change_first, change_
 use Rattle.r10_machine.specs.Room.{area as area_of, cost_of}
 use Rattle.r10_machine.specs.declared.mode.Mode.TheVariants as modes
 use Rattle.r10_refinement.specs.Grown.{AreGrown}
-use Rattle.r10_refinement.specs.Kept.{Kept, Work, mode_of, recording, failed}
+use Rattle.r10_refinement.specs.KeptState.{Kept, Work, mode_of, recording, failed}
 use Rattle.r10_refinement.specs.Means.{HasFiles, KeptStepsTo, KeptStandsFor, NumbersAre}
 use Rattle.r10_refinement.proofs.Leading.{StepsStaySound, failed_before, failed_so}
 use Rattle.r10_medium.specs.Disk.{Image, Rose}

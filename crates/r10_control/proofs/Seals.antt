@@ -20,7 +20,7 @@ use Rattle.r10_machine.specs.Room.{area, cost_of}
 use Rattle.r10_machine.specs.declared.mode.Mode.{Mode}
 use Rattle.r10_machine.specs.declared.mode.Mode.TheVariants as modes
 use Rattle.r10_machine.proofs.Growing.{append_last}
-use Rattle.r10_refinement.specs.Kept.{Kept, Work, mode_of, unmounted, idle, recording, failed}
+use Rattle.r10_refinement.specs.KeptState.{Kept, Work, mode_of, unmounted, idle, recording, failed}
 use Rattle.r10_refinement.specs.Means.{HasFiles, KeptStepsTo, KeptStandsFor}
 use Rattle.r10_refinement.proofs.Leading.{StepsStaySound, failed_so, failing, no_fewer, same_refusal, still_means}
 use Rattle.r10_medium.specs.Disk.{Image, Rose}

@@ -15,12 +15,12 @@ use Rattle.r10_machine.specs.Machine.{File, Lane, Machine}
 use Rattle.r10_machine.specs.SoundParts.{Climbs, IsSoundLane, LaneClimbs}
 use Rattle.r10_machine.specs.declared.mode.Mode.{Mode}
 use Rattle.r10_machine.specs.declared.mode.Mode.TheVariants as modes
-use Rattle.r10_refinement.specs.Kept.{Kept}
+use Rattle.r10_refinement.specs.KeptState.{Kept}
 use Rattle.r10_refinement.specs.Means.{KeptStandsFor}
 use Rattle.r10_medium.specs.Disk.{Image}
 use Rattle.r10_openfile.specs.Machines.{HasWaiting}
 use Rattle.r10_openfile.specs.Stopping.{Part, TellsWaiting, TookAll, samples_on}
-use Rattle.r10_control.specs.Standing.{IsReachedBy, MayGive, StandFor, StaysShared, WhereNoRoom, lanes_showing, with_lanes, with_taken}
+use Rattle.r10_control.specs.RepresentedLanes.{IsReachedBy, MayGive, StandFor, StaysShared, WhereNoRoom, lanes_showing, machine_with_lanes, lane_with_taken}
 use Rattle.r10_control.specs.Taking.{one_part}
 use Rattle.r10_control.proofs.Alike.{climbs_lane, counted_all, numbers_stay, once_alone, own_parts, sound_lane, specs_stay, work_sound}
 
@@ -55,7 +55,7 @@ still_lane (Some waiting) o' xs a low high stands none climbs shared stays =
     rw later (stands ∙ front ∙ ap (λ (ys : List Sample). ys ++ rest) none)
 
 shown_lane : (o : Option (List Sample)) (xs : List Sample) (a : Lane) (low id channel : ℕ) (rest : List Sample) → a.spec.id ≡ id → IsReachedBy o low a → (id ≡ channel → IfSome o (λ waiting. waiting ≡ [] ++ rest)) → (id ≡ channel → o ≡ None → xs ≡ rest)
-    → (with_taken o xs a).spec.id ≡ channel → (with_taken o xs a).waiting ≡ [] ++ rest
+    → (lane_with_taken o xs a).spec.id ≡ channel → (lane_with_taken o xs a).waiting ≡ [] ++ rest
 shown_lane None xs a low id channel rest same stands tells alone is = alone (sym same ∙ is) refl
 shown_lane (Some waiting) xs a low id channel rest same stands tells alone is = stands ∙ tells (sym same ∙ is)
 
@@ -111,7 +111,7 @@ module _ {L : Type 0} (took : L → List Sample → L → Type 0) (quiet : L →
     sound_shown (x ∷ lanes) [] stands may channels sound = sound
     sound_shown (x ∷ lanes) (a ∷ machines) (same, here, stands) may channels sound = (by (quiet x) (gives_on x may.0), sound_shown lanes machines stands may.1 channels.1 sound.1)
       where
-        by : (o : Option (List Sample)) → (o ≡ None → (top : ℕ) × Gives (spec_of x) (reached x) (samples_on (spec_of x).id part) top) → IsSoundLane (with_taken o (samples_on (spec_of x).id part) a)
+        by : (o : Option (List Sample)) → (o ≡ None → (top : ℕ) × Gives (spec_of x) (reached x) (samples_on (spec_of x).id part) top) → IsSoundLane (lane_with_taken o (samples_on (spec_of x).id part) a)
         by None gave = let (top, g) = gave refl in sound_lane None (samples_on (spec_of x).id part) a (spec_of x) (reached x) top same g (few_on x channels.0.capacity.0) sound.0
         by (Some waiting) gave = sound.0
 
@@ -121,7 +121,7 @@ module _ {L : Type 0} (took : L → List Sample → L → Type 0) (quiet : L →
     climb_shown files (x ∷ lanes) [] stands may climbs = climbs
     climb_shown files (x ∷ lanes) (a ∷ machines) (same, here, stands) may climbs = (by (quiet x) here (gives_on x may.0), climb_shown files lanes machines stands may.1 climbs.1)
       where
-        by : (o : Option (List Sample)) → IsReachedBy o (reached x) a → (o ≡ None → (top : ℕ) × Gives (spec_of x) (reached x) (samples_on (spec_of x).id part) top) → LaneClimbs files (with_taken o (samples_on (spec_of x).id part) a)
+        by : (o : Option (List Sample)) → IsReachedBy o (reached x) a → (o ≡ None → (top : ℕ) × Gives (spec_of x) (reached x) (samples_on (spec_of x).id part) top) → LaneClimbs files (lane_with_taken o (samples_on (spec_of x).id part) a)
         by None stands gave = let (top, g) = gave refl in climbs_lane None files (samples_on (spec_of x).id part) a (spec_of x) (reached x) top stands g climbs.0
         by (Some waiting) stands gave = climbs.0
 
@@ -137,7 +137,7 @@ module _ {L : Type 0} (took : L → List Sample → L → Type 0) (quiet : L →
 
     -- with the sample waiting in its lane a machine is represented too
     pub meant_shown : (k : Kept) (image : Image) (failures : ℕ) (m : Machine) (lanes : List L) → KeptStandsFor k image failures m → StandFor quiet reached spec_of lanes m.lanes → MayGive quiet reached spec_of channel first lanes → AllByRecursion (λ (x : L). IsChannel (spec_of x)) lanes
-        → KeptStandsFor k image failures (with_lanes (lanes_showing quiet spec_of channel first lanes m.lanes) m)
+        → KeptStandsFor k image failures (machine_with_lanes (lanes_showing quiet spec_of channel first lanes m.lanes) m)
     meant_shown k image failures m lanes means stands may channels =
         let sound = means.sound in
         let now : List Lane = lanes_showing quiet spec_of channel first lanes m.lanes in

@@ -7,7 +7,7 @@ use Rattle.r10_body.specs.declared.spec.ChannelSpec.{ChannelSpec}
 use Rattle.r10_dirblock.specs.declared.entry.Entry.{Entry as DirectoryEntry}
 use Rattle.r10_dirchain.specs.Chain.{listed_files}
 use Rattle.r10_dirchain.specs.declared.chain.ChainBlock.{ChainBlock}
-use Rattle.r10_dirchain.proofs.Standing.{usable_of}
+use Rattle.r10_dirchain.proofs.RulesAsFacts.{usable_of}
 use Rattle.r10_volume.specs.Holding.{HoldsFiles, IsWritten, OpenState}
 use Rattle.r10_volume.proofs.Relisting.{last_file_listed}
 use Rattle.r10_machine.specs.Checks.{is_mounted, last_tick}
@@ -18,14 +18,14 @@ use Rattle.r10_machine.specs.Room.{area, area_from, cost_of, next_block}
 use Rattle.r10_machine.specs.declared.mode.Mode.{Mode}
 use Rattle.r10_machine.specs.declared.mode.Mode.TheVariants as modes
 use Rattle.r10_machine.proofs.Growing.{append_last}
-use Rattle.r10_refinement.specs.Kept.{Kept, Work, mode_of, unmounted, idle, recording, failed}
+use Rattle.r10_refinement.specs.KeptState.{Kept, Work, mode_of, unmounted, idle, recording, failed}
 use Rattle.r10_refinement.specs.Means.{LanesAreCounted, HasFiles, KeptStepsTo, KeptStandsFor, NumbersAre}
 use Rattle.r10_medium.specs.Disk.{Image}
 use Rattle.r10_cursor.specs.declared.books.Books.{Books}
 use Rattle.r10_control.specs.Checks.{files_of}
 use Rattle.r10_control.specs.Lanes.{AreLanes, LeadsWith, unerased}
 use Rattle.r10_control.specs.Owns.{Owns, OwnsWork, tick_count}
-use Rattle.r10_control.specs.Told.{channels_in, free_in, status_in}
+use Rattle.r10_control.specs.RecorderStatus.{channels_in, free_in, status_in}
 use Rattle.r10_machine.specs.Finding.{channel_status, free_bytes, status_of}
 use Rattle.r10_machine.specs.Says.{Lists}
 use Rattle.r10_machine.specs.declared.event.Event.TheVariants as events
@@ -69,9 +69,9 @@ free_idle s image chain m mode holds = ap (area_from s) (behind_told s image cha
 
 pub free_recording : (s : Config) (image : Image) (chain : List ChainBlock) (o : OpenState) (m : Machine) (left : ℕ) → m.mode ≡ modes.Recording → HoldsFiles s image chain (Some o) m.files
     → ((files : List File) (f : File) → HoldsFiles s image chain (Some o) (files ++ f ∷ []) → left ≡ area s f - cost_of f) → left ≡ free_bytes s m
-free_recording s image chain o m left mode holds told =
+free_recording s image chain o m left mode holds reported =
     let split = last_front (IsWritten s image o) m.files holds.last in
-    told split.0 split.1 (subst (λ (l : List File). HoldsFiles s image chain (Some o) l) split.2 holds)
+    reported split.0 split.1 (subst (λ (l : List File). HoldsFiles s image chain (Some o) l) split.2 holds)
     ∙ sym (ap (λ (d : Option File). elim d [ None ↦ 0 | Some f ↦ area s f - cost_of f ]) (append_last None split.0 split.1))
     ∙ sym (ap (λ (l : List File). elim (last_or None l) [ None ↦ 0 | Some f ↦ area s f - cost_of f ]) split.2)
     ∙ sym (ap (free_by s m) mode)

@@ -9,12 +9,12 @@ use Rattle.r10_dirblock.specs.declared.entry.Entry.{Entry as DirectoryEntry}
 use Rattle.r10_dirchain.specs.Chain.{listed_files}
 use Rattle.r10_dirchain.specs.Mount.{blocks_in, stands}
 use Rattle.r10_dirchain.specs.declared.chain.ChainBlock.{ChainBlock}
-use Rattle.r10_dirchain.proofs.Standing.{Stand, Stand-take, usable_of}
+use Rattle.r10_dirchain.proofs.RulesAsFacts.{Stand, Stand-take, usable_of}
 use Rattle.r10_volume.specs.Holding.{OpenState}
-use Rattle.r10_refinement.specs.Kept.{idle, recording}
+use Rattle.r10_refinement.specs.KeptState.{idle, recording}
 use Rattle.r10_medium.specs.Disk.{Image, IsWhole}
 use Rattle.r10_openfile.specs.Keeping.{ListsLast, ended_in}
-use Rattle.r10_cursor.specs.Knowing.{IsUnder}
+use Rattle.r10_cursor.specs.JudgedFiles.{IsUnder}
 use Rattle.r10_cursor.specs.Staying.{KeepListed}
 use Rattle.r10_cursor.specs.declared.books.Books.{Books}
 use Rattle.r10_cursor.specs.declared.judged_file.JudgedFile.{JudgedFile}

@@ -6,7 +6,7 @@ use Rattle.r10_count.specs.Checks.{first_broken}
 use Rattle.r10_machine.specs.Checks.{mounted_checks}
 use Rattle.r10_machine.specs.Limits.{IsConfig}
 use Rattle.r10_machine.specs.Machine.{Machine}
-use Rattle.r10_refinement.specs.Kept.{Kept, Work, mode_of, unmounted, idle, recording, failed}
+use Rattle.r10_refinement.specs.KeptState.{Kept, Work, mode_of, unmounted, idle, recording, failed}
 use Rattle.r10_refinement.specs.Means.{HasFiles, KeptStepsTo, KeptStandsFor}
 use Rattle.r10_refinement.proofs.Leading.{StepsStaySound}
 use Rattle.r10_medium.specs.Disk.{Image}
@@ -47,10 +47,10 @@ files_lack law k image n m limits means fine = memory_leads law k image image n 
 
 pub files_done : FilesAreTold → (k : Kept) (image : Image) (n : ℕ) (m : Machine) (infos : List FileInfo) → IsConfig k.config → KeptStandsFor k image n m → first_broken (mounted_checks (mode_of k.work)) ≡ None
     → infos ≡ map info_in (files_of k.work) → KeptStepsTaking none_taken k m Files (replies.Files infos) k image n
-files_done told k image n m infos limits means fine is = record {
+files_done reported k image n m infos limits means fine is = record {
   machine = record m { failures = n };
   led = subst (λ (l : List FileInfo). KeptStepsTo k m Files (replies.Files l) k image n (record m { failures = n })) (sym (is ∙ told_infos k k.work image m refl fine means.files))
-      (told k image image n n m limits means refl (omega arith) (same_check k image n m means ∙ fine));
+      (reported k image image n n m limits means refl (omega arith) (same_check k image n m means ∙ fine));
   lanes = none_left m.lanes;
   cursors = refl;
   sizes = λ again. none_shrinks m.files;

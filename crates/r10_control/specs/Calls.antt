@@ -8,9 +8,12 @@ use Rattle.r10_body.specs.declared.entry.Sample.{Sample}
 use Rattle.r10_body.specs.declared.refusal.Refusal.{Refusal}
 use Rattle.r10_body.specs.declared.refusal.Refusal.TheVariants as refusals
 use Rattle.r10_body.specs.declared.spec.ChannelSpec.{ChannelSpec}
-use Rattle.r10_control.specs.Checks.{advancing_checks, counting_checks, erasing_checks, finding_checks, idling_checks, listing_checks, mounting_checks}
-use Rattle.r10_control.specs.Checks.{no_checks, noting_checks, opening_checks, pumping_checks, recorder_refusal, running_checks, sealing_checks, starting_checks, ticking_checks}
-use Rattle.r10_control.specs.Effects.{CommitEffect, DismountEffect, EraseEffect, EventEffect, MountEffect, PumpEffect, StartEffect, StopEffect, TickEffect}
+use Rattle.r10_control.specs.Checks.{advancing_checks, counting_checks, erasing_checks, finding_checks, idling_checks}
+use Rattle.r10_control.specs.Checks.{listing_checks, mounting_checks}
+use Rattle.r10_control.specs.Checks.{no_checks, noting_checks, opening_checks, pumping_checks, recorder_refusal, running_checks}
+use Rattle.r10_control.specs.Checks.{sealing_checks, starting_checks, ticking_checks}
+use Rattle.r10_control.specs.Effects.{CommitEffect, DismountEffect, EraseEffect, EventEffect, MountEffect, PumpEffect, StartEffect}
+use Rattle.r10_control.specs.Effects.{StopEffect, TickEffect}
 use Rattle.r10_control.specs.Fronts.{CommitSpares, IdleSpares, MountSpares, RecordedSpares, SealSpares, StartSpares, StopSpares}
 use Rattle.r10_control.specs.Lanes.{WaitQuietly}
 use Rattle.r10_control.specs.Leading.{CallStepsTaking, KeptStepsTaking, MachinesKeepShown, none_taken}
@@ -20,17 +23,18 @@ use Rattle.r10_control.specs.Recording.{IsCommitRefusal, IsEntryRefusal}
 use Rattle.r10_control.specs.Refused.{IsMountRefusal, RefusesCall, RefusesOpen, nothing_lacks}
 use Rattle.r10_control.specs.Safely.{LeavesTaking, StopsSafely}
 use Rattle.r10_control.specs.SealRefusals.{IsSealRefusal, IsSealed}
-use Rattle.r10_control.specs.Standing.{PumpShows, StepsAlike, StopsAlone}
+use Rattle.r10_control.specs.RepresentedLanes.{PumpShows, StepsAlike, StopsAlone}
 use Rattle.r10_control.specs.Started.{IsStartRefusal}
 use Rattle.r10_control.specs.State.{RecorderState}
-use Rattle.r10_control.specs.Taking.{CountsMoved, FirstLacks, HadRoom, IsStopped, LeftNone, RefusesReadied, StepsByTaking, TookAll, most_of}
-use Rattle.r10_control.specs.Told.{TellsRecorder, without_lost}
+use Rattle.r10_control.specs.Taking.{CountsMoved, FirstLacks, HadRoom, IsStopped, LeftNone, RefusesReadied, StepsByTaking, TookAll}
+use Rattle.r10_control.specs.Taking.{most_of}
+use Rattle.r10_control.specs.RecorderStatus.{TellsRecorder, without_lost}
 use Rattle.r10_control.specs.declared.status.RecorderStatus.{RecorderStatus}
 use Rattle.r10_count.specs.Checks.{first_broken}
 use Rattle.r10_count.specs.declared.civil.Parts.{Parts}
 use Rattle.r10_cursor.specs.Read.{IsReadTo, TakesNext}
 use Rattle.r10_cursor.specs.Replays.{AdvancesReading}
-use Rattle.r10_cursor.specs.Standing.{fresh_slot}
+use Rattle.r10_cursor.specs.RepresentedCursors.{fresh_slot}
 use Rattle.r10_cursor.specs.declared.cursor.Cursor.{Cursor as CursorValue}
 use Rattle.r10_dirchain.specs.Steps.{emptied, with_shutdown}
 use Rattle.r10_machine.specs.Checks.{Check, advance_checks, mounted_checks}
@@ -44,8 +48,8 @@ use Rattle.r10_machine.specs.declared.mode.Stopped.{Stopped as StoppedValue}
 use Rattle.r10_machine.specs.declared.reply.Found.{Found as FoundValue}
 use Rattle.r10_machine.specs.declared.reply.Reply.{Reply as ReplyValue}
 use Rattle.r10_machine.specs.declared.reply.Reply.TheVariants as replies
-use Rattle.r10_refinement.specs.Kept.{Kept, mode_of}
-use Rattle.r10_refinement.specs.Left.{AnswersSafely, StaysSafe}
+use Rattle.r10_refinement.specs.KeptState.{Kept, mode_of}
+use Rattle.r10_refinement.specs.PowerLossInCalls.{AnswersSafely, StaysSafe}
 use Rattle.r10_refinement.specs.Means.{KeptStandsFor}
 use Rattle.r10_medium.specs.Disk.{Disk, Image, IsSynced}
 
@@ -191,7 +195,8 @@ OwnsBy event answer k old later new = OwnStay k old later new
 -- ---- from the recorder before it to the recorder after it
 
 -- from every machine that is represented, the call is a step to one that is represented then
-abbrev pub StepsFrom : {M L T : Type 0} → (M → Disk) → EventValue → (T → ReplyValue) → RecorderState M L → RecorderState M L → Result T Refusal → Type 0
+abbrev pub StepsFrom : {M L T : Type 0} → (M → Disk) → EventValue → (T → ReplyValue) → RecorderState M L → RecorderState M L
+    → Result T Refusal → Type 0
 StepsFrom disk event reply before after answer =
     CallStepsTaking none_taken before.kept (disk before.medium).blocks (disk before.medium).failures event reply answer
     after.kept (disk after.medium).blocks (disk after.medium).failures
@@ -204,7 +209,8 @@ pub record DoesCall {M L : Type 0} (disk : M → Disk) (call : CallForm M) (befo
   -- no check refuses an Ok
   pub passed : OnOk answer (first_broken (call.checks before.kept) ≡ None)
   -- a refusal is the first that applies, and leaves what is stated there
-  pub refused : IfErr answer (call.refuses disk (first_broken (call.checks before.kept)) before.kept after.kept before.medium after.medium)
+  pub refused : IfErr answer (call.refuses disk (first_broken (call.checks before.kept)) before.kept after.kept before.medium
+      after.medium)
   -- it is a step of the model
   pub steps : StepsFrom disk call.event (λ _. replies.Done) before after answer
   -- the bytes that files show stay
@@ -212,7 +218,8 @@ pub record DoesCall {M L : Type 0} (disk : M → Disk) (call : CallForm M) (befo
   -- a loss of power at any moment of it leaves the files from before it, or those that its step makes
   pub power_loss : MatchResult answer
       (λ _. StaysSafe (λ m. Unit {0}) before.kept call.event replies.Done (disk before.medium) after.kept (disk after.medium))
-      (λ r. StaysSafe (λ m. Unit {0}) before.kept call.event (replies.Refused r) (disk before.medium) after.kept (disk after.medium))
+      (λ r. StaysSafe (λ m. Unit {0}) before.kept call.event (replies.Refused r) (disk before.medium) after.kept
+      (disk after.medium))
   -- what an Ok has done
   pub effect : OnOk answer (call.effect before.kept (disk before.medium) after.kept (disk after.medium))
   -- what the recorder's own files have
@@ -254,12 +261,14 @@ pub record DoesPump {M L : Type 0} (took : L → List Sample → L → Type 0) (
 
 -- A stop: what waits in all lanes is taken, and the file is closed.
 pub record DoesStop {M L : Type 0} (took : L → List Sample → L → Type 0) (quiet : L → Option (List Sample)) (reached : L → ℕ)
-    (spec_of : L → ChannelSpec) (disk : M → Disk) (before after : RecorderState M L) (answer : Result StoppedValue Refusal) : Type 0 where
+    (spec_of : L → ChannelSpec) (disk : M → Disk) (before after : RecorderState M L)
+    (answer : Result StoppedValue Refusal) : Type 0 where
   pub passed : OnOk answer (first_broken (running_checks before.kept) ≡ None)
   pub refused : IfErr answer (RefusesReadied disk (first_broken (running_checks before.kept)) nothing_lacks
       before.kept after.kept before.medium after.medium)
   -- what it took from the lanes, and the step that it is with that
-  pub takes : StepsByTaking took quiet spec_of (rising (channel_ids before.kept.config.channels)) (most_of before.kept.config.channels)
+  pub takes : StepsByTaking took quiet spec_of (rising (channel_ids before.kept.config.channels))
+      (most_of before.kept.config.channels)
       IsStopped LeftNone
       before.kept (disk before.medium).blocks (disk before.medium).failures events.Stop (λ said. replies.Stopped said) answer
       after.kept (disk after.medium).blocks (disk after.medium).failures before.lanes after.lanes
@@ -291,11 +300,14 @@ pub record DoesRead {M L T : Type 0} (disk : M → Disk) (event : EventValue) (c
   pub reads : OnlyReads disk before after answer
 
 -- the first entry of a channel from a count on, in the file of a number; and the count there at a civil time
-abbrev pub DoesFind : {M L : Type 0} → (M → Disk) → ℕ → ℕ → ℕ → RecorderState M L → RecorderState M L → Result (Option FoundValue) Refusal → Type 0
+abbrev pub DoesFind : {M L : Type 0} → (M → Disk) → ℕ → ℕ → ℕ → RecorderState M L → RecorderState M L
+    → Result (Option FoundValue) Refusal → Type 0
 DoesFind disk file channel count before after answer =
-    DoesRead disk (events.Find file channel count) (finding_checks file count) file (λ found. replies.Found found) before after answer
+    DoesRead disk (events.Find file channel count) (finding_checks file count) file
+    (λ found. replies.Found found) before after answer
 
-abbrev pub DoesCountAt : {M L : Type 0} → (M → Disk) → ℕ → Parts → RecorderState M L → RecorderState M L → Result (Option ℕ) Refusal → Type 0
+abbrev pub DoesCountAt : {M L : Type 0} → (M → Disk) → ℕ → Parts → RecorderState M L → RecorderState M L → Result (Option ℕ) Refusal
+    → Type 0
 DoesCountAt disk file parts before after answer =
     DoesRead disk (events.CountAt file parts) (counting_checks file parts) file (λ count. replies.CountAt count) before after answer
 
@@ -356,8 +368,10 @@ pub record OpensCursor {M L : Type 0} (disk : M → Disk) (file : ℕ) (channels
 pub record AdvancesFront {M L : Type 0} (seen : List Packet → List Packet) (disk : M → Disk) (before after : RecorderState M L)
     (cursor later : CursorValue) (answer : Result ℕ Refusal) : Type 0 where
   pub passed : OnOk answer (first_broken (advancing_checks (mode_of before.kept.work) before.kept.generation cursor) ≡ None)
-  pub refused : IfErr answer (RefusesCall disk (first_broken (advancing_checks (mode_of before.kept.work) before.kept.generation cursor))
-      (IsReadFileRefusal before.kept.work (disk before.medium).blocks cursor.file) before.kept after.kept before.medium after.medium)
+  pub refused : IfErr answer
+      (RefusesCall disk (first_broken (advancing_checks (mode_of before.kept.work) before.kept.generation cursor))
+      (IsReadFileRefusal before.kept.work (disk before.medium).blocks cursor.file) before.kept after.kept before.medium
+      after.medium)
   pub advances : (packets : List Packet) → ShowsAt before.kept.work (disk before.medium).blocks cursor.file packets
       → OnOk answer (AdvancesReading cursor.reading later.reading (seen packets))
   pub queued : IfOk answer (λ n. n ≡ length later.reading.queue)
@@ -367,10 +381,12 @@ pub record AdvancesFront {M L : Type 0} (seen : List Packet → List Packet) (di
   pub reads : OnlyReads disk before after answer
 
 -- of all that the medium shows; and of the packets before a place alone, or of those that it has covered
-abbrev pub AdvancesRecorder : {M L : Type 0} → (M → Disk) → RecorderState M L → RecorderState M L → CursorValue → CursorValue → Result ℕ Refusal → Type 0
+abbrev pub AdvancesRecorder : {M L : Type 0} → (M → Disk) → RecorderState M L → RecorderState M L → CursorValue → CursorValue
+    → Result ℕ Refusal → Type 0
 AdvancesRecorder disk before after cursor later answer = AdvancesFront (λ packets. packets) disk before after cursor later answer
 
-abbrev pub AdvancesUpTo : {M L : Type 0} → ℕ → (M → Disk) → RecorderState M L → RecorderState M L → CursorValue → CursorValue → Result ℕ Refusal → Type 0
+abbrev pub AdvancesUpTo : {M L : Type 0} → ℕ → (M → Disk) → RecorderState M L → RecorderState M L → CursorValue → CursorValue
+    → Result ℕ Refusal → Type 0
 AdvancesUpTo until disk before after cursor later answer =
     AdvancesFront (λ packets. take (max until cursor.reading.covered) packets) disk before after cursor later answer
 
@@ -405,13 +421,15 @@ pub record AdvancesChecked {M L : Type 0} (disk : M → Disk) (before after : Re
 pub record OnlyTells {M L T : Type 0} (disk : M → Disk) (event : EventValue) (checks : Kept → List Check) (reply : T → ReplyValue)
     (now : RecorderState M L) (answer : Result T Refusal) : Type 0 where
   pub passed : OnOk answer (first_broken (checks now.kept) ≡ None)
-  pub refused : IfErr answer (RefusesCall disk (first_broken (checks now.kept)) nothing_lacks now.kept now.kept now.medium now.medium)
+  pub refused : IfErr answer (RefusesCall disk (first_broken (checks now.kept)) nothing_lacks now.kept now.kept now.medium
+      now.medium)
   pub steps : StepsFrom disk event reply now now answer
 
 -- How the recorder is, in any mode; its lanes are looked at, and nothing is taken from them.
-pub record TellsStatus {M L : Type 0} (took : L → List Sample → L → Type 0) (quiet : L → Option (List Sample)) (spec_of : L → ChannelSpec)
+pub record TellsStatus {M L : Type 0} (took : L → List Sample → L → Type 0) (quiet : L → Option (List Sample))
+    (spec_of : L → ChannelSpec)
     (disk : M → Disk) (before after : RecorderState M L) (answer : Result RecorderStatus Refusal) : Type 0 where
-  pub told : IfOk answer (TellsRecorder quiet spec_of before.kept before.lanes)
+  pub reported : IfOk answer (TellsRecorder quiet spec_of before.kept before.lanes)
   -- where the lanes are quiet, that is what the machine tells
   pub meant : (m : Machine) → KeptStandsFor before.kept (disk before.medium).blocks (disk before.medium).failures m
       → WaitQuietly quiet before.lanes m.lanes → IfOk answer (λ status. status ≡ without_lost (status_of before.kept.config m))

@@ -8,15 +8,18 @@ use Rattle.r10_dirblock.specs.declared.entry.Entry.{Entry as DirectoryEntry}
 use Rattle.r10_dirchain.specs.Chain.{listed_files}
 use Rattle.r10_count.specs.declared.civil.Parts.{Parts}
 use Rattle.r10_machine.specs.Config.{Config}
-use Rattle.r10_machine.specs.Checks.{Check, begin_checks, cursor_checks, idle_checks, mounted_checks, recording_checks, tick_checks, unmounted_checks}
-use Rattle.r10_refinement.specs.Kept.{Kept, Work, mode_of, unmounted, idle, recording, failed}
+use Rattle.r10_machine.specs.Checks.{Check, begin_checks, cursor_checks, idle_checks, mounted_checks, recording_checks}
+use Rattle.r10_machine.specs.Checks.{tick_checks, unmounted_checks}
+use Rattle.r10_refinement.specs.KeptState.{Kept, Work, mode_of, unmounted, idle, recording, failed}
 use Rattle.r10_control.specs.Owns.{tick_count}
-use Rattle.r10_cursor.specs.Standing.{read_checks}
+use Rattle.r10_cursor.specs.RepresentedCursors.{read_checks}
 use Rattle.r10_cursor.specs.declared.cursor.Cursor.{Cursor as CursorValue}
 use Rattle.r10_machine.specs.declared.mode.Mode.{Mode}
 use Rattle.r10_machine.specs.EventChecks.{count_at_checks, erase_checks, event_checks, find_checks, most_files}
 use Rattle.r10_machine.specs.declared.event.Event.{Event as EventValue}
-use Rattle.r10_machine.specs.declared.event.Event.TheVariants.{Mount, Dismount, Tick, Start, Offer, Lose, Pump, Event, Commit, Stop, Seal, Erase, Files, Status, Cursor, Advance, Next, Close, Find, CountAt}
+use Rattle.r10_machine.specs.declared.event.Event.TheVariants.{Mount, Dismount, Tick, Start, Offer, Lose, Pump, Event, Commit}
+use Rattle.r10_machine.specs.declared.event.Event.TheVariants.{Stop, Seal, Erase, Files, Status, Cursor, Advance, Next, Close}
+use Rattle.r10_machine.specs.declared.event.Event.TheVariants.{Find, CountAt}
 use Rattle.r10_volume.specs.Listing.{has_name, is_last_closed}
 
 -- the files of the directory in use
@@ -41,7 +44,8 @@ ticking_checks count parts k = mounted_checks (mode_of k.work) ++ tick_checks (t
 -- a file of this name may be begun beside these
 abbrev pub beside_checks : Config → List DirectoryEntry → List ℕ → List Check
 beside_checks s files name =
-    (not (has_name name files), NameTaken) ∷ (is_last_closed files, Unsealed) ∷ (nat_lt (length files) (most_files s), DirectoryFull) ∷ []
+    (not (has_name name files), NameTaken) ∷ (is_last_closed files, Unsealed)
+    ∷ (nat_lt (length files) (most_files s), DirectoryFull) ∷ []
 
 abbrev pub starting_checks : List ℕ → List ℕ → Kept → List Check
 starting_checks name setup k =

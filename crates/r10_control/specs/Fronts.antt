@@ -14,7 +14,7 @@ use Rattle.r10_machine.specs.Config.{Config}
 use Rattle.r10_machine.specs.Machine.{Tick}
 use Rattle.r10_machine.specs.declared.event.Event.{Event as EventValue}
 use Rattle.r10_machine.specs.declared.event.Event.TheVariants as events
-use Rattle.r10_refinement.specs.Kept.{Kept, Work, idle, recording}
+use Rattle.r10_refinement.specs.KeptState.{Kept, Work, idle, recording}
 use Rattle.r10_medium.specs.Disk.{Disk, Image, Unchanged}
 use Rattle.r10_medium.specs.Stop.{Leaves}
 use Rattle.r10_openfile.specs.AtOnce.{BeginsAtOnce, SparesFront, TurnsAtOnce}
@@ -59,7 +59,8 @@ abbrev pub RecordedSpares : Work → Disk → Disk → Type 0
 RecordedSpares (recording chain o) old new = SparesFront (first_of o.recording.out.blocks) old new
 RecordedSpares work old new = Unchanged old new
 
--- A start turns the directory at once into one that lists a file more. Where none is in use, or a file is recorded, nothing is written.
+-- A start turns the directory at once into one that lists a file more. Where none is in use, or a file is recorded, nothing is
+-- written.
 abbrev pub StartsAtOnce : List ℕ → Parts → ℕ → Work → Disk → Disk → Type 0
 StartsAtOnce name civil reserved (idle chain) old new =
     BeginsAtOnce name civil (block_behind reserved (listed_files chain)) chain old new
@@ -91,15 +92,16 @@ pub record StopSpares (k : Kept) (old new : Disk) : Type 0 where
   pub at_once : IfSome k.tick (λ (tick : Tick). ListsAtOnce (closed_listing tick.civil) k.work old new)
 
 -- the last file of the directory in use, with this entry, is strict and has no index
-pub record IsLastUnsealed (w : Work) (image : Image) (chain : List ChainBlock) (e : DirectoryEntry) (packets : List Packet) : Type 0 where
+pub record IsLastUnsealed (w : Work) (image : Image) (chain : List ChainBlock) (e : DirectoryEntry)
+    (packets : List Packet) : Type 0 where
   pub in_use : w ≡ idle chain
   pub last : last_or None (listed_files chain) ≡ Some e
   pub text : List ℕ
   pub unsealed : IsUnsealed (bytes_from image e.first_block e.size) text packets
 
--- Of such a file a seal writes nothing in front, but in the directory's reserved blocks. At every moment, and in what is read then,
--- blocks of the file with its index are put, or the directory lists it closed. Where the last file may not be closed, for its bytes are
--- at fault or cost more than there is, the medium stays as it was.
+-- Of such a file a seal writes nothing in front, but in the directory's reserved blocks. At every moment, and in what is read
+-- then, blocks of the file with its index are put, or the directory lists it closed. Where the last file may not be closed, for
+-- its bytes are at fault or cost more than there is, the medium stays as it was.
 pub record SealSpares (s : Config) (w : Work) (old new : Disk) : Type 0 where
   pub front : (chain : List ChainBlock) (e : DirectoryEntry) (packets : List Packet) → IsLastUnsealed w old.blocks chain e packets
       → KeepsFront s.directory e.first_block old.blocks new.blocks

@@ -37,7 +37,7 @@ use Rattle.r10_openfile.specs.Pumping.{EndsBy}
 use Rattle.r10_openfile.specs.Starting.{begins_within, begun_file}
 use Rattle.r10_openfile.specs.Stopping.{AllEnd, TellsWaiting, TookAll, most_of}
 use Rattle.r10_packetout.specs.Carries.{time_entry_at}
-use Rattle.r10_refinement.specs.Kept.{mode_of}
+use Rattle.r10_refinement.specs.KeptState.{mode_of}
 use Rattle.r10_seal.specs.Sealing.{listing_block}
 use Rattle.r10_volume.specs.Front.{KeepsFront}
 use Rattle.r10_volume.specs.Holding.{HoldsFiles, OpenState}

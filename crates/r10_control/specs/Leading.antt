@@ -3,7 +3,7 @@ use Rattle.std.specs.Prelude.{◌≡◌, ℕ, List, [], ◌∷◌, Result, Match
 use Rattle.r10_body.specs.declared.refusal.Refusal.{Refusal}
 use Rattle.r10_machine.specs.Calls.{without}
 use Rattle.r10_machine.specs.Machine.{Lane, Machine}
-use Rattle.r10_refinement.specs.Kept.{Kept}
+use Rattle.r10_refinement.specs.KeptState.{Kept}
 use Rattle.r10_refinement.specs.Means.{KeptStepsTo, KeptStandsFor}
 use Rattle.r10_medium.specs.Disk.{Disk, Image}
 use Rattle.r10_cursor.specs.Staying.{NoneShrinks}
@@ -26,9 +26,10 @@ none_taken channel = 0
 
 -- ---- steps
 
--- a step leads to a machine that is represented then, whose lanes gave so many, which has the same cursors, and of whose files none of the same
--- generation has fewer bytes
-pub record KeptStepsTaking (taken : ℕ → ℕ) (k : Kept) (m : Machine) (event : EventValue) (reply : ReplyValue) (later : Kept) (image : Image) (failures : ℕ) : Type 0 where
+-- a step leads to a machine that is represented then, whose lanes gave so many, which has the same cursors, and of whose files
+-- none of the same generation has fewer bytes
+pub record KeptStepsTaking (taken : ℕ → ℕ) (k : Kept) (m : Machine) (event : EventValue) (reply : ReplyValue) (later : Kept)
+    (image : Image) (failures : ℕ) : Type 0 where
   pub machine : Machine
   pub led : KeptStepsTo k m event reply later image failures machine
   pub lanes : AreLeft taken m.lanes machine.lanes
@@ -36,9 +37,11 @@ pub record KeptStepsTaking (taken : ℕ → ℕ) (k : Kept) (m : Machine) (event
   pub sizes : machine.generation ≡ m.generation → NoneShrinks m.files machine.files
 
 -- from each machine that is represented, what a call answers leads to one that is represented then
-abbrev pub CallStepsTaking : {T : Type 0} → (ℕ → ℕ) → Kept → Image → ℕ → EventValue → (T → ReplyValue) → Result T Refusal → Kept → Image → ℕ → Type 0
+abbrev pub CallStepsTaking : {T : Type 0} → (ℕ → ℕ) → Kept → Image → ℕ → EventValue → (T → ReplyValue) → Result T Refusal → Kept
+    → Image → ℕ → Type 0
 CallStepsTaking taken k old before event reply result later new now =
-    (m : Machine) → KeptStandsFor k old before m → MatchResult result (λ v. KeptStepsTaking taken k m event (reply v) later new now) (λ r. KeptStepsTaking taken k m event (Refused r) later new now)
+    (m : Machine) → KeptStandsFor k old before m → MatchResult result (λ v. KeptStepsTaking taken k m event (reply v) later new now)
+    (λ r. KeptStepsTaking taken k m event (Refused r) later new now)
 
 -- of each machine that is represented, the files keep the bytes that the medium shows of them
 abbrev pub MachinesKeepShown : Kept → Image → ℕ → Image → Type 0

@@ -8,7 +8,7 @@ pub mod Refused
 pub mod SealRefusals
 pub mod Started
 pub mod Lanes
-pub mod Told
+pub mod RecorderStatus
 pub mod Reading
 pub mod PumpFaults
 pub mod Taking
@@ -18,7 +18,7 @@ pub mod Closing
 pub mod Effects
 pub mod Safely
 pub mod Own
-pub mod Standing
+pub mod RepresentedLanes
 pub mod Fronts
 pub mod Calls
 pub mod InnerCalls

@@ -7,7 +7,7 @@ use Rattle.r10_body.specs.declared.spec.ChannelSpec.{ChannelSpec}
 use Rattle.r10_dirblock.specs.declared.entry.Entry.{Entry as DirectoryEntry}
 use Rattle.r10_dirchain.specs.Chain.{IsDirectory, listed_files}
 use Rattle.r10_dirchain.specs.declared.chain.ChainBlock.{ChainBlock}
-use Rattle.r10_refinement.specs.Kept.{Kept, Work, unmounted, idle, recording, failed}
+use Rattle.r10_refinement.specs.KeptState.{Kept, Work, unmounted, idle, recording, failed}
 use Rattle.r10_medium.specs.Disk.{Image}
 use Rattle.r10_openfile.specs.Carrying.{IsEnded, IsShown}
 use Rattle.r10_openfile.specs.Keeping.{ended_in}
@@ -18,7 +18,8 @@ use Rattle.r10_volume.specs.Holding.{OpenState}
 -- each of these listed files is a closed file, and they have these entries, file after file
 abbrev pub AreEnded : Image → List DirectoryEntry → List Entry → Type 0
 AreEnded image [] own = own ≡ []
-AreEnded image (e ∷ listed) own = (text : List ℕ) × (here : List Entry) × (rest : List Entry) × (own ≡ here ++ rest) × IsEnded image e text here × AreEnded image listed rest
+AreEnded image (e ∷ listed) own = (text : List ℕ) × (here : List Entry) × (rest : List Entry) × (own ≡ here ++ rest)
+    × IsEnded image e text here × AreEnded image listed rest
 
 -- the files that were found are listed first, so many; each after them is closed, and they have these entries
 pub record EndAfter (found : Option ℕ) (image : Image) (listed : List DirectoryEntry) (own : List Entry) : Type 0 where
@@ -39,7 +40,8 @@ pub record EndOpen (found : Option ℕ) (image : Image) (chain : List ChainBlock
 
 -- by what the recorder does: before its first mount none is its own, and of one that failed nothing is stated
 abbrev pub OwnIn : Option ℕ → Work → Image → List Entry → Type 0
-OwnIn found unmounted image own = ((found ≡ None) × (own ≡ [])) ⊎ ((chain : List ChainBlock) × IsDirectory image chain × EndAfter found image (listed_files chain) own)
+OwnIn found unmounted image own = ((found ≡ None) × (own ≡ []))
+    ⊎ ((chain : List ChainBlock) × IsDirectory image chain × EndAfter found image (listed_files chain) own)
 OwnIn found (idle chain) image own = EndAfter found image (listed_files chain) own
 OwnIn found (recording chain o) image own = EndOpen found image chain o own
 OwnIn found failed image own = ⊥

@@ -1,5 +1,6 @@
 -- What a recorder reads: a file of the directory in use, or the one that is recorded.
-use Rattle.std.specs.Prelude.{◌≡◌, ℕ, ◌+◌, ◌^◌, ◌<◌, ◌≤◌, List, [], length, take, Option, None, Some, Result, IfSome, OnOk, IsSomeAnd, slice_get}
+use Rattle.std.specs.Prelude.{◌≡◌, ℕ, ◌+◌, ◌^◌, ◌<◌, ◌≤◌, List, [], length, take, Option, None, Some, Result, IfSome, OnOk}
+use Rattle.std.specs.Prelude.{IsSomeAnd, slice_get}
 use Rattle.std.specs.List.{last_or}
 use Rattle.r10_blockout.specs.Output.{first_of}
 use Rattle.r10_body.specs.Faults.{IsAtFault}
@@ -11,9 +12,9 @@ use Rattle.r10_dirblock.specs.declared.entry.Entry.{Entry as DirectoryEntry}
 use Rattle.r10_dirchain.specs.declared.chain.ChainBlock.{ChainBlock}
 use Rattle.r10_volume.specs.Holding.{OpenState}
 use Rattle.r10_index.specs.Book.{Book}
-use Rattle.r10_cursor.specs.Knowing.{SaysClosed}
+use Rattle.r10_cursor.specs.JudgedFiles.{SaysClosed}
 use Rattle.r10_machine.specs.Machine.{Machine}
-use Rattle.r10_refinement.specs.Kept.{Kept, Work, unmounted, idle, recording, failed}
+use Rattle.r10_refinement.specs.KeptState.{Kept, Work, unmounted, idle, recording, failed}
 use Rattle.r10_medium.specs.Disk.{Disk, Image, Unchanged}
 use Rattle.r10_cursor.specs.Files.{HasDataPackets, IsShownWith, bytes_in}
 use Rattle.r10_cursor.specs.declared.refusal.ReadRefusal.{ReadRefusal}
@@ -45,9 +46,11 @@ open_of failed = None
 -- a directory lists fewer than 2^64 files, and last the one that is recorded
 pub record ListsRecordedLast (work : Work) : Type 0 where
   pub few : length (files_of work) < 2 ^ 64
-  pub last : IfSome (open_of work) (λ o. IsSomeAnd (last_or None (files_of work)) (λ (e : DirectoryEntry). e.first_block ≡ first_of o.recording.out.blocks))
+  pub last : IfSome (open_of work) (λ o. IsSomeAnd (last_or None (files_of work))
+      (λ (e : DirectoryEntry). e.first_block ≡ first_of o.recording.out.blocks))
 
--- this is reported of a file that is held as the one that is written: its first block, and what the index will say of the packets that the medium shows, and of all
+-- this is reported of a file that is held as the one that is written: its first block, and what the index will say of the
+-- packets that the medium shows, and of all
 pub record IsToldOf (o : OpenState) (w : Written) : Type 0 where
   pub first : w.first ≡ first_of o.recording.out.blocks
   pub named : w.named.now ≡ take o.shown o.recording.out.entries
@@ -73,26 +76,34 @@ pub record IsInUse (work : Work) (chain : List ChainBlock) (files : ℕ) (writte
 abbrev pub book_of : OpenState → Book
 book_of o = record { entries = o.recording.out.entries; room = o.recording.out.room; counted = o.recording.out.counted }
 
--- of the file that is recorded the medium shows these packets, these are what an index would say of them, and its book has them first
+-- of the file that is recorded the medium shows these packets, these are what an index would say of them, and its book has
+-- them first
 abbrev pub ShowsOpenPackets : Image → OpenState → List Packet → Type 0
-ShowsOpenPackets image o packets = IsShownWith image (first_of o.recording.out.blocks) (take o.shown o.recording.out.entries) (book_of o) packets
+ShowsOpenPackets image o packets = IsShownWith image (first_of o.recording.out.blocks) (take o.shown o.recording.out.entries)
+    (book_of o) packets
 
 -- the medium shows these packets of the file of a number, without those of its index
 pub data ShowsAt (work : Work) (image : Image) (file : ℕ) (packets : List Packet) : Type 0 where
-  of_ended : (e : DirectoryEntry) → slice_get (ended_files work) file ≡ Some e → HasDataPackets (bytes_in image e) packets → ShowsAt work image file packets
-  of_recorded : (o : OpenState) → open_of work ≡ Some o → length (files_of work) ≡ file + 1 → ShowsOpenPackets image o packets → ShowsAt work image file packets
+  of_ended : (e : DirectoryEntry) → slice_get (ended_files work) file ≡ Some e → HasDataPackets (bytes_in image e) packets
+      → ShowsAt work image file packets
+  of_recorded : (o : OpenState) → open_of work ≡ Some o → length (files_of work) ≡ file + 1 → ShowsOpenPackets image o packets
+      → ShowsAt work image file packets
 
--- the file of a number is there: it is strict with the closing of its directory entry, or the one that is recorded, of which the medium shows packets
+-- the file of a number is there: it is strict with the closing of its directory entry, or the one that is recorded, of which
+-- the medium shows packets
 pub data IsReadAt (work : Work) (image : Image) (file : ℕ) : Type 0 where
-  is_ended : (e : DirectoryEntry) → slice_get (ended_files work) file ≡ Some e → SaysClosed (bytes_in image e) (is_closed e) → IsReadAt work image file
-  is_recorded : (o : OpenState) (packets : List Packet) → open_of work ≡ Some o → length (files_of work) ≡ file + 1 → ShowsOpenPackets image o packets → IsReadAt work image file
+  is_ended : (e : DirectoryEntry) → slice_get (ended_files work) file ≡ Some e → SaysClosed (bytes_in image e) (is_closed e)
+      → IsReadAt work image file
+  is_recorded : (o : OpenState) (packets : List Packet) → open_of work ≡ Some o → length (files_of work) ≡ file + 1
+      → ShowsOpenPackets image o packets → IsReadAt work image file
 
 -- ---- what is refused
 
 -- no file has this number; or it ended, and is at fault, first so
 abbrev pub IsReadFileRefusal : Work → Image → ℕ → Refusal → Type 0
 IsReadFileRefusal work image file refusals.NoSuchFile = length (files_of work) ≤ file
-IsReadFileRefusal work image file (refusals.BadFile offset fault) = IsSomeAnd (slice_get (ended_files work) file) (λ e. IsAtFault (bytes_in image e) (is_closed e) offset fault)
+IsReadFileRefusal work image file (refusals.BadFile offset fault) = IsSomeAnd (slice_get (ended_files work) file)
+    (λ e. IsAtFault (bytes_in image e) (is_closed e) offset fault)
 IsReadFileRefusal work image file r = ⊥
 
 -- the refusal of a file that isn't read, and what the recorder does then
@@ -119,7 +130,8 @@ pub record MayOpen (k : Kept) (image : Image) (m : Machine) (file : ℕ) (channe
 
 -- ---- what is left
 
--- a call that only reads leaves what the medium shows and a stop leaves, lanes and settings; and all that is kept, where it answers
+-- a call that only reads leaves what the medium shows and a power loss leaves, lanes and settings; and all that is kept, where
+-- it answers
 pub record OnlyReads {M L T : Type 0} (disk : M → Disk) (old new : RecorderState M L) (result : Result T Refusal) : Type 0 where
   pub kept : OnOk result (new.kept ≡ old.kept)
   pub same : Unchanged (disk old.medium) (disk new.medium)

@@ -1,6 +1,7 @@
 -- What a call takes from lanes.
 use Rattle.r10_blockout.specs.Output.{first_of}
-use Rattle.std.specs.Prelude.{◌≡◌, ◌⊎◌, ℕ, ◌+◌, ◌-◌, ◌^◌, ◌≤◌, List, [], ◌∷◌, ◌++◌, length, map, min, Option, None, Some, IfErr, IfOk, IsSomeAnd, OnOk, Result, Ok, Err, MatchResult, slice_get}
+use Rattle.std.specs.Prelude.{◌≡◌, ◌⊎◌, ℕ, ◌+◌, ◌-◌, ◌^◌, ◌≤◌, List, [], ◌∷◌, ◌++◌, length, map, min, Option, None, Some, IfErr}
+use Rattle.std.specs.Prelude.{IfOk, IsSomeAnd, OnOk, Result, Ok, Err, MatchResult, slice_get}
 use Rattle.std.specs.List.{AllByRecursion, sum_by}
 use Rattle.r10_control.specs.Own.{OwnGrow}
 use Rattle.r10_control.specs.Refused.{IsSameKept}
@@ -21,7 +22,7 @@ use Rattle.r10_machine.specs.Machine.{File, Machine, with_entries}
 use Rattle.r10_machine.specs.Room.{area as area_of, area_from}
 use Rattle.r10_machine.specs.declared.mode.Stopped.{Stopped}
 use Rattle.r10_refinement.specs.Grown.{AreGrown}
-use Rattle.r10_refinement.specs.Kept.{Kept, Work, recording, failed}
+use Rattle.r10_refinement.specs.KeptState.{Kept, Work, recording, failed}
 use Rattle.r10_refinement.specs.Means.{KeptStandsFor}
 use Rattle.r10_medium.specs.Disk.{Disk, Image, Rose}
 use Rattle.r10_mux.specs.Writes.{IsSameFile}
@@ -58,7 +59,8 @@ one_part channel samples rest = record { channel = channel; samples = samples; r
 abbrev pub NoneBehind : {L : Type 0} → (L → Option (List Sample)) → (L → ChannelSpec) → List L → Part → Type 0
 NoneBehind quiet spec_of lanes p = AllByRecursion (λ lane. (spec_of lane).id ≡ p.channel → quiet lane ≡ None → p.rest ≡ []) lanes
 
--- After a file that took all of this in, channel by channel all went in that may, up to the first sample that has no room there; after that one none did.
+-- After a file that took all of this in, channel by channel all went in that may, up to the first sample that has no room
+-- there; after that one none did.
 pub record WentThrough (most : ℕ → ℕ) (s : Config) (o : OpenState) (parts : List Part) : Type 0 where
   pub file : Recording
   pub cost : file.cost ≡ o.recording.cost + sum_by entry_cost (entries_of parts)
@@ -74,15 +76,22 @@ abbrev pub ClosesFor : List Entry → Work → Work → Type 0
 ClosesFor more (recording chain o) (recording made p) = LeavesOpen (with_taken more) o.recording.builders p.recording.builders
 ClosesFor more was now = Unit {0}
 
--- Channel by channel in this order, up to some, a call took these parts from the lanes, no more of a channel than may be; of a lane that is quiet, a part and its rest are all that waited. Where the medium failed while they were taken, nothing is reported of the rests.
+-- Channel by channel in this order, up to some, a call took these parts from the lanes, no more of a channel than may be; of a
+-- lane that is quiet, a part and its rest are all that waited. Where the medium failed while they were taken, nothing is
+-- reported of the rests.
 -- Where the call succeeds, each channel has its part, and all went in that may, up to the first sample that has no room.
--- No part is more than its lane has room for. Where the answer says that nothing was left, none is asked to wait after what was taken of a lane that isn't quiet.
--- They are counted where the call succeeds, and whatever entries the recorder's own files had, these are after them then. From each machine that is represented, and in whose lanes the parts and their rests wait, what the call answers leads to one that is represented then.
-pub record StepsByTaking {L T : Type 0} (took : L → List Sample → L → Type 0) (quiet : L → Option (List Sample)) (spec_of : L → ChannelSpec) (order : List ℕ) (most : ℕ → ℕ) (says : T → List Part → Type 0) (bare : Result T Refusal → Type 0)
-    (k : Kept) (old : Image) (before : ℕ) (event : EventValue) (reply : T → ReplyValue) (result : Result T Refusal) (later : Kept) (new : Image) (now : ℕ) (lanes lanes' : List L) : Type 0 where
+-- No part is more than its lane has room for. Where the answer says that nothing was left, none is asked to wait after what
+-- was taken of a lane that isn't quiet.
+-- They are counted where the call succeeds, and whatever entries the recorder's own files had, these are after them then. From
+-- each machine that is represented, and in whose lanes the parts and their rests wait, what the call answers leads to one that
+-- is represented then.
+pub record StepsByTaking {L T : Type 0} (took : L → List Sample → L → Type 0) (quiet : L → Option (List Sample))
+    (spec_of : L → ChannelSpec) (order : List ℕ) (most : ℕ → ℕ) (says : T → List Part → Type 0) (bare : Result T Refusal → Type 0)
+    (k : Kept) (old : Image) (before : ℕ) (event : EventValue) (reply : T → ReplyValue) (result : Result T Refusal) (later : Kept)
+    (new : Image) (now : ℕ) (lanes lanes' : List L) : Type 0 where
   pub parts : List Part
   pub known : List Part
-  pub told : (known ≡ parts) ⊎ ((known ≡ []) × (result ≡ Err Medium))
+  pub reported : (known ≡ parts) ⊎ ((known ≡ []) × (result ≡ Err Medium))
   pub passed : List ℕ
   pub order_is : map (λ (p : Part). p.channel) parts ++ passed ≡ order
   pub whole : OnOk result (passed ≡ [])
@@ -99,7 +108,8 @@ pub record StepsByTaking {L T : Type 0} (took : L → List Sample → L → Type
   pub numbers : OnOk result (later ≡ record k { work = later.work; taken = later.taken })
   pub own : OwnGrow k old later new (entries_of parts)
   pub steps : (m : Machine) → KeptStandsFor k old before m → AllByRecursion (HasWaiting m.lanes) known
-      → MatchResult result (λ v. KeptStepsTaking (taken_of parts) k m event (reply v) later new now) (λ r. KeptStepsTaking (taken_of parts) k m event (Refused r) later new now)
+      → MatchResult result (λ v. KeptStepsTaking (taken_of parts) k m event (reply v) later new now)
+      (λ r. KeptStepsTaking (taken_of parts) k m event (Refused r) later new now)
 
 -- so many were moved
 abbrev pub CountsMoved : ℕ → List Part → Type 0
@@ -107,7 +117,8 @@ CountsMoved n parts = n ≡ length (entries_of parts)
 
 -- so many were taken, and so many are left, up to 2^64 - 1
 abbrev pub IsStopped : Stopped → List Part → Type 0
-IsStopped said parts = (said.taken ≡ length (entries_of parts)) × (said.left ≡ min (sum_by (λ (p : Part). length p.rest) parts) (2 ^ 64 - 1))
+IsStopped said parts = (said.taken ≡ length (entries_of parts))
+    × (said.left ≡ min (sum_by (λ (p : Part). length p.rest) parts) (2 ^ 64 - 1))
 
 -- a pump's answer, unless it is that the first that waits has no room
 abbrev pub HadRoom : Result ℕ Refusal → Type 0
@@ -119,16 +130,20 @@ LeftNone result = MatchResult result (λ said. said.left ≡ 0) (λ r. elim r [ 
 
 -- ---- the file
 
--- As a call that asked for memory is refused: the first check that doesn't hold, which leaves all; else what is lacking, which leaves the medium, and what is kept but for the memory of the file; or the medium failed, and the recorder with it.
+-- As a call that asked for memory is refused: the first check that doesn't hold, which leaves all; else what is lacking, which
+-- leaves the medium, and what is kept but for the memory of the file; or the medium failed, and the recorder with it.
 abbrev pub RefusesReadied : {M : Type 0} → (M → Disk) → Option Refusal → (Refusal → Type 0) → Kept → Kept → M → M → Refusal → Type 0
 RefusesReadied disk (Some first) lacks old new medium medium' r = (r ≡ first) × (new ≡ old) × (medium' ≡ medium)
-RefusesReadied disk None lacks old new medium medium' Medium = Rose (disk medium).failures (disk medium').failures × (new ≡ record old { work = failed })
+RefusesReadied disk None lacks old new medium medium' Medium = Rose (disk medium).failures (disk medium').failures
+    × (new ≡ record old { work = failed })
 RefusesReadied disk None lacks old new medium medium' OutOfMemory = IsSameKept old new × (medium' ≡ medium)
 RefusesReadied disk None lacks old new medium medium' r = lacks r × IsSameKept old new × (medium' ≡ medium)
 
 -- The file took these entries in, and goes on: it costs no more than there is, where that was so before.
-pub record WentOn (area : ℕ) (ends ends' : List Entry → Type 0) (more : List Entry) (old : OpenState) (before : Image) (new : OpenState) (after : Image) : Type 0 where
-  pub carries : (text : List ℕ) (entries : List Entry) (n : ℕ) → IsShown before old text entries n → ends entries → IsShown after new text (entries ++ more) n
+pub record WentOn (area : ℕ) (ends ends' : List Entry → Type 0) (more : List Entry) (old : OpenState) (before : Image)
+    (new : OpenState) (after : Image) : Type 0 where
+  pub carries : (text : List ℕ) (entries : List Entry) (n : ℕ) → IsShown before old text entries n → ends entries
+      → IsShown after new text (entries ++ more) n
   pub follows : (entries : List Entry) → ends entries → ends' (entries ++ more)
   pub file : IsSameFile old.recording new.recording
   pub closes : LeavesOpen (with_taken more) old.recording.builders new.recording.builders
@@ -136,7 +151,9 @@ pub record WentOn (area : ℕ) (ends ends' : List Entry → Type 0) (more : List
   pub again : AllByRecursion HasRoomForTwo new.recording.builders
   pub cost : old.recording.cost ≤ area → new.recording.cost ≤ area
   pub on : (chain : List ChainBlock) → MayGoOn old before chain → MayGoOn new after chain
-  pub holds : (s : Config) (chain : List ChainBlock) (files : List File) (f : File) → HoldsFiles s before chain (Some old) (files ++ f ∷ []) → ends f.entries → HoldsFiles s after chain (Some new) (files ++ with_entries more f ∷ [])
+  pub holds : (s : Config) (chain : List ChainBlock) (files : List File) (f : File)
+      → HoldsFiles s before chain (Some old) (files ++ f ∷ []) → ends f.entries
+      → HoldsFiles s after chain (Some new) (files ++ with_entries more f ∷ [])
 
 -- the bytes from a listed file's first block to the medium's end
 abbrev pub area_behind : Config → Option DirectoryEntry → ℕ
@@ -145,27 +162,35 @@ area_behind s (Some e) = area_from s e.first_block
 
 -- ---- a pump
 
--- the first that waits in the channel's lane has no room in the file, where one may be moved; of a lane that is quiet all of this waits
-abbrev pub HasNoPlace : {L : Type 0} → (L → Option (List Sample)) → (L → ChannelSpec) → List L → Config → OpenState → ℕ → ℕ → Full → Type 0
+-- the first that waits in the channel's lane has no room in the file, where one may be moved; of a lane that is quiet all of
+-- this waits
+abbrev pub HasNoPlace : {L : Type 0} → (L → Option (List Sample)) → (L → ChannelSpec) → List L → Config → OpenState → ℕ → ℕ → Full
+    → Type 0
 HasNoPlace quiet spec_of lanes s o channel most lacks =
-    (waiting : List Sample) × TellsWaiting quiet spec_of lanes (one_part channel [] waiting) × Begins o.recording channel (area_from s (first_of o.recording.out.blocks)) most waiting (Some lacks)
+    (waiting : List Sample) × TellsWaiting quiet spec_of lanes (one_part channel [] waiting)
+    × Begins o.recording channel (area_from s (first_of o.recording.out.blocks)) most waiting (Some lacks)
 
-abbrev pub IsForFirst : {L : Type 0} → (L → Option (List Sample)) → (L → ChannelSpec) → List L → Config → OpenState → ℕ → ℕ → Refusal → Type 0
+abbrev pub IsForFirst : {L : Type 0} → (L → Option (List Sample)) → (L → ChannelSpec) → List L → Config → OpenState → ℕ → ℕ
+    → Refusal → Type 0
 IsForFirst quiet spec_of lanes s o channel most MediumFull = HasNoPlace quiet spec_of lanes s o channel most lacking.Medium
 IsForFirst quiet spec_of lanes s o channel most r = ⊥
 
 -- so it is refused for want of room, in the file that is recorded
-abbrev pub FirstLacks : {L : Type 0} → (L → Option (List Sample)) → (L → ChannelSpec) → List L → Config → Work → ℕ → ℕ → Refusal → Type 0
+abbrev pub FirstLacks : {L : Type 0} → (L → Option (List Sample)) → (L → ChannelSpec) → List L → Config → Work → ℕ → ℕ → Refusal
+    → Type 0
 FirstLacks quiet spec_of lanes s (recording chain o) channel most r = IsForFirst quiet spec_of lanes s o channel most r
 FirstLacks quiet spec_of lanes s work channel most r = ⊥
 
 -- these samples are moved into the machine's file, whichever it is
-abbrev pub MovesAny : (List Entry → Type 0) → ℕ → ℕ → ℕ → ℕ → List Sample → List Sample → Option Full → OpenState → Image → OpenState → Type 0
+abbrev pub MovesAny : (List Entry → Type 0) → ℕ → ℕ → ℕ → ℕ → List Sample → List Sample → Option Full → OpenState → Image
+    → OpenState → Type 0
 MovesAny ends channel most area n samples rest full old before new =
-    (s : Config) (chain : List ChainBlock) (files : List File) (f : File) → HoldsFiles s before chain (Some old) (files ++ f ∷ []) → ends f.entries → area ≡ area_of s f → IsMovedIn s f channel most n samples rest full new.recording
+    (s : Config) (chain : List ChainBlock) (files : List File) (f : File) → HoldsFiles s before chain (Some old) (files ++ f ∷ [])
+    → ends f.entries → area ≡ area_of s f → IsMovedIn s f channel most n samples rest full new.recording
 
 -- so many were moved, and where none was, none was asked for or nothing waits; why no more were is reported
-pub record MovedSamples (ends ends' : List Entry → Type 0) (channel most area : ℕ) (samples rest : List Sample) (old : OpenState) (before : Image) (new : OpenState) (after : Image) (n : ℕ) : Type 0 where
+pub record MovedSamples (ends ends' : List Entry → Type 0) (channel most area : ℕ) (samples rest : List Sample) (old : OpenState)
+    (before : Image) (new : OpenState) (after : Image) (n : ℕ) : Type 0 where
   pub number : n ≡ length samples
   pub on : WentOn area ends ends' (entries_on channel samples) old before new after
   pub full : Option Full
@@ -175,20 +200,26 @@ pub record MovedSamples (ends ends' : List Entry → Type 0) (channel most area 
   pub moves : MovesAny ends channel most area n samples rest full old before new
 
 -- nothing was moved and nothing written, and the file is the same but for its memory
-pub record Stayed {M : Type 0} (ends ends' : List Entry → Type 0) (samples : List Sample) (old : OpenState) (medium : M) (new : OpenState) (medium' : M) : Type 0 where
+pub record Stayed {M : Type 0} (ends ends' : List Entry → Type 0) (samples : List Sample) (old : OpenState) (medium : M)
+    (new : OpenState) (medium' : M) : Type 0 where
   pub none : samples ≡ []
   pub same : medium' ≡ medium
   pub file : IsAskedFor old new
   pub lasts : (entries : List Entry) → ends entries → ends' entries
 
 -- the first that waits has no room; or memory was refused where it has; or the medium failed, after a first one that had room
-abbrev pub MovedNone : {M : Type 0} → (M → Disk) → (List Entry → Type 0) → (List Entry → Type 0) → ℕ → ℕ → ℕ → List Sample → List Sample → OpenState → M → OpenState → M → PumpFault → Type 0
+abbrev pub MovedNone : {M : Type 0} → (M → Disk) → (List Entry → Type 0) → (List Entry → Type 0) → ℕ → ℕ → ℕ → List Sample
+    → List Sample → OpenState → M → OpenState → M → PumpFault → Type 0
 MovedNone disk ends ends' channel most area samples rest old medium new medium' (pump_faults.Full full) =
-    Stayed ends ends' samples old medium new medium' × MovesAny ends channel most area 0 [] rest (Some full) old (disk medium).blocks new × Begins new.recording channel area most rest (Some full)
-MovedNone disk ends ends' channel most area samples rest old medium new medium' pump_faults.Memory = Stayed ends ends' samples old medium new medium' × Begins old.recording channel area most rest None
+    Stayed ends ends' samples old medium new medium' × MovesAny ends channel most area 0 [] rest (Some full) old
+    (disk medium).blocks new × Begins new.recording channel area most rest (Some full)
+MovedNone disk ends ends' channel most area samples rest old medium new medium' pump_faults.Memory =
+    Stayed ends ends' samples old medium new medium' × Begins old.recording channel area most rest None
 MovedNone disk ends ends' channel most area samples rest old medium new medium' pump_faults.Medium =
     Rose (disk medium).failures (disk medium').failures × IsSomeAnd (slice_get samples 0) (SampleHasRoom old.recording channel area)
-    × ((s : Config) (chain : List ChainBlock) (files : List File) (f : File) → HoldsFiles s (disk medium).blocks chain (Some old) (files ++ f ∷ []) → ends f.entries → MediumSays s (disk medium').blocks (files ++ f ∷ []))
+    × ((s : Config) (chain : List ChainBlock) (files : List File) (f : File)
+    → HoldsFiles s (disk medium).blocks chain (Some old) (files ++ f ∷ []) → ends f.entries
+    → MediumSays s (disk medium').blocks (files ++ f ∷ []))
 
 -- this, unless the first has no room
 abbrev pub UnlessFull : Result ℕ PumpFault → Type 0 → Type 0
@@ -205,8 +236,11 @@ pub record ShowsFirst (shows : Sample → Type 0) (single : Sample → List Samp
   pub front : slice_get rest 0 ≡ Some first
   pub alone : single first rest
 
--- From the lane of a channel these samples were taken, at most so many and no more than it has room for, and the rest waits after them, which is bare unless the first has no room: that one is shown then.
-pub record PumpedLane {M : Type 0} (took : List Sample → Type 0) (left : List Sample → List Sample → Type 0) (bare : List Sample → Type 0) (showing : List Sample → Type 0) (ends ends' : List Entry → Type 0) (disk : M → Disk) (channel capacity most area : ℕ)
+-- From the lane of a channel these samples were taken, at most so many and no more than it has room for, and the rest waits
+-- after them, which is bare unless the first has no room: that one is shown then.
+pub record PumpedLane {M : Type 0} (took : List Sample → Type 0) (left : List Sample → List Sample → Type 0)
+    (bare : List Sample → Type 0) (showing : List Sample → Type 0) (ends ends' : List Entry → Type 0) (disk : M → Disk)
+    (channel capacity most area : ℕ)
     (old : OpenState) (medium : M) (new : OpenState) (medium' : M) (result : Result ℕ PumpFault) : Type 0 where
   pub samples : List Sample
   pub rest : List Sample
@@ -216,4 +250,5 @@ pub record PumpedLane {M : Type 0} (took : List Sample → Type 0) (left : List 
   pub few : length samples ≤ capacity
   pub alone : UnlessFull result (bare rest)
   pub shown : WherePumpFull result (showing rest)
-  pub moved : MatchResult result (MovedSamples ends ends' channel most area samples rest old (disk medium).blocks new (disk medium').blocks) (MovedNone disk ends ends' channel most area samples rest old medium new medium')
+  pub moved : MatchResult result (MovedSamples ends ends' channel most area samples rest old (disk medium).blocks new
+      (disk medium').blocks) (MovedNone disk ends ends' channel most area samples rest old medium new medium')

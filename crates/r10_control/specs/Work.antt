@@ -1,5 +1,5 @@
 -- What a recorder does, by its directory and its open file.
-use Rattle.r10_refinement.specs.Kept.{Work, unmounted, idle, recording, failed}
+use Rattle.r10_refinement.specs.KeptState.{Work, unmounted, idle, recording, failed}
 use Rattle.r10_control.specs.declared.work.Doing.{Doing}
 use Rattle.r10_control.specs.declared.work.Doing.TheVariants as doing
 

@@ -31,7 +31,7 @@ impl<M: BlockMedium, L: LaneOut> Recorder<M, L> {
     /// last, as the medium shows it. Refused: Failed, NotMounted, OutOfMemory.
     pub fn files(&self) -> Result<Vec<FileInfo>, Refusal>
         ensures does { OnlyTells M.disk events.Files listing_checks (λ infos. replies.Files infos.items) self.now result }
-        ensures told { IfOk result (λ infos. infos.items ≡ map info_in (files_of self.now.kept.work)) }
+        ensures reported { IfOk result (λ infos. infos.items ≡ map info_in (files_of self.now.kept.work)) }
     {
         // For the proof: a step keeps a state sound; what is reported is the machine's; the channels are within limits.
         a_step_stays_sound();

@@ -4,7 +4,7 @@ ghost use Rattle.std.specs.Prelude.{◌≡◌, ◌-◌, ◌^◌, ◌==◌, lengt
 ghost use Rattle.std.specs.List.{last_or, position};
 ghost use Rattle.r10_body.specs.declared.spec.ChannelSpec.{ChannelSpec as ChannelSpecValue};
 ghost use Rattle.r10_control.specs.Checks.{files_of};
-ghost use Rattle.r10_control.specs.Told.{last_shown, number_on, shown_as_last};
+ghost use Rattle.r10_control.specs.RecorderStatus.{last_shown, number_on, shown_as_last};
 ghost use Rattle.r10_control.specs.Work.{work_of};
 ghost use Rattle.r10_dirchain.specs.Chain.{listed_files};
 

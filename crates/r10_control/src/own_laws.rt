@@ -5,7 +5,7 @@ ghost use Rattle.std.specs.List.{flat_map};
 ghost use Rattle.r10_control.specs.Own.{AreOwn, OwnGrow, OwnStay};
 ghost use Rattle.r10_machine.specs.Machine.{Machine};
 ghost use Rattle.r10_machine.specs.SoundParts.{own_files};
-ghost use Rattle.r10_refinement.specs.Kept.{Kept, failed};
+ghost use Rattle.r10_refinement.specs.KeptState.{Kept, failed};
 ghost use Rattle.r10_refinement.specs.Means.{KeptStandsFor};
 ghost use Rattle.r10_medium.specs.Disk.{Image};
 

@@ -3,7 +3,7 @@
 ghost use Rattle.std.specs.Prelude.{◌≡◌, ◌≤◌, [], length, map, replicate, None, IfOk, IfErr};
 ghost use Rattle.std.specs.List.{AllByRecursion};
 ghost use Rattle.r10_control.specs.Own.{AreOwn};
-ghost use Rattle.r10_refinement.specs.Kept.{unmounted};
+ghost use Rattle.r10_refinement.specs.KeptState.{unmounted};
 
 use crate::keeping::Keeping;
 use crate::lifted::Lifted;

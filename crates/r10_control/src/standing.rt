@@ -3,7 +3,7 @@
 ghost use Rattle.std.specs.Prelude.{◌≡◌, [], map, IfSome};
 ghost use Rattle.std.specs.List.{AllByRecursion};
 ghost use Rattle.r10_control.specs.Leading.{AreLeft, none_taken};
-ghost use Rattle.r10_control.specs.Standing.{StandFor};
+ghost use Rattle.r10_control.specs.RepresentedLanes.{StandFor};
 ghost use Rattle.r10_machine.specs.Machine.{Machine, fresh_lane};
 
 use crate::recorder::Recorder;

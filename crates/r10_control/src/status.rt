@@ -7,13 +7,13 @@ ghost use Rattle.r10_body.specs.declared.refusal.Refusal.TheVariants as refusals
 ghost use Rattle.r10_volume.specs.Holding.{HoldsFiles};
 ghost use Rattle.r10_machine.specs.Machine.{File, Machine};
 ghost use Rattle.r10_machine.specs.Room.{area, area_from, cost_of};
-ghost use Rattle.r10_refinement.specs.Kept.{mode_of};
+ghost use Rattle.r10_refinement.specs.KeptState.{mode_of};
 ghost use Rattle.r10_refinement.specs.Means.{HasFiles};
 ghost use Rattle.r10_medium.specs.Disk.{Image};
 ghost use Rattle.r10_control.specs.Checks.{files_of};
 ghost use Rattle.r10_control.specs.Lanes.{AnswersWith};
 ghost use Rattle.r10_control.specs.Owns.{tick_count};
-ghost use Rattle.r10_control.specs.Told.{TellsLane, TellsLanes, channels_in, free_in, left_in, status_in};
+ghost use Rattle.r10_control.specs.RecorderStatus.{TellsLane, TellsLanes, channels_in, free_in, left_in, status_in};
 ghost use Rattle.r10_control.specs.Work.{work_of};
 ghost use Rattle.r10_machine.specs.Finding.{channel_status, free_bytes};
 ghost use Rattle.r10_machine.specs.declared.event.Event.TheVariants as events;
@@ -91,7 +91,7 @@ impl<M: BlockMedium, L: LaneOut> Recorder<M, L> {
 impl<M: BlockMedium> Recorder<M, RingLane> {
     /// The same, and of each channel how many messages were lost. Refused: OutOfMemory.
     pub fn status_with_lost(&self) -> Result<Status, Refusal>
-        ensures told { IfOk result (λ status. status ≡ status_in self.now.kept self.now.lanes) }
+        ensures reported { IfOk result (λ status. status ≡ status_in self.now.kept self.now.lanes) }
         ensures refused { IfErr result (λ r. r ≡ refusals.OutOfMemory) }
         ensures steps { AnswersWith self.now.lanes self.now.kept (M.disk self.now.medium).blocks
             (M.disk self.now.medium).failures events.Status (λ status. replies.Status status) result self.now.lanes }
@@ -214,20 +214,20 @@ fn lanes_in<L: LaneOut>(
     erased: &[u64],
 ) -> Result<Vec<LaneStatus>, AllocError>
     requires { length erased.now ≡ length lanes.old.items }
-    ensures told { IfOk result (λ told. TellsLanes L.quiet L.spec_of mode lanes.old.items erased.now told.items) }
+    ensures reported { IfOk result (λ reported. TellsLanes L.quiet L.spec_of mode lanes.old.items erased.now reported.items) }
     ensures took { TookAll L.took L.spec_of [] lanes.old.items lanes.new.items }
 {
-    let mut told = Vec::with_capacity(alloc, lanes.len())?;
+    let mut reported = Vec::with_capacity(alloc, lanes.len())?;
     for at in 0..lanes.len() {
         let lane = &mut lanes[at];
-        told.push_reserved(lane_in(mode, lane, erased[at]));
+        reported.push_reserved(lane_in(mode, lane, erased[at]));
     }
-    Ok(told)
+    Ok(reported)
 }
 
 /// How a channel is, by what its lane holds, where erases took so many of its entries.
 fn lane_in<L: LaneOut>(mode: Mode, lane: &mut L, erased: u64) -> LaneStatus
-    ensures told { TellsLane L.quiet L.spec_of mode lane.old erased result }
+    ensures reported { TellsLane L.quiet L.spec_of mode lane.old erased result }
     ensures took { L.took lane.old [] lane.new }
 {
     let channel = lane.spec().id;

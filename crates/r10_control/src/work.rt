@@ -1,7 +1,7 @@
 //! What a recorder does.
 
 ghost use Rattle.std.specs.Prelude.{◌≡◌};
-ghost use Rattle.r10_refinement.specs.Kept.{mode_of};
+ghost use Rattle.r10_refinement.specs.KeptState.{mode_of};
 ghost use Rattle.r10_control.specs.Work.{work_of};
 
 use r10_dirchain::Directory;

@@ -11,7 +11,7 @@ ghost use Rattle.r10_machine.specs.Sound.{IsEntry};
 ghost use Rattle.r10_volume.specs.Holding.{IsCarried, IsWritten, OpenState};
 ghost use Rattle.r10_cursor.specs.Files.{HasDataPackets};
 ghost use Rattle.r10_cursor.specs.Held.{IsCovered, IsHeldFile};
-ghost use Rattle.r10_cursor.specs.Knowing.{IsWriting};
+ghost use Rattle.r10_cursor.specs.JudgedFiles.{IsWrittenFile};
 ghost use Rattle.r10_cursor.specs.Read.{IsReadTo, bytes_shown};
 ghost use Rattle.r10_cursor.specs.declared.written.Written.{Written};
 ghost use Rattle.r10_control.specs.Reading.{IsToldOf};
@@ -20,7 +20,7 @@ ghost use Rattle.r10_control.specs.Reading.{IsToldOf};
 /// machine's, they are its; and what a cursor has read of it is covered of the packets by which it is read.
 pub fn what_is_written_is_shown()
     ensures writing { (image : Image) (o : OpenState) (text : List ℕ) (entries : List Entry) (w : Written)
-        → IsCarried image o text entries → IsToldOf o w → IsWhole image → length image ≤ 2 ^ 53 → IsWriting image (Some w) }
+        → IsCarried image o text entries → IsToldOf o w → IsWhole image → length image ≤ 2 ^ 53 → IsWrittenFile image (Some w) }
     ensures held { (s : Config) (image : Image) (chain : List ChainBlock) (o : OpenState) (f : File) (w : Written)
         → IsWritten s image o f → IsToldOf o w → AllByRecursion (IsEntry s) f.entries → IsHeldFile image chain (Some w) w.file f }
     ensures covered { (s : Config) (image : Image) (chain : List ChainBlock) (o : OpenState) (f : File) (w : Written)

@@ -23,7 +23,7 @@ one_spelled form before [] [] fe fd q = refl
 one_spelled form before [] (d ∷ ds) fe fd q = absurd (omega (arith, spelled_some form before d ds fd, ap length q))
 one_spelled form before (e ∷ es) [] fe fd q = absurd (omega (arith, spelled_some form before e es fe, ap length q))
 one_spelled form before (e ∷ es) (d ∷ ds) fe fd q =
-    let same = first_is form.front form.told (form.spelled before e) (spelled_all form (form.count e) es) (form.spelled before d) (spelled_all form (form.count d) ds)
+    let same = first_is form.front form.reported (form.spelled before e) (spelled_all form (form.count e) es) (form.spelled before d) (spelled_all form (form.count d) ds)
     (form.tells before e fe.0) (form.tells before d fd.0) q in
     let is : e ≡ d = form.one before e d fe.0 fd.0 same.0 in
     let fits : FitsAll form (form.count e) ds = rw is fd.1 in

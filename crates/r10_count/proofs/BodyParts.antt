@@ -6,12 +6,12 @@ use Rattle.std.specs.List.{concat}
 use Rattle.r10_count.specs.Form.{Form, IsEntryBytes, IsSplit}
 
 -- the front tells how long the first entry is
-pub first_is : (front : ℕ) (told : List ℕ → Option ℕ) (c r d s : List ℕ) → IsEntryBytes front told c → IsEntryBytes front told d → c ++ r ≡ d ++ s → (c ≡ d) × (r ≡ s)
-first_is front told c r d s hc hd e =
+pub first_is : (front : ℕ) (reported : List ℕ → Option ℕ) (c r d s : List ℕ) → IsEntryBytes front reported c → IsEntryBytes front reported d → c ++ r ≡ d ++ s → (c ≡ d) × (r ≡ s)
+first_is front reported c r d s hc hd e =
     let ec : take front c ≡ take front (c ++ r) = sym (take-append-le front c r hc.0) in
     let ed : take front (d ++ s) ≡ take front d = take-append-le front d s hd.0 in
     let fronts : take front c ≡ take front d = ec ∙ ap (take front) e ∙ ed in
-    let lengths : Some (length c) ≡ Some (length d) = sym hc.1 ∙ ap told fronts ∙ hd.1 in
+    let lengths : Some (length c) ≡ Some (length d) = sym hc.1 ∙ ap reported fronts ∙ hd.1 in
     let n : length c ≡ length d = cc in
     let tc : c ≡ take (length c) (c ++ r) = sym (take-append_seam c r) in
     let same : c ≡ d = tc ∙ rw (n, e) (take-append_seam d s) in
@@ -25,19 +25,19 @@ pub record Counted {E : Type 0} (form : Form E) (bytes rest : List ℕ) (count :
   pub only : (all : List (List ℕ)) → IsSplit form all bytes → (parts : List (List ℕ)) × IsSplit form parts rest × (length all ≡ count + length parts)
 
 -- an entry has a byte
-pub entry_some : {E : Type 0} (form : Form E) (entry : List ℕ) → IsEntryBytes form.front form.told entry → 0 < length entry
+pub entry_some : {E : Type 0} (form : Form E) (entry : List ℕ) → IsEntryBytes form.front form.reported entry → 0 < length entry
 entry_some form entry h = omega (arith, form.some, h.0)
 
 one_less : {E : Type 0} (form : Form E) (first after parts_bytes : List ℕ) (n k : ℕ) (parts : List (List ℕ))
-    → IsEntryBytes form.front form.told first → n ≡ k + length parts → IsSplit form parts (first ++ after)
+    → IsEntryBytes form.front form.reported first → n ≡ k + length parts → IsSplit form parts (first ++ after)
     → (ps : List (List ℕ)) × IsSplit form ps after × (n ≡ k + 1 + length ps)
 one_less form first after parts_bytes n k [] h e s = absurd (omega (arith, entry_some form first h, length-append first after, ap length s.1))
 one_less form first after parts_bytes n k (d ∷ ds) h e s =
-    let same = first_is form.front form.told first after d (concat ds) h s.0.0 s.1 in
+    let same = first_is form.front form.reported first after d (concat ds) h s.0.0 s.1 in
     (ds, (s.0.1, same.1), omega arith)
 
 pub counted_more : {E : Type 0} (form : Form E) (bytes rest first after : List ℕ) (count : ℕ)
-    → IsEntryBytes form.front form.told first → rest ≡ first ++ after → Counted form bytes rest count → Counted form bytes after (count + 1)
+    → IsEntryBytes form.front form.reported first → rest ≡ first ++ after → Counted form bytes rest count → Counted form bytes after (count + 1)
 counted_more form bytes rest first after count h e so_far = record {
   room = omega (arith, entry_some form first h, length-append first after, ap length e, so_far.room);
   some = λ parts s.
@@ -52,7 +52,7 @@ none_left : {E : Type 0} (form : Form E) (rest : List ℕ) (parts : List (List �
 none_left form rest [] count n e s h = omega arith
 none_left form rest (d ∷ ds) count n e s h = absurd (omega (arith, entry_some form d s.0.0, length-append d (concat ds), ap length s.1, ap length e))
 
-stuck : {E : Type 0} (form : Form E) (rest : List ℕ) → 0 < length rest → ((entry after : List ℕ) → IsEntryBytes form.front form.told entry → rest ≡ entry ++ after → ⊥) → (parts : List (List ℕ)) → IsSplit form parts rest → ⊥
+stuck : {E : Type 0} (form : Form E) (rest : List ℕ) → 0 < length rest → ((entry after : List ℕ) → IsEntryBytes form.front form.reported entry → rest ≡ entry ++ after → ⊥) → (parts : List (List ℕ)) → IsSplit form parts rest → ⊥
 stuck form rest lt none [] s = omega (arith, ap length s.1)
 stuck form rest lt none (d ∷ ds) s = none d (concat ds) s.0.0 s.1
 
@@ -65,5 +65,5 @@ counted_only form bytes rest count e so_far all s = let left = so_far.only all s
 
 -- bytes that begin with no entry are none
 pub counted_stuck : {E : Type 0} (form : Form E) (bytes rest : List ℕ) (count : ℕ) → 0 < length rest → Counted form bytes rest count
-    → ((entry after : List ℕ) → IsEntryBytes form.front form.told entry → rest ≡ entry ++ after → ⊥) → (all : List (List ℕ)) → IsSplit form all bytes → ⊥
+    → ((entry after : List ℕ) → IsEntryBytes form.front form.reported entry → rest ≡ entry ++ after → ⊥) → (all : List (List ℕ)) → IsSplit form all bytes → ⊥
 counted_stuck form bytes rest count lt so_far none all s = let left = so_far.only all s in stuck form rest lt none left.0 left.1

@@ -10,17 +10,17 @@ pub record ReadSoFar {E : Type 0} (form : Form E) (before : ℕ) (bytes : List �
   pub only : (all : List E) → IsSpelled form before all bytes → (tail : List E) × (all ≡ entries ++ tail) × IsSpelled form count tail rest
 
 pub behind_first : {E : Type 0} (form : Form E) (count : ℕ) (first after : List ℕ) (e : E) (entries all tail : List E)
-    → IsEntryBytes form.front form.told first → ((d : E) → form.Fits count d → first ≡ form.spelled count d → e ≡ d)
+    → IsEntryBytes form.front form.reported first → ((d : E) → form.Fits count d → first ≡ form.spelled count d → e ≡ d)
     → all ≡ entries ++ tail → IsSpelled form count tail (first ++ after)
     → (left : List E) × (all ≡ (entries ++ e ∷ []) ++ left) × IsSpelled form (form.count e) left after
 behind_first form count first after e entries all [] h one q s = absurd (omega (arith, entry_some form first h, length-append first after, ap length s.1))
 behind_first form count first after e entries all (d ∷ ds) h one q s =
-    let same = first_is form.front form.told first after (form.spelled count d) (spelled_all form (form.count d) ds) h (form.tells count d s.0.0) s.1 in
+    let same = first_is form.front form.reported first after (form.spelled count d) (spelled_all form (form.count d) ds) h (form.tells count d s.0.0) s.1 in
     let is : e ≡ d = one d s.0.0 same.0 in
     (ds, q ∙ rw is (sym (append_assoc entries (d ∷ []) ds)), rw is (s.0.1, same.1))
 
 pub read_more : {E : Type 0} (form : Form E) (before : ℕ) (bytes : List ℕ) (entries : List E) (count : ℕ) (rest first after : List ℕ) (e : E)
-    → IsEntryBytes form.front form.told first → rest ≡ first ++ after → form.Fits count e → first ≡ form.spelled count e
+    → IsEntryBytes form.front form.reported first → rest ≡ first ++ after → form.Fits count e → first ≡ form.spelled count e
     → ((d : E) → form.Fits count d → first ≡ form.spelled count d → e ≡ d)
     → ReadSoFar form before bytes entries count rest → ReadSoFar form before bytes (entries ++ e ∷ []) (form.count e) after
 read_more form before bytes entries count rest first after e h q fits is one so_far = record {
@@ -52,14 +52,14 @@ stuck form count rest [] lt none s = omega (arith, ap length s.1)
 stuck form count rest (d ∷ ds) lt none s = none d (spelled_all form (form.count d) ds) s.0.0 s.1
 
 pub read_stuck : {E : Type 0} (form : Form E) (before : ℕ) (bytes : List ℕ) (entries : List E) (count : ℕ) (rest : List ℕ) → 0 < length rest → ReadSoFar form before bytes entries count rest
-    → ((entry after : List ℕ) → IsEntryBytes form.front form.told entry → rest ≡ entry ++ after → ⊥) → (all : List E) → IsSpelled form before all bytes → ⊥
+    → ((entry after : List ℕ) → IsEntryBytes form.front form.reported entry → rest ≡ entry ++ after → ⊥) → (all : List E) → IsSpelled form before all bytes → ⊥
 read_stuck form before bytes entries count rest lt so_far none all s =
     let left = so_far.only all s in
     stuck form count rest left.0 lt (λ d after fits q. none (form.spelled count d) after (form.tells count d fits) q) left.2
 
 pub read_unspelled : {E : Type 0} (form : Form E) (before : ℕ) (bytes : List ℕ) (entries : List E) (count : ℕ) (rest first after : List ℕ) → ReadSoFar form before bytes entries count rest
-    → IsEntryBytes form.front form.told first → rest ≡ first ++ after → ((d : E) → form.Fits count d → first ≡ form.spelled count d → ⊥) → (all : List E) → IsSpelled form before all bytes → ⊥
+    → IsEntryBytes form.front form.reported first → rest ≡ first ++ after → ((d : E) → form.Fits count d → first ≡ form.spelled count d → ⊥) → (all : List E) → IsSpelled form before all bytes → ⊥
 read_unspelled form before bytes entries count rest first after so_far h q none all s =
     let left = so_far.only all s in
     stuck form count rest left.0 (omega (arith, entry_some form first h, length-append first after, ap length q))
-    (λ d behind fits r. none d fits (first_is form.front form.told first after (form.spelled count d) behind h (form.tells count d fits) (sym q ∙ r)).0) left.2
+    (λ d behind fits r. none d fits (first_is form.front form.reported first after (form.spelled count d) behind h (form.tells count d fits) (sym q ∙ r)).0) left.2

@@ -5,13 +5,13 @@ use Rattle.r10_count.specs.Bytes.{le_bytes}
 
 -- the bytes of one entry, whoever wrote it: the first of them tell how many there are, or that no entry begins so
 abbrev pub IsEntryBytes : ℕ → (List ℕ → Option ℕ) → List ℕ → Type 0
-IsEntryBytes front told bytes = (front ≤ length bytes) × (told (take front bytes) ≡ Some (length bytes))
+IsEntryBytes front reported bytes = (front ≤ length bytes) × (reported (take front bytes) ≡ Some (length bytes))
 
 -- Entries of one kind. Each is spelled after the one before, whose count it may look at; the first looks at the packet's counter.
 pub record Form (E : Type 0) : Type 1 where
   -- how many bytes tell an entry's length, and the length that they tell
   pub front : ℕ
-  pub told : List ℕ → Option ℕ
+  pub reported : List ℕ → Option ℕ
   -- the count of its first data
   pub count : E → ℕ
   -- the bytes that the writer makes of it after an entry at a count, their number, and the ranges that its fields have there
@@ -26,10 +26,10 @@ pub record Form (E : Type 0) : Type 1 where
   pub agrees : ℕ → ℕ → Bool
   -- an entry's length is known by some bytes, which are its own
   pub some : 0 < front
-  pub covers : (bytes : List ℕ) (n : ℕ) → told bytes ≡ Some n → front ≤ n
+  pub covers : (bytes : List ℕ) (n : ℕ) → reported bytes ≡ Some n → front ≤ n
   -- the writer's spelling has its size, tells its length, and is that of no other entry
   pub sized : (before : ℕ) (e : E) → Fits before e → length (spelled before e) ≡ size e
-  pub tells : (before : ℕ) (e : E) → Fits before e → IsEntryBytes front told (spelled before e)
+  pub tells : (before : ℕ) (e : E) → Fits before e → IsEntryBytes front reported (spelled before e)
   pub one : (before : ℕ) (e d : E) → Fits before e → Fits before d → spelled before e ≡ spelled before d → e ≡ d
   -- an entry may come first in a packet whose counter is its count
   pub alone : (e : E) → opens (count e) e ≡ true
@@ -38,7 +38,7 @@ pub record Form (E : Type 0) : Type 1 where
 
 -- the bytes of entries, each with its length
 abbrev pub IsSplit : {E : Type 0} → Form E → List (List ℕ) → List ℕ → Type 0
-IsSplit form parts bytes = AllByRecursion (IsEntryBytes form.front form.told) parts × (bytes ≡ concat parts)
+IsSplit form parts bytes = AllByRecursion (IsEntryBytes form.front form.reported) parts × (bytes ≡ concat parts)
 
 -- each entry after the one before, the first after a count
 abbrev pub spelled_all : {E : Type 0} → Form E → ℕ → List E → List ℕ
@@ -78,4 +78,4 @@ pub record IsBody {E : Type 0} (form : Form E) (setting counter : ℕ) (entries 
 abbrev pub IsForeign : {E : Type 0} → Form E → List ℕ → Type 0
 IsForeign form body =
     (word : ℕ) × (parts : List (List ℕ)) × (word < 2 ^ 32) × (form.agrees word (length parts) ≡ true)
-    × AllByRecursion (IsEntryBytes form.front form.told) parts × (body ≡ le_bytes 4 word ++ concat parts)
+    × AllByRecursion (IsEntryBytes form.front form.reported) parts × (body ≡ le_bytes 4 word ++ concat parts)

@@ -1,5 +1,6 @@
 -- The least form that uses all that a form can say: counts, each spelled by its gap since the one before in a byte below 128.
-use Rattle.std.specs.Prelude.{◌≡◌, ◌+◌, ◌-◌, ◌*◌, ◌%◌, ◌^◌, ◌<◌, ◌≤◌, ◌==◌, ℕ, Bool, true, false, cond, Option, Some, None, List, [], ◌∷◌, slice_index, nat_lt, refl}
+use Rattle.std.specs.Prelude.{◌≡◌, ◌+◌, ◌-◌, ◌*◌, ◌%◌, ◌^◌, ◌<◌, ◌≤◌, ◌==◌, ℕ, Bool, true, false, cond, Option, Some, None, List}
+use Rattle.std.specs.Prelude.{[], ◌∷◌, slice_index, nat_lt, refl}
 use Rattle.std.proofs.Common.{arith, lit<}
 use Rattle.std.proofs.lemmas.Bool.{eq-eqb, lt-ltb}
 use Rattle.r10_count.specs.Form.{Form, IsEntryBytes}
@@ -23,17 +24,20 @@ gap-covers front n e = told_one (nat_lt (slice_index front 0) 128) n e
 pub gap-tells : (before count : ℕ) → FitsGap before count → IsEntryBytes 1 told_gap ((count - before) ∷ [])
 gap-tells before count fits = (lit< tt, rw (lt-ltb (count - before) 128 (omega arith)) refl)
 
-pub gap-one : (before count other : ℕ) → FitsGap before count → FitsGap before other → (count - before) ∷ [] ≡ (other - before) ∷ [] → count ≡ other
-gap-one before count other fits others e = let gaps : count - before ≡ other - before = cc in omega (arith, fits.later, others.later, gaps)
+pub gap-one : (before count other : ℕ) → FitsGap before count → FitsGap before other → (count - before) ∷ [] ≡ (other - before) ∷ []
+    → count ≡ other
+gap-one before count other fits others e = let gaps : count - before ≡ other - before = cc
+    in omega (arith, fits.later, others.later, gaps)
 
 pub gap-word : (setting n : ℕ) → 256 * (setting % 65536) + n % 256 < 2 ^ 32
 gap-word setting n = omega arith
 
--- a packet's first count is its counter, a channel's counts are below its setting, and the word has the setting and the number of counts
+-- a packet's first count is its counter, a channel's counts are below its setting, and the word has the setting and the number
+-- of counts
 abbrev pub gap_form : Form ℕ
 gap_form = record {
   front = 1;
-  told = told_gap;
+  reported = told_gap;
   count = λ e. e;
   spelled = λ before e. (e - before) ∷ [];
   size = λ e. 1;

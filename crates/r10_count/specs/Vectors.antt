@@ -40,21 +40,26 @@ leap_years = refl
 abbrev noon : ℕ → ℕ → ℕ → Parts
 noon y m d = record { year = y; month = m; day = d; hour = 12; minute = 0; second = 0; centi = 0 }
 
-pub days_that_are : map is_civil (noon 1 1 1 ∷ noon 2000 2 29 ∷ noon 2024 2 29 ∷ noon 2100 2 28 ∷ noon 3999 12 31 ∷ []) ≡ true ∷ true ∷ true ∷ true ∷ true ∷ []
+pub days_that_are : map is_civil (noon 1 1 1 ∷ noon 2000 2 29 ∷ noon 2024 2 29 ∷ noon 2100 2 28 ∷ noon 3999 12 31 ∷ []) ≡ true
+    ∷ true ∷ true ∷ true ∷ true ∷ []
 days_that_are = refl
 
-pub days_that_are_not : map is_civil (noon 0 12 31 ∷ noon 1900 2 29 ∷ noon 2023 2 29 ∷ noon 2100 2 29 ∷ noon 2023 4 31 ∷ noon 2024 0 1 ∷ noon 2024 13 1 ∷ noon 2024 1 0 ∷ noon 4000 1 1 ∷ []) ≡ false ∷ false ∷ false ∷ false ∷ false ∷ false ∷ false ∷ false ∷ false ∷ []
+pub days_that_are_not : map is_civil (noon 0 12 31 ∷ noon 1900 2 29 ∷ noon 2023 2 29 ∷ noon 2100 2 29 ∷ noon 2023 4 31
+    ∷ noon 2024 0 1 ∷ noon 2024 13 1 ∷ noon 2024 1 0 ∷ noon 4000 1 1 ∷ []) ≡ false ∷ false ∷ false ∷ false ∷ false ∷ false ∷ false
+    ∷ false ∷ false ∷ []
 days_that_are_not = refl
 
 -- the last hundredth of a day, then an hour, a minute, a second and a hundredth too many
 abbrev at : ℕ → ℕ → ℕ → ℕ → Parts
 at h m s c = record (noon 2016 12 31) { hour = h; minute = m; second = s; centi = c }
 
-pub times_of_day : map is_civil (at 23 59 59 99 ∷ at 24 0 0 0 ∷ at 23 60 0 0 ∷ at 23 59 60 0 ∷ at 23 59 59 100 ∷ []) ≡ true ∷ false ∷ false ∷ false ∷ false ∷ []
+pub times_of_day : map is_civil (at 23 59 59 99 ∷ at 24 0 0 0 ∷ at 23 60 0 0 ∷ at 23 59 60 0 ∷ at 23 59 59 100 ∷ []) ≡ true ∷ false
+    ∷ false ∷ false ∷ false ∷ []
 times_of_day = refl
 
 -- 1 January 1970 is day 719,163, and 1 January 2000 day 730,120
-pub days : map day_number (noon 1 1 1 ∷ noon 1 12 31 ∷ noon 2 1 1 ∷ noon 1970 1 1 ∷ noon 2000 1 1 ∷ []) ≡ 1 ∷ 365 ∷ 366 ∷ 719_163 ∷ 730_120 ∷ []
+pub days : map day_number (noon 1 1 1 ∷ noon 1 12 31 ∷ noon 2 1 1 ∷ noon 1970 1 1 ∷ noon 2000 1 1 ∷ []) ≡ 1 ∷ 365 ∷ 366 ∷ 719_163
+    ∷ 730_120 ∷ []
 days = refl
 
 pub last_of_day : centi_of_day (at 23 59 59 99) ≡ 8_639_999
@@ -78,18 +83,21 @@ pub over_midnight : centis_between (at 23 59 59 99) (record (noon 2017 1 1) { ho
 over_midnight = refl
 
 -- beside the ends of digits and letters
-pub name_bytes : map is_name_byte (0x2F ∷ 0x30 ∷ 0x39 ∷ 0x3A ∷ 0x40 ∷ 0x41 ∷ 0x5A ∷ 0x5B ∷ 0x60 ∷ 0x61 ∷ 0x7A ∷ 0x7B ∷ []) ≡ false ∷ true ∷ true ∷ false ∷ false ∷ true ∷ true ∷ false ∷ false ∷ true ∷ true ∷ false ∷ []
+pub name_bytes : map is_name_byte (0x2F ∷ 0x30 ∷ 0x39 ∷ 0x3A ∷ 0x40 ∷ 0x41 ∷ 0x5A ∷ 0x5B ∷ 0x60 ∷ 0x61 ∷ 0x7A ∷ 0x7B ∷ []) ≡ false
+    ∷ true ∷ true ∷ false ∷ false ∷ true ∷ true ∷ false ∷ false ∷ true ∷ true ∷ false ∷ []
 name_bytes = refl
 
 pub name_marks : map is_name_byte (0x20 ∷ 0x2D ∷ 0x2E ∷ 0x5F ∷ 0 ∷ 0xFF ∷ []) ≡ false ∷ true ∷ true ∷ true ∷ false ∷ false ∷ []
 name_marks = refl
 
 -- FLT1, the empty name, and FLT 1
-pub some_names : map is_name ((0x46 ∷ 0x4C ∷ 0x54 ∷ 0x31 ∷ []) ∷ [] ∷ (0x46 ∷ 0x4C ∷ 0x54 ∷ 0x20 ∷ 0x31 ∷ []) ∷ []) ≡ true ∷ false ∷ false ∷ []
+pub some_names : map is_name ((0x46 ∷ 0x4C ∷ 0x54 ∷ 0x31 ∷ []) ∷ [] ∷ (0x46 ∷ 0x4C ∷ 0x54 ∷ 0x20 ∷ 0x31 ∷ []) ∷ []) ≡ true ∷ false
+    ∷ false ∷ []
 some_names = refl
 
 pub lengths_of_names : map is_name (replicate 56 0x41 ∷ replicate 57 0x41 ∷ []) ≡ true ∷ false ∷ []
 lengths_of_names = refl
 
-pub lengths_of_volumes : map is_volume ([] ∷ replicate 1 0x41 ∷ replicate 32 0x41 ∷ replicate 33 0x41 ∷ []) ≡ false ∷ true ∷ true ∷ false ∷ []
+pub lengths_of_volumes : map is_volume ([] ∷ replicate 1 0x41 ∷ replicate 32 0x41 ∷ replicate 33 0x41 ∷ []) ≡ false ∷ true ∷ true
+    ∷ false ∷ []
 lengths_of_volumes = refl

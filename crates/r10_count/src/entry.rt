@@ -18,7 +18,7 @@ pub trait BodyEntry: Sized {
     /// The length in bytes of an entry that begins so, if one does.
     fn entry_length(front: &[u8]) -> Option<usize>
         requires { length front.now ≡ form.front }
-        ensures { result ≡ form.told front.now };
+        ensures { result ≡ form.reported front.now };
 
     /// The channel specific data word of so many entries on a channel of this setting.
     fn word(setting: u32, count: usize) -> u32

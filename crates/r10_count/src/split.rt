@@ -8,21 +8,21 @@ use crate::entry::BodyEntry;
 /// The bytes of the first entry, and those after it.
 #[inline(always)]
 pub fn first_entry<E: BodyEntry>(bytes: &[u8]) -> Option<(&[u8], &[u8])>
-    ensures some { IfSome result (λ x. IsEntryBytes E.form.front E.form.told x.0.now × (bytes.now ≡ x.0.now ++ x.1.now)) }
+    ensures some { IfSome result (λ x. IsEntryBytes E.form.front E.form.reported x.0.now × (bytes.now ≡ x.0.now ++ x.1.now)) }
     ensures none { IfNone result
-        ((entry rest : List ℕ) → IsEntryBytes E.form.front E.form.told entry → bytes.now ≡ entry ++ rest → ⊥) }
+        ((entry rest : List ℕ) → IsEntryBytes E.form.front E.form.reported entry → bytes.now ≡ entry ++ rest → ⊥) }
 {
     let front = E::front();
     if bytes.len() < front {
         return None;
     }
-    let Some(told) = E::entry_length(&bytes[..front]) else {
+    let Some(reported) = E::entry_length(&bytes[..front]) else {
         return None;
     };
-    if bytes.len() < told {
+    if bytes.len() < reported {
         return None;
     }
-    Some(bytes.split_at(told))
+    Some(bytes.split_at(reported))
 }
 
 /// How many entries the bytes are, if they are entries.

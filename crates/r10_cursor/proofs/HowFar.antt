@@ -21,7 +21,7 @@ use Rattle.r10_cursor.specs.declared.written.Written.{Written}
 use Rattle.r10_cursor.proofs.Said.{listed_by, says_each, same_bytes, found_entry}
 use Rattle.r10_cursor.specs.Read.{IsReadTo, HasRead, HaveRead, ShowsMore, ShowMore, KeepsShown, KeepsBytes, GrowsShown, bytes_shown}
 use Rattle.r10_cursor.specs.Staying.{NoneShrinks}
-use Rattle.r10_cursor.specs.Standing.{SlotStandsFor, SlotsStandFor, slot_at}
+use Rattle.r10_cursor.specs.RepresentedCursors.{SlotStandsFor, SlotsStandFor, slot_at}
 use Rattle.r10_cursor.proofs.AlikeFronts.{shown_front, one_had}
 
 -- ---- a file that goes on
@@ -82,8 +82,8 @@ file_still s old new files later k count n grown says read = by (slice_get files
     by None at none = absurd none
     by (Some f) at one =
         let next = followed old new files later k f grown at in
-        let told = said_packets s new later k next.file says next.at in
-        subst (λ (o : Option File). IsSomeAnd o (λ g. IsReadTo new g count n)) (sym next.at) (read_still old new f next.file count n told.0 next.keeps told.1 told.2 one)
+        let reported = said_packets s new later k next.file says next.at in
+        subst (λ (o : Option File). IsSomeAnd o (λ g. IsReadTo new g count n)) (sym next.at) (read_still old new f next.file count n reported.0 next.keeps reported.1 reported.2 one)
 
 cursor_still : (s : Config) (old new : Image) (files later : List File) (generation : ℕ) (slot : Option Cursor) (cursor : Option MachineCursor) → GrowsShown old new files later → MediumSays s new later
     → HasRead old files generation slot cursor → HasRead new later generation slot cursor

@@ -17,7 +17,7 @@ use Rattle.r10_cursor.specs.Replays.{Reading}
 use Rattle.r10_cursor.specs.declared.cursor.Cursor.{Cursor}
 use Rattle.r10_cursor.proofs.Covering.{none_covered}
 use Rattle.r10_cursor.specs.Read.{IsReadTo, HasRead, HaveRead, TakesNext}
-use Rattle.r10_cursor.specs.Standing.{SlotStandsFor, PutsSlot, SlotsStandFor, CursorStandsFor, fresh_slot, slot_at, with_queue}
+use Rattle.r10_cursor.specs.RepresentedCursors.{SlotStandsFor, PutsSlot, SlotsStandFor, CursorStandsFor, fresh_slot, slot_at, with_queue}
 use Rattle.r10_cursor.specs.Steps.{StepsTo}
 use Rattle.r10_cursor.proofs.HowFar.{said_packets}
 
@@ -113,8 +113,8 @@ fresh_read s image files file says less = by (slice_get files file) refl
     by : (o : Option File) → slice_get files file ≡ o → IsSomeAnd o (λ f. IsReadTo image f 0 0)
     by None at = absurd (within files file less at)
     by (Some f) at =
-        let told = said_packets s image files file f says at in
-        record { packets = filter is_data told.0; has = record { all = told.0; bytes_are = told.1; each = told.2; packets_are = refl }; covered = none_covered (filter is_data told.0) f }
+        let reported = said_packets s image files file f says at in
+        record { packets = filter is_data reported.0; has = record { all = reported.0; bytes_are = reported.1; each = reported.2; packets_are = refl }; covered = none_covered (filter is_data reported.0) f }
 
 pub opens : (s : Config) (image : Image) (m : Machine) (slots later : List (Option Cursor)) (id file generation : ℕ) (channels : List ℕ) (from to : ℕ) → SlotsStandFor slots m.cursors → m.generation ≡ generation → file < length m.files
     → MediumSays s image m.files → slot_at slots id ≡ None → PutsSlot slots later id (Some (fresh_slot generation channels file from to)) → StepsTo (Opens m file channels from to id) m image slots later
@@ -162,8 +162,8 @@ opened s image m old new id file generation channels from to cursor is free upda
 
 pub given : (image : Image) (m : Machine) (slots : List (Option Cursor)) (id : ℕ) (c new : Cursor) (first : Option Entry) → SlotsStandFor slots m.cursors → slot_at slots id ≡ Some c → first ≡ slice_get c.reading.queue 0
     → new ≡ with_queue (drop 1 c.reading.queue) c → StepsTo (GivesQueued m id first) m image slots (set slots id (Some new))
-given image m slots id c new first stand is told left =
-    gives image m slots (set slots id (Some new)) id c first stand is told (subst (λ (x : Cursor). PutsSlot slots (set slots id (Some new)) id (Some x)) left (set_puts slots id c new is))
+given image m slots id c new first stand is reported left =
+    gives image m slots (set slots id (Some new)) id c first stand is reported (subst (λ (x : Cursor). PutsSlot slots (set slots id (Some new)) id (Some x)) left (set_puts slots id c new is))
 
 pub closed : (image : Image) (m : Machine) (old new : Slab Cursor) (id : ℕ) → SlotsStandFor old.slots m.cursors → Updates old new id None → StepsTo (λ later. SetsCursor m later id None) m image old.slots new.slots
 closed image m old new id stand updates = closes image m old.slots new.slots id stand (slab_puts old new id None updates)

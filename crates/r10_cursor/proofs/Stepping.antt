@@ -29,7 +29,7 @@ use Rattle.r10_machine.proofs.Grown.{last_of}
 use Rattle.r10_cursor.specs.declared.cursor.Cursor.{Cursor as CursorValue}
 use Rattle.r10_cursor.specs.Read.{HaveRead, KeepsBytes, ShowsMore, ShowMore}
 use Rattle.r10_cursor.specs.Staying.{NoneShrinks}
-use Rattle.r10_cursor.specs.Standing.{SlotsStandFor}
+use Rattle.r10_cursor.specs.RepresentedCursors.{SlotsStandFor}
 use Rattle.r10_cursor.proofs.HowFar.{begun_anew, grown, grows, still}
 use Rattle.r10_machine.proofs.Keeping.{some_then}
 use Rattle.r10_machine.proofs.Steps.{refused_files}
@@ -117,16 +117,16 @@ does_more s old Seal replies.Done new inside does again =
     some_then (ShowMore old.files new.files) (last_or None old.files) _ does (λ f last made.
     last_file_changed old new (closed_in (last_size new)) f last (ap (λ (m : Machine). m.files) made.1) (record { first = refl; shown = omega arith; entries = refl }))
 does_more s old Erase replies.Done new inside is again = let next : new.generation ≡ old.generation + 1 = ap (λ (m : Machine). m.generation) is in absurd (omega (arith, next, again))
-does_more s old Files (replies.Files files) new inside (told, is) again = same_all old new is
-does_more s old Status (replies.Status status) new inside (told, is) again = same_all old new is
+does_more s old Files (replies.Files files) new inside (reported, is) again = same_all old new is
+does_more s old Status (replies.Status status) new inside (reported, is) again = same_all old new is
 does_more s old (Cursor file channels from to) (replies.Cursor id) new inside (free, sets) again = same_but_cursor old new id _ sets
 does_more s old (Advance id) (replies.Advanced n) new inside does again =
     some_then (ShowMore old.files new.files) (cursor_of id old) _ does (λ c is_c moves. some_then (ShowMore old.files new.files) (slice_get old.files c.file) _ moves (λ f is_f made. same_but_cursor old new id _ made.3))
 does_more s old (Next id) (replies.Next given) new inside does again =
     some_then (ShowMore old.files new.files) (cursor_of id old) _ does (λ c is_c made. same_but_cursor old new id _ made.1)
 does_more s old (Close id) replies.Done new inside sets again = same_but_cursor old new id None sets
-does_more s old (Find file channel count) (replies.Found answer) new inside (told, is) again = same_all old new is
-does_more s old (CountAt file parts) (replies.CountAt answer) new inside (told, is) again = same_all old new is
+does_more s old (Find file channel count) (replies.Found answer) new inside (reported, is) again = same_all old new is
+does_more s old (CountAt file parts) (replies.CountAt answer) new inside (reported, is) again = same_all old new is
 does_more s old event reply new inside does again = absurd does
 
 -- ---- failures
@@ -200,16 +200,16 @@ does_later s old Commit replies.Done new is = omega (arith, ap (λ (m : Machine)
 does_later s old Stop (replies.Stopped stopped) new does = some_then (old.generation ≤ new.generation) (last_or None old.files) _ does (λ f last made. omega (arith, ap (λ (m : Machine). m.generation) made.2))
 does_later s old Seal replies.Done new does = some_then (old.generation ≤ new.generation) (last_or None old.files) _ does (λ f last made. omega (arith, ap (λ (m : Machine). m.generation) made.1))
 does_later s old Erase replies.Done new is = omega (arith, ap (λ (m : Machine). m.generation) is)
-does_later s old Files (replies.Files files) new (told, is) = omega (arith, ap (λ (m : Machine). m.generation) is)
-does_later s old Status (replies.Status status) new (told, is) = omega (arith, ap (λ (m : Machine). m.generation) is)
+does_later s old Files (replies.Files files) new (reported, is) = omega (arith, ap (λ (m : Machine). m.generation) is)
+does_later s old Status (replies.Status status) new (reported, is) = omega (arith, ap (λ (m : Machine). m.generation) is)
 does_later s old (Cursor file channels from to) (replies.Cursor id) new (free, (sets, is)) = omega (arith, ap (λ (m : Machine). m.generation) is)
 does_later s old (Advance id) (replies.Advanced n) new does =
     some_then (old.generation ≤ new.generation) (cursor_of id old) _ does (λ c is_c moves.
     some_then (old.generation ≤ new.generation) (slice_get old.files c.file) _ moves (λ f is_f made. omega (arith, ap (λ (m : Machine). m.generation) made.3.1)))
 does_later s old (Next id) (replies.Next given) new does = some_then (old.generation ≤ new.generation) (cursor_of id old) _ does (λ c is_c made. omega (arith, ap (λ (m : Machine). m.generation) made.1.1))
 does_later s old (Close id) replies.Done new (sets, is) = omega (arith, ap (λ (m : Machine). m.generation) is)
-does_later s old (Find file channel count) (replies.Found answer) new (told, is) = omega (arith, ap (λ (m : Machine). m.generation) is)
-does_later s old (CountAt file parts) (replies.CountAt answer) new (told, is) = omega (arith, ap (λ (m : Machine). m.generation) is)
+does_later s old (Find file channel count) (replies.Found answer) new (reported, is) = omega (arith, ap (λ (m : Machine). m.generation) is)
+does_later s old (CountAt file parts) (replies.CountAt answer) new (reported, is) = omega (arith, ap (λ (m : Machine). m.generation) is)
 does_later s old event reply new does = absurd does
 
 fails_later : (s : Config) (old : Machine) (event : EventValue) (new : Machine) → FailsIn s old event new → old.generation ≤ new.generation

@@ -39,6 +39,9 @@ pub record IsShownWith (image : Image) (first : ℕ) (named : List NodeEntry) (b
   pub begins : BeginsWith book packets
 
 -- the medium shows these packets of a file
-pub data ShowsFile (image : Image) (chain : List ChainBlock) (written : Option Written) (file : ℕ) (packets : List Packet) : Type 0 where
-  in_writing : (w : Written) → written ≡ Some w → w.file ≡ file → IsShownWith image w.first w.named.now w.book.now packets → ShowsFile image chain written file packets
-  in_directory : (e : DirectoryEntry) → finished_file written chain file ≡ Some e → HasDataPackets (bytes_in image e) packets → ShowsFile image chain written file packets
+pub data ShowsFile (image : Image) (chain : List ChainBlock) (written : Option Written) (file : ℕ)
+    (packets : List Packet) : Type 0 where
+  in_writing : (w : Written) → written ≡ Some w → w.file ≡ file → IsShownWith image w.first w.named.now w.book.now packets
+      → ShowsFile image chain written file packets
+  in_directory : (e : DirectoryEntry) → finished_file written chain file ≡ Some e → HasDataPackets (bytes_in image e) packets
+      → ShowsFile image chain written file packets

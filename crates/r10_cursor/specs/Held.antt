@@ -11,7 +11,8 @@ use Rattle.r10_machine.specs.Finding.{ticks_of}
 use Rattle.r10_cursor.specs.Files.{ShowsFile}
 use Rattle.r10_cursor.specs.declared.written.Written.{Written}
 
--- the file of a number is this one: the packets that the medium shows of it say, on each channel, the entries that it shows, and the times in their order
+-- the file of a number is this one: the packets that the medium shows of it say, on each channel, the entries that it shows,
+-- and the times in their order
 pub record IsHeldFile (image : Image) (chain : List ChainBlock) (written : Option Written) (file : ℕ) (f : File) : Type 0 where
   pub packets : List Packet
   pub shows : ShowsFile image chain written file packets

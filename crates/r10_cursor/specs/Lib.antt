@@ -1,12 +1,12 @@
 pub mod Files
-pub mod Knowing
+pub mod JudgedFiles
 pub mod Refusals
 pub mod Staying
 pub mod Held
 pub mod Replays
 pub mod Shown
 pub mod Searches
-pub mod Standing
+pub mod RepresentedCursors
 pub mod Read
 pub mod Steps
-pub mod Telling
+pub mod TimedEntries

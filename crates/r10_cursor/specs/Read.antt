@@ -8,26 +8,28 @@ use Rattle.r10_machine.specs.Machine.{File, Cursor as MachineCursor, cursor_at, 
 use Rattle.r10_cursor.specs.Files.{HasDataPackets}
 use Rattle.r10_cursor.specs.Held.{ReadingGoesOn, IsCovered}
 use Rattle.r10_cursor.specs.declared.cursor.Cursor.{Cursor}
-use Rattle.r10_cursor.specs.Standing.{slot_at}
+use Rattle.r10_cursor.specs.RepresentedCursors.{slot_at}
 
 -- the bytes that the medium shows of a file
 abbrev pub bytes_shown : Image → File → List ℕ
 bytes_shown image f = bytes_from image f.first_block f.size
 
--- of the packets that the medium shows of the file, without those of its index, the first, so many, say on each channel the first n of its
--- entries
+-- of the packets that the medium shows of the file, without those of its index, the first, so many, say on each channel the first
+-- n of its entries
 pub record IsReadTo (image : Image) (f : File) (count n : ℕ) : Type 0 where
   pub packets : List Packet
   pub has : HasDataPackets (bytes_shown image f) packets
   pub covered : IsCovered packets f count n
 
--- a cursor of this generation has come as far in its file's packets as the machine's in its entries; one of an earlier generation is
--- not read again
+-- a cursor of this generation has come as far in its file's packets as the machine's in its entries; one of an earlier generation
+-- is not read again
 abbrev pub HasRead : Image → List File → ℕ → Option Cursor → Option MachineCursor → Type 0
-HasRead image files generation (Some c) (Some m) = c.generation ≡ generation → IsSomeAnd (slice_get files c.file) (λ f. IsReadTo image f c.reading.covered m.covered)
+HasRead image files generation (Some c) (Some m) = c.generation ≡ generation
+    → IsSomeAnd (slice_get files c.file) (λ f. IsReadTo image f c.reading.covered m.covered)
 HasRead image files generation slot cursor = Unit {0}
 
-pub record HaveRead (image : Image) (files : List File) (generation : ℕ) (slots : List (Option Cursor)) (cursors : List (Option MachineCursor)) : Type 0 where
+pub record HaveRead (image : Image) (files : List File) (generation : ℕ) (slots : List (Option Cursor))
+    (cursors : List (Option MachineCursor)) : Type 0 where
   pub each : (id : ℕ) → HasRead image files generation (slot_at slots id) (cursor_at cursors id)
 
 -- of a file whose first n entries it had covered, a cursor took its next instalment

@@ -10,7 +10,7 @@ ghost use Rattle.r10_body.specs.Packets.{Packet as StrictPacket};
 ghost use Rattle.r10_judge.specs.Files.{file_at};
 ghost use Rattle.r10_judge.specs.Judged.{TracksStrictFile};
 ghost use Rattle.r10_cursor.specs.Files.{IsShownWith, ShowsFile, bytes_in, finished_file};
-ghost use Rattle.r10_cursor.specs.Knowing.{HasJudged, IsAdded, IsBook, IsLearned, IsOf, IsTold, IsToldRight, IsUnder};
+ghost use Rattle.r10_cursor.specs.JudgedFiles.{HasJudged, IsAdded, IsBook, IsLearned, IsOf, HasPlaces, IsToldRight, IsUnder};
 ghost use Rattle.r10_cursor.specs.Refusals.{IsUnread, RefusesRead, RefusesToRead};
 ghost use Rattle.r10_cursor.specs.declared.refusal.ReadRefusal.TheVariants as read_refusals;
 
@@ -67,8 +67,8 @@ impl Books {
         ensures same { Unchanged (M.disk medium.old) (M.disk medium.new) }
         ensures no_fewer { (M.disk medium.old).failures ≤ (M.disk medium.new).failures }
     {
-        if let Some(told) = written {
-            if told.file == file {
+        if let Some(reported) = written {
+            if reported.file == file {
                 return Ok(0);
             }
         }
@@ -86,21 +86,21 @@ impl Books {
         file: usize,
         place: usize,
     ) -> Option<Shown<'a>>
-        ensures told { (image : Image) (chain : List ChainBlock) → IsToldRight image written.entry file
+        ensures reported { (image : Image) (chain : List ChainBlock) → IsToldRight image written.entry file
             → IsLearned image chain written.entry file self.now.kept.items place
-            → IsSomeAnd result (IsTold image chain written.entry file) }
+            → IsSomeAnd result (HasPlaces image chain written.entry file) }
         ensures there { (image : Image) (chain : List ChainBlock)
             → IsLearned image chain written.entry file self.now.kept.items place → result ≢ None }
         ensures shown { (image : Image) (chain : List ChainBlock) (packets : List StrictPacket)
             → IsLearned image chain written.entry file self.now.kept.items place → ShowsFile image chain written.entry file packets
             → IfSome result (λ shown. IsShownWith image shown.first shown.named.now shown.book.now packets) }
     {
-        if let Some(told) = written {
-            if told.file == file {
+        if let Some(reported) = written {
+            if reported.file == file {
                 return Some(Shown {
-                    first: told.first,
-                    named: told.named,
-                    book: told.book,
+                    first: reported.first,
+                    named: reported.named,
+                    book: reported.book,
                 });
             }
         }

@@ -17,7 +17,7 @@ ghost use Rattle.r10_machine.specs.Says.{IsFound, MediumSays};
 ghost use Rattle.r10_machine.specs.Sound.{IsEntry};
 ghost use Rattle.r10_cursor.specs.Files.{IsShownWith, bytes_in, finished};
 ghost use Rattle.r10_cursor.specs.Held.{IsHeldFile};
-ghost use Rattle.r10_cursor.specs.Knowing.{IsWriting, Knows};
+ghost use Rattle.r10_cursor.specs.JudgedFiles.{IsWrittenFile, Knows};
 ghost use Rattle.r10_cursor.specs.Staying.{Stay};
 ghost use Rattle.r10_cursor.specs.declared.books.Books.{Books};
 ghost use Rattle.r10_cursor.specs.declared.written.Written.{Written};
@@ -26,11 +26,11 @@ ghost use Rattle.r10_cursor.specs.declared.written.Written.{Written};
 /// their bytes and directory entries, and others come after them.
 pub fn what_is_known_stays()
     ensures none { (image : Image) (chain : List ChainBlock) (written : Option Written) (books : Books) → books.kept.items ≡ []
-        → IsWriting image written → Knows image chain written books }
+        → IsWrittenFile image written → Knows image chain written books }
     ensures stays { (old : Image) (new : Image) (chain : List ChainBlock)
         (made : List ChainBlock) (written : Option Written) (now : Option Written) (books : Books)
         → Knows old chain written books → Stay old new (finished written (listed_files chain)) (finished now (listed_files made))
-        → IsWriting new now → Knows new made now books }
+        → IsWrittenFile new now → Knows new made now books }
 {}
 
 /// What a medium says of a file that isn't being written is read: the file isn't at fault, and its packets say on each channel what

@@ -10,7 +10,7 @@ ghost use Rattle.r10_machine.specs.Checks.{advance_checks, open_checks};
 ghost use Rattle.r10_machine.specs.Config.{Config};
 ghost use Rattle.r10_machine.specs.Machine.{Machine, SetsCursor, cursor_of};
 ghost use Rattle.r10_machine.specs.Says.{MediumSays};
-ghost use Rattle.r10_cursor.specs.Standing.{SlotsStandFor, fresh_slot, read_checks, with_queue};
+ghost use Rattle.r10_cursor.specs.RepresentedCursors.{SlotsStandFor, fresh_slot, read_checks, with_queue};
 ghost use Rattle.r10_cursor.specs.Steps.{StepsTo};
 
 use crate::Cursor;

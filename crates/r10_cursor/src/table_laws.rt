@@ -13,7 +13,7 @@ ghost use Rattle.r10_machine.specs.declared.reply.Reply.{Reply as ReplyValue};
 ghost use Rattle.r10_cursor.specs.declared.cursor.Cursor.{Cursor};
 ghost use Rattle.r10_cursor.specs.Read.{HaveRead, KeepsBytes, TakesNext};
 ghost use Rattle.r10_cursor.specs.Staying.{NoneShrinks};
-ghost use Rattle.r10_cursor.specs.Standing.{SlotsStandFor, slot_at};
+ghost use Rattle.r10_cursor.specs.RepresentedCursors.{SlotsStandFor, slot_at};
 ghost use Rattle.r10_cursor.specs.Steps.{StepsTo};
 
 /// A step of the machine that leaves its cursors leaves them to the table that represented them. What they have read stays read,

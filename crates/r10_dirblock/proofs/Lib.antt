@@ -1,5 +1,5 @@
 mod Rules
 pub mod Again
-pub mod Kept
-pub mod Found
+pub mod SameBytes
+pub mod BlockFields
 pub mod Stripped

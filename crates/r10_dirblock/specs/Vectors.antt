@@ -5,12 +5,19 @@ use Rattle.r10_dirblock.specs.declared.entry.Entry.{Entry}
 use Rattle.r10_dirblock.specs.declared.block.DirBlock.{DirBlock}
 use Rattle.r10_dirblock.specs.declared.read.DirFault.TheVariants as directory_faults
 use Rattle.r10_dirblock.specs.Texts.{padded_text, stripped, day_month_year, time_text}
-use Rattle.r10_dirblock.specs.Block.{block_bytes, head_bytes, entry_bytes, directory_entry_of, read_block, blank, begun_entry, sized, has_room_for_size, is_closed}
+use Rattle.r10_dirblock.specs.Block.{block_bytes, head_bytes, entry_bytes, directory_entry_of, read_block, blank, begun_entry}
+use Rattle.r10_dirblock.specs.Block.{sized, has_room_for_size, is_closed}
 
 -- ---- the first directory block of a formatted medium
 
 abbrev pub formatted_blank : DirBlock
-formatted_blank = record { shutdown = 0xFF; volume = padded_text 32 (0x56 ∷ 0x4F ∷ 0x4C ∷ []); forward = 1; reverse = 1; entries = [] }
+formatted_blank = record {
+  shutdown = 0xFF;
+  volume = padded_text 32 (0x56 ∷ 0x4F ∷ 0x4C ∷ []);
+  forward = 1;
+  reverse = 1;
+  entries = [];
+}
 
 abbrev pub formatted_bytes : List ℕ
 formatted_bytes =
@@ -81,7 +88,8 @@ unfolding read_block directory_entry_of
 listed_is_read = refl
 
 -- `29022024` and `12345678`
-pub texts_of_a_leap_day : day_month_year leap_day ∷ time_text leap_day ∷ [] ≡ (0x32 ∷ 0x39 ∷ 0x30 ∷ 0x32 ∷ 0x32 ∷ 0x30 ∷ 0x32 ∷ 0x34 ∷ []) ∷ clock ∷ []
+pub texts_of_a_leap_day : day_month_year leap_day ∷ time_text leap_day
+    ∷ [] ≡ (0x32 ∷ 0x39 ∷ 0x30 ∷ 0x32 ∷ 0x32 ∷ 0x30 ∷ 0x32 ∷ 0x34 ∷ []) ∷ clock ∷ []
 texts_of_a_leap_day = refl
 
 -- ---- sizes
@@ -92,7 +100,8 @@ blocks_of size = (sized size blank).block_count
 pub blocks_for_a_size : map blocks_of (0 ∷ 1 ∷ 512 ∷ 513 ∷ 18446744073709551615 ∷ []) ≡ 0 ∷ 1 ∷ 1 ∷ 2 ∷ 36028797018963968 ∷ []
 blocks_for_a_size = refl
 
-pub room_for_a_size : map has_room_for_size (record blank { block_count = 1; size = 512 } ∷ record blank { block_count = 1; size = 513 } ∷ record blank { size = 1 } ∷ []) ≡ true ∷ false ∷ false ∷ []
+pub room_for_a_size : map has_room_for_size (record blank { block_count = 1; size = 512 }
+    ∷ record blank { block_count = 1; size = 513 } ∷ record blank { size = 1 } ∷ []) ≡ true ∷ false ∷ false ∷ []
 room_for_a_size = refl
 
 -- ---- names

@@ -9,7 +9,7 @@ use Rattle.r10_dirblock.specs.declared.entry.Entry.{Entry}
 use Rattle.r10_dirblock.specs.declared.block.DirBlock.{DirBlock}
 use Rattle.r10_dirblock.specs.declared.read.DirFault.{DirFault}
 use Rattle.r10_dirblock.specs.Block.{read_block, has_room_for_size, HasRooms, IsBlock}
-use Rattle.r10_dirblock.proofs.Found.{only}
+use Rattle.r10_dirblock.proofs.BlockFields.{only}
 use Rattle.r10_dirchain.specs.declared.chain.ChainBlock.{ChainBlock}
 use Rattle.r10_dirchain.specs.Chain.{Link, link, Linked, HoldsBlock, IsDirectory, blank_block, at}
 use Rattle.r10_dirchain.specs.OnMedium.{SameButIn, Put, PutTwo, IsWrittenByteForByte, Turned}

@@ -7,5 +7,5 @@ pub mod FileLists
 pub mod Usable
 pub mod Unique
 pub mod KeptEntries
-pub mod Standing
+pub mod RulesAsFacts
 pub mod Staying

@@ -14,7 +14,7 @@ use Rattle.r10_dirchain.specs.Mount.{blocks_in, stands, place_rules, full_rule, 
 use Rattle.r10_dirchain.specs.Steps.{with_shutdown, emptied, with_last_entry, updated, last_listing, with_entry_more, extended, added, last_place, last_block, last_is_full, next_number, next_directory_block}
 use Rattle.r10_dirchain.proofs.Directories.{some_block}
 use Rattle.r10_dirchain.proofs.FileLists.{files-with_shutdown, files-updated, files-filled, files-extended, last_of, last_listing_is}
-use Rattle.r10_dirchain.proofs.Standing.{IsUsable, usable_of, usable_from, Stand, Stand-take, Stand-push, ButLastClosed}
+use Rattle.r10_dirchain.proofs.RulesAsFacts.{IsUsable, usable_of, usable_from, Stand, Stand-take, Stand-push, ButLastClosed}
 use Rattle.r10_count.proofs.Rules.{none_broken}
 
 -- ---- places

@@ -4,7 +4,7 @@ use Rattle.std.specs.List.{All}
 use Rattle.std.proofs.lemmas.List.Elements.{All-cons, All-nil, All-head, All-from_get_or}
 use Rattle.r10_medium.specs.Disk.{Disk, Image, IsSynced, MayLeave, block_at}
 use Rattle.r10_medium.specs.Stop.{Settled, Leaves, ComesBy, SameBut}
-use Rattle.r10_medium.proofs.Stops.{weakened, reads_now, settled_reads}
+use Rattle.r10_medium.proofs.PowerLoss.{weakened, reads_now, settled_reads}
 use Rattle.r10_dirchain.specs.declared.chain.ChainBlock.{ChainBlock}
 use Rattle.r10_dirchain.specs.Chain.{IsDirectory, at, blank_block}
 use Rattle.r10_dirchain.specs.OnMedium.{SameButIn, Put, PutTwo, IsPublished, IsWrittenByteForByte, Turned, Turns, HasNext}
@@ -24,7 +24,7 @@ same_in numbers image = record { size = refl; others = λ k none. refl }
 pub but_in : (n : ℕ) (old new : Image) → SameBut n old new → SameButIn (n ∷ []) old new
 but_in n old new same = record { size = same.size; others = λ k none. same.others k (All-head (λ (j : ℕ). k ≢ j) n [] none) }
 
--- a step, from what a stop leaves, what is read and what an Ok says
+-- a step, from what a power loss leaves, what is read and what an Ok says
 pub turns_of : {T E : Type 0} (chain made : List ChainBlock) (unlinked changed : List ℕ) (old new : Disk) (result : Result T E) → IsDirectory old.blocks chain
     → ((i : ℕ) → i < length chain → All (λ (n : ℕ). (at chain i).number ≢ n) unlinked)
     → Leaves (λ image. ComesBy (SameButIn unlinked) old image ⊎ Turned made changed old.blocks image) old new
@@ -117,7 +117,7 @@ erased chain block entries old new result is first none moments reads settled =
         → ◌≡◌ {A = List ChainBlock} (record { number = 1; block = record d { forward = 1; reverse = 1; entries = es } } ∷ []) (emptied l)
     emptied_is l d es a b = rw (a, b)
 
--- a step that writes no other block, where a stop could leave either of two directories
+-- a step that writes no other block, where a power loss could leave either of two directories
 pub either_of : {T E : Type 0} (chain made one other : List ChainBlock) (changed : List ℕ) (old new : Disk) (result : Result T E) → Turns chain made [] changed old new result
     → Settled (λ image. IsDirectory image one ⊎ IsDirectory image other) old
     → Leaves (λ image. (IsDirectory image one ⊎ IsDirectory image other) ⊎ IsDirectory image made) old new
@@ -204,7 +204,7 @@ pub formatted_settled : (volume : List ℕ) (b : ChainBlock) (old : Image) (new 
     → Settled (Turned (formatted volume) (1 ∷ []) old) new
 formatted_settled volume b old new is holds image now = turned_new volume b old image is (holds image now)
 
--- what is read of block 1, where a stop leaves one new block
+-- what is read of block 1, where a power loss leaves one new block
 pub formatted_bytes : (volume : List ℕ) (b : ChainBlock) (old : Image) (new : Disk) → b ∷ [] ≡ formatted volume → Settled (Put old b) new
     → block_at new.blocks 1 ≡ block_bytes (at (formatted volume) 0).block
 formatted_bytes volume b old new is holds =

@@ -8,7 +8,7 @@ use Rattle.r10_medium.specs.Disk.{Image, block_at}
 use Rattle.r10_dirblock.specs.declared.block.DirBlock.{DirBlock}
 use Rattle.r10_dirblock.specs.declared.read.DirFault.{DirFault}
 use Rattle.r10_dirblock.specs.Block.{read_block, IsBlock}
-use Rattle.r10_dirblock.proofs.Found.{only}
+use Rattle.r10_dirblock.proofs.BlockFields.{only}
 use Rattle.r10_dirchain.specs.declared.chain.ChainBlock.{ChainBlock}
 use Rattle.r10_dirchain.specs.Chain.{link, Linked, HoldsBlock, IsDirectory, blank_block}
 use Rattle.r10_dirchain.specs.declared.read.ChainError.{ChainError}

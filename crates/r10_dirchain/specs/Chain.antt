@@ -38,7 +38,8 @@ listed_files chain = flat_map (λ b. b.block.entries) chain
 
 -- the block at a place of the chain, from 0 on
 abbrev pub blank_block : ChainBlock
-blank_block = record { number = 0; block = record { shutdown = 0; volume = replicate 32 0; forward = 0; reverse = 0; entries = [] } }
+blank_block =
+    record { number = 0; block = record { shutdown = 0; volume = replicate 32 0; forward = 0; reverse = 0; entries = [] } }
 
 abbrev pub at : List ChainBlock → ℕ → ChainBlock
 at chain i = slice_index_or chain i blank_block

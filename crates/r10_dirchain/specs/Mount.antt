@@ -27,7 +27,8 @@ listed chain = flat_map (λ (b : ChainBlock). map (listed_in b.number) b.block.e
 
 -- 3. the files stand back to back from block n on, inside the medium, none is empty, and each has the blocks that it needs
 abbrev pub stands : ℕ → ℕ → Entry → Bool
-stands blocks n e = e.first_block == n && nat_lt 0 e.size && e.block_count == (e.size + 511) / 512 && nat_le (n + e.block_count) blocks
+stands blocks n e = e.first_block == n && nat_lt 0 e.size && e.block_count == (e.size + 511) / 512 && nat_le
+    (n + e.block_count) blocks
 
 abbrev pub stand_rules : ℕ → ℕ → List ListedFile → List (Bool × ℕ)
 stand_rules blocks n [] = []
@@ -47,4 +48,5 @@ closed_rules files = map closed_rule (take (length files - 1) files)
 -- all four, for so many reserved blocks and so many blocks of the medium
 abbrev pub mount_rules : ℕ → ℕ → List ChainBlock → List (Bool × ℕ)
 mount_rules reserved blocks chain =
-    place_rules reserved 1 chain ++ full_rules chain ++ stand_rules blocks (reserved + 1) (listed chain) ++ closed_rules (listed chain)
+    place_rules reserved 1 chain ++ full_rules chain ++ stand_rules blocks (reserved + 1) (listed chain)
+    ++ closed_rules (listed chain)

@@ -1,4 +1,4 @@
--- What a step of the directory does to the medium, and what a stop leaves of it.
+-- What a step of the directory does to the medium, and what a power loss leaves of it.
 use Rattle.std.specs.Prelude.{◌≡◌, ◌≢◌, ◌⊎◌, ℕ, ◌+◌, ◌<◌, ◌≤◌, List, [], ◌∷◌, length, Result, OnOk, IsErrOf}
 use Rattle.std.specs.List.{All}
 use Rattle.r10_medium.specs.Disk.{Disk, Image, IsSynced, Rose, block_at}
@@ -39,14 +39,16 @@ pub record Turned (chain : List ChainBlock) (numbers : List ℕ) (old new : Imag
   pub others : SameButIn numbers old new
 
 -- A step from one chain to another, which may write some blocks that nothing links to, and then changes the directory at once.
-pub record Turns {T E : Type 0} (chain made : List ChainBlock) (unlinked changed : List ℕ) (old new : Disk) (result : Result T E) : Type 0 where
-  -- a stop at any moment leaves what it could leave before, but in those blocks, or what was read with the new directory
+pub record Turns {T E : Type 0} (chain made : List ChainBlock) (unlinked changed : List ℕ) (old new : Disk)
+    (result : Result T E) : Type 0 where
+  -- a power loss at any moment leaves what it could leave before, but in those blocks, or what was read with the new directory
   pub moments : Leaves (λ image. ComesBy (SameButIn unlinked) old image ⊎ Turned made changed old.blocks image) old new
-  -- so where a stop could leave the old directory alone, it leaves the old or the new one
-  pub either : Settled (λ image. IsDirectory image chain) old → Leaves (λ image. IsDirectory image chain ⊎ IsDirectory image made) old new
+  -- so where a power loss could leave the old directory alone, it leaves the old or the new one
+  pub either : Settled (λ image. IsDirectory image chain) old
+      → Leaves (λ image. IsDirectory image chain ⊎ IsDirectory image made) old new
   -- what is read has the old directory or the new one
   pub reads : Turned chain unlinked old.blocks new.blocks ⊎ Turned made changed old.blocks new.blocks
-  -- after an Ok a stop leaves what was read with the new directory
+  -- after an Ok a power loss leaves what was read with the new directory
   pub settled : OnOk result (Settled (Turned made changed old.blocks) new)
 
 -- the directory's blocks are those from 1 on, and the next one is in the medium
@@ -54,7 +56,7 @@ pub record HasNext (image : Image) (chain : List ChainBlock) : Type 0 where
   pub in_order : (i : ℕ) → i < length chain → (at chain i).number ≡ i + 1
   pub within : length chain + 1 < length image
 
--- the medium's directory is this one, and the medium is synced: a stop leaves what is read
+-- the medium's directory is this one, and the medium is synced: a power loss leaves what is read
 pub record IsPublished (chain : List ChainBlock) (disk : Disk) : Type 0 where
   pub directory : IsDirectory disk.blocks chain
   pub synced : IsSynced disk

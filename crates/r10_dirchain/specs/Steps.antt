@@ -1,5 +1,6 @@
 -- The steps of a directory.
-use Rattle.std.specs.Prelude.{ℕ, ◌+◌, ◌-◌, Bool, List, [], ◌∷◌, ◌++◌, length, take, slice_set, Option, None, Some, nat_le, ◌==◌, if◌then◌else◌}
+use Rattle.std.specs.Prelude.{ℕ, ◌+◌, ◌-◌, Bool, List, [], ◌∷◌, ◌++◌, length, take, slice_set, Option, None, Some, nat_le, ◌==◌}
+use Rattle.std.specs.Prelude.{if◌then◌else◌}
 use Rattle.std.specs.List.{last_or, suffix_len}
 use Rattle.r10_dirblock.specs.Block.{blank}
 use Rattle.r10_dirblock.specs.Texts.{padded_text}
@@ -11,7 +12,16 @@ use Rattle.r10_dirchain.specs.Chain.{at, listed_files}
 -- the directory of a medium that is formatted: block 1 alone, properly dismounted and without files
 abbrev pub formatted : List ℕ → List ChainBlock
 formatted volume =
-    record { number = 1; block = record { shutdown = 0xFF; volume = padded_text 32 volume; forward = 1; reverse = 1; entries = [] } } ∷ []
+    record {
+      number = 1;
+      block = record {
+        shutdown = 0xFF;
+        volume = padded_text 32 volume;
+        forward = 1;
+        reverse = 1;
+        entries = [];
+      };
+    } ∷ []
 
 -- another content in the block at place i
 abbrev pub replaced : List ChainBlock → ℕ → DirBlock → List ChainBlock
@@ -86,7 +96,8 @@ next_directory_block entry chain = record {
 -- one file more, in a new last block
 abbrev pub extended : Entry → List ChainBlock → List ChainBlock
 extended entry chain =
-    replaced chain (last_place chain) (record (last_block chain).block { forward = next_number chain }) ++ next_directory_block entry chain ∷ []
+    replaced chain (last_place chain) (record (last_block chain).block { forward = next_number chain })
+    ++ next_directory_block entry chain ∷ []
 
 -- one file more
 abbrev pub added : Entry → List ChainBlock → List ChainBlock

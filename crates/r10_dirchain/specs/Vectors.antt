@@ -102,7 +102,8 @@ a_shutdown_byte = refl
 -- ---- the block at fault, of 16 blocks of which two are reserved
 
 abbrev pub block : ℕ → List Entry → ChainBlock
-block n entries = record { number = n; block = record { shutdown = 0xFF; volume = []; forward = n; reverse = 1; entries = entries } }
+block n entries =
+    record { number = n; block = record { shutdown = 0xFF; volume = []; forward = n; reverse = 1; entries = entries } }
 
 abbrev pub first_four : List Entry
 first_four = file 0 ∷ file 1 ∷ file 2 ∷ file 3 ∷ []
@@ -137,12 +138,14 @@ inside = refl
 pub a_block_too_many : first_broken (mount_rules 2 16 (block 1 (record (file 0) { block_count = 2 } ∷ []) ∷ [])) ≡ Some 1
 a_block_too_many = refl
 
-pub no_bytes : first_broken (mount_rules 2 16 (block 1 first_four ∷ block 2 (record (file 4) { size = 0; block_count = 0 } ∷ []) ∷ [])) ≡ Some 2
+pub no_bytes : first_broken (mount_rules 2 16 (block 1 first_four ∷ block 2 (record (file 4) { size = 0; block_count = 0 } ∷ [])
+    ∷ [])) ≡ Some 2
 no_bytes = refl
 
 pub unclosed_before : first_broken (mount_rules 2 16 (block 1 (open_file 0 ∷ file 1 ∷ []) ∷ [])) ≡ Some 1
 unclosed_before = refl
 
 -- a hole is named before an unclosed file of an earlier block
-pub a_hole_first : first_broken (mount_rules 2 16 (block 1 (open_file 0 ∷ file 1 ∷ file 2 ∷ file 3 ∷ []) ∷ block 2 (file 5 ∷ []) ∷ [])) ≡ Some 2
+pub a_hole_first : first_broken (mount_rules 2 16 (block 1 (open_file 0 ∷ file 1 ∷ file 2 ∷ file 3 ∷ []) ∷ block 2 (file 5 ∷ [])
+    ∷ [])) ≡ Some 2
 a_hole_first = refl

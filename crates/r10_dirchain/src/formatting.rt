@@ -40,7 +40,7 @@ pub fn format<M: BlockMedium>(
     requires room { directory + 2 ≤ length (M.disk medium.old).blocks }
     requires blocks { length (M.disk medium.old).blocks ≤ 16_777_216 }
 
-    ensures sure { OnOk result (IsSynced (M.disk medium.new)) }
+    ensures durable { OnOk result (IsSynced (M.disk medium.new)) }
     ensures settled { OnOk result
         (Settled (Turned (formatted volume.now) (1 ∷ []) (M.disk medium.old).blocks) (M.disk medium.new)) }
     // Block 1 is byte for byte the one that this recorder writes.

@@ -1,4 +1,4 @@
-//! The directory on a medium: each call changes the list of files by its one step, and a stop at
+//! The directory on a medium: each call changes the list of files by its one step, and a power loss at
 //! any moment leaves the list from before or the one that the call makes.
 #![tactic(auto)]
 

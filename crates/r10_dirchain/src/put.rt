@@ -1,4 +1,4 @@
-// One directory block, written so that a stop leaves the medium before it or after it.
+// One directory block, written so that a power loss leaves the medium before it or after it.
 ghost use Rattle.std.specs.Prelude.{◌≡◌, ◌≢◌, ◌⊎◌, ◌<◌, length, OnOk};
 ghost use Rattle.r10_medium.specs.Disk.{Counts, IsSynced, MayLeave};
 ghost use Rattle.r10_medium.specs.Stop.{Settled, Leaves, ComesBy, Moves, SameBut};
@@ -21,7 +21,7 @@ pub(crate) fn put_block<M: BlockMedium>(
     ensures reads { ((M.disk medium.new).blocks ≡ (M.disk medium.old).blocks)
         ⊎ Put (M.disk medium.old).blocks link.now (M.disk medium.new).blocks }
     ensures settled { OnOk result (Settled (Put (M.disk medium.old).blocks link.now) (M.disk medium.new)) }
-    ensures sure { OnOk result (IsSynced (M.disk medium.new)) }
+    ensures durable { OnOk result (IsSynced (M.disk medium.new)) }
     ensures counts { Counts (M.disk medium.old) (M.disk medium.new) result }
 {
     publish(medium, link.number as usize, &encode(&link.block))
@@ -59,7 +59,7 @@ pub(crate) fn put_linked<M: BlockMedium>(
     ensures reads { SameBut next.now.number (M.disk medium.old).blocks (M.disk medium.new).blocks
         ⊎ PutTwo (M.disk medium.old).blocks next.now linking.now (M.disk medium.new).blocks }
     ensures settled { OnOk result (Settled (PutTwo (M.disk medium.old).blocks next.now linking.now) (M.disk medium.new)) }
-    ensures sure { OnOk result (IsSynced (M.disk medium.new)) }
+    ensures durable { OnOk result (IsSynced (M.disk medium.new)) }
     ensures counts { Counts (M.disk medium.old) (M.disk medium.new) result }
 {
     if let Err(fault) = put_unlinked(medium, next) {

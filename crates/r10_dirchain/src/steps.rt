@@ -19,8 +19,8 @@ use r10_medium::{BlockMedium, MediumFault};
 use std::alloc::{AllocError, Global};
 
 impl Directory {
-    /// Writes the shutdown byte: 0xFF for properly dismounted, 0x00 for not. This syncs what is
-    /// read, also where a stop could have left either of two directories.
+    /// Writes the shutdown byte: 0xFF for properly dismounted, 0x00 for not. This syncs what is read, also where a power loss
+    /// could have left either of two directories.
     pub fn set_shutdown<M: BlockMedium>(
         &mut self,
         medium: &mut M,
@@ -31,12 +31,12 @@ impl Directory {
         ensures kept { OnErr result (self.new ≡ self.old) }
         ensures turns { Turns self.old (with_shutdown shutdown self.old) [] ((at self.old 0).number ∷ [])
             (M.disk medium.old) (M.disk medium.new) result }
-        // After a failed call a stop may leave either of two directories: it leaves one of them, or the new one.
+        // After a failed call a power loss may leave either of two directories: it leaves one of them, or the new one.
         ensures either { (one other : List ChainBlock)
             → Settled (λ image. IsDirectory image one ⊎ IsDirectory image other) (M.disk medium.old)
             → Leaves (λ image. (IsDirectory image one ⊎ IsDirectory image other)
             ⊎ IsDirectory image (with_shutdown shutdown self.old)) (M.disk medium.old) (M.disk medium.new) }
-        ensures sure { OnOk result (IsSynced (M.disk medium.new)) }
+        ensures durable { OnOk result (IsSynced (M.disk medium.new)) }
         ensures counts { Counts (M.disk medium.old) (M.disk medium.new) result }
     {
         let mut block = self.block(0);
@@ -50,7 +50,7 @@ impl Directory {
         ensures done { OnOk result (self.new ≡ emptied self.old) }
         ensures kept { OnErr result (self.new ≡ self.old) }
         ensures turns { Turns self.old (emptied self.old) [] (1 ∷ []) (M.disk medium.old) (M.disk medium.new) result }
-        ensures sure { OnOk result (IsSynced (M.disk medium.new)) }
+        ensures durable { OnOk result (IsSynced (M.disk medium.new)) }
         ensures counts { Counts (M.disk medium.old) (M.disk medium.new) result }
     {
         let mut block = self.block(0);
@@ -79,7 +79,7 @@ impl Directory {
         ensures kept { OnErr result (self.new ≡ self.old) }
         ensures turns { Turns self.old (updated entry self.old) [] ((at self.old (last_listing self.old)).number ∷ [])
             (M.disk medium.old) (M.disk medium.new) result }
-        ensures sure { OnOk result (IsSynced (M.disk medium.new)) }
+        ensures durable { OnOk result (IsSynced (M.disk medium.new)) }
         ensures counts { Counts (M.disk medium.old) (M.disk medium.new) result }
     {
         let i = self.last_listing();
@@ -129,7 +129,7 @@ impl Directory {
             (M.disk medium.old) (M.disk medium.new) result }
         // The blocks that it writes are reserved ones.
         ensures within { All (λ n. n ≤ reserved) ((last_block self.old).number ∷ spare self.old) }
-        ensures sure { OnOk result (IsSynced (M.disk medium.new)) }
+        ensures durable { OnOk result (IsSynced (M.disk medium.new)) }
         ensures counts { Counts (M.disk medium.old) (M.disk medium.new) result }
     {
         if self.last_is_full() {
@@ -147,7 +147,7 @@ impl Directory {
         ensures kept { OnErr result (self.new ≡ self.old) }
         ensures turns { Turns self.old (with_entry_more entry self.old) [] ((last_block self.old).number ∷ [])
             (M.disk medium.old) (M.disk medium.new) result }
-        ensures sure { OnOk result (IsSynced (M.disk medium.new)) }
+        ensures durable { OnOk result (IsSynced (M.disk medium.new)) }
         ensures counts { Counts (M.disk medium.old) (M.disk medium.new) result }
     {
         let last = self.last();
@@ -171,7 +171,7 @@ impl Directory {
         ensures kept { OnErr result (self.new ≡ self.old) }
         ensures turns { Turns self.old (extended entry self.old) (next_number self.old ∷ [])
             ((last_block self.old).number ∷ next_number self.old ∷ []) (M.disk medium.old) (M.disk medium.new) result }
-        ensures sure { OnOk result (IsSynced (M.disk medium.new)) }
+        ensures durable { OnOk result (IsSynced (M.disk medium.new)) }
         ensures counts { Counts (M.disk medium.old) (M.disk medium.new) result }
     {
         let next = self.next_block(entry);
@@ -268,7 +268,7 @@ impl Directory {
         ensures kept { OnErr result (self.new ≡ self.old) }
         ensures turns { Turns self.old (replaced self.old i block) [] ((at self.old i).number ∷ [])
             (M.disk medium.old) (M.disk medium.new) result }
-        ensures sure { OnOk result (IsSynced (M.disk medium.new)) }
+        ensures durable { OnOk result (IsSynced (M.disk medium.new)) }
         ensures counts { Counts (M.disk medium.old) (M.disk medium.new) result }
     {
         let link = ChainBlock {

@@ -107,11 +107,11 @@ is_body bits es body is =
     (record { some = first.0; discretes = (first.1, first.2); fields = all_suited bits 0 es is.fits is.suits }, is.spelled ∙ bytes_are bits es first.2)
 
 -- a body that its word says of other discretes is not one of these
-pub told_is : (told bits : ℕ) (es : List DiscreteEntry) (body : List ℕ) → ((other : ℕ) (rest : List ℕ) → other < 32 → body ≡ le_bytes 4 (8 * other) ++ rest → told ≡ other) → IsDiscrete bits es body → told ≡ bits
-told_is told bits es body tells is = tells bits (flat_map discrete_entry es) (omega (arith, is.0.discretes.1)) is.1
+pub told_is : (reported bits : ℕ) (es : List DiscreteEntry) (body : List ℕ) → ((other : ℕ) (rest : List ℕ) → other < 32 → body ≡ le_bytes 4 (8 * other) ++ rest → reported ≡ other) → IsDiscrete bits es body → reported ≡ bits
+told_is reported bits es body tells is = tells bits (flat_map discrete_entry es) (omega (arith, is.0.discretes.1)) is.1
 
-pub told_body : (told bits : ℕ) (es : List DiscreteEntry) (body : List ℕ) → ((other : ℕ) (rest : List ℕ) → other < 32 → body ≡ le_bytes 4 (8 * other) ++ rest → told ≡ other) → IsDiscrete bits es body → IsBody discrete_form told 0 es body
-told_body told bits es body tells is = rw (told_is told bits es body tells is) (body_is bits es body is)
+pub told_body : (reported bits : ℕ) (es : List DiscreteEntry) (body : List ℕ) → ((other : ℕ) (rest : List ℕ) → other < 32 → body ≡ le_bytes 4 (8 * other) ++ rest → reported ≡ other) → IsDiscrete bits es body → IsBody discrete_form reported 0 es body
+told_body reported bits es body tells is = rw (told_is reported bits es body tells is) (body_is bits es body is)
 
 pub foreign_is : (body : List ℕ) → IsForeign discrete_form body → IsForeignDiscrete body
 foreign_is body f = (f.0, concat f.1, length f.1, f.2, omega (arith, fixed_length 12 f.1 f.4), f.5)

@@ -33,4 +33,5 @@ IsDiscrete bits entries body = FitsDiscreteBody bits entries × (body ≡ discre
 
 -- whoever wrote it: a word, and twelve bytes for each change
 abbrev pub IsForeignDiscrete : List ℕ → Type 0
-IsForeignDiscrete body = (word : ℕ) × (rest : List ℕ) × (changes : ℕ) × (word < 2 ^ 32) × (length rest ≡ 12 * changes) × (body ≡ le_bytes 4 word ++ rest)
+IsForeignDiscrete body = (word : ℕ) × (rest : List ℕ) × (changes : ℕ) × (word < 2 ^ 32) × (length rest ≡ 12 * changes)
+    × (body ≡ le_bytes 4 word ++ rest)

@@ -39,7 +39,7 @@ has_only bits states = nat_lt 0 bits && nat_lt bits 32 && nat_lt states (2 ^ bit
 abbrev pub discrete_form : Form DiscreteEntry
 discrete_form = record {
   front = 12;
-  told = λ front. Some 12;
+  reported = λ front. Some 12;
   count = λ e. e.count;
   spelled = λ before e. discrete_entry e;
   size = λ e. 12;

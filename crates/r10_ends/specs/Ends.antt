@@ -35,7 +35,7 @@ HoldEnds spec place (Some port) (Some outlet) = AreFresh spec place port outlet
 HoldEnds spec place port outlet = ⊥
 
 -- both are open, and hold the ends of a lane for the channel
-pub record AreOpened (spec : ChannelSpec) (place : ℕ) (port : PortEnd) (outlet : OutletEnd) : Type 0 where
+pub record AreEndsOpened (spec : ChannelSpec) (place : ℕ) (port : PortEnd) (outlet : OutletEnd) : Type 0 where
   pub port_open : port.opened ≡ true
   pub outlet_open : outlet.opened ≡ true
   pub ends : HoldEnds spec place port.handle.held outlet.handle.held

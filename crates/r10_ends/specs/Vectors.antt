@@ -45,7 +45,19 @@ module _ (ring : Ring) where
   sample count = record { count = count; message = discrete_message 1; gap = Whole }
 
   abbrev port : Sending
-  port = record { ring = ring; lane = record { spec = channel; waiting = sample 1 ∷ sample 2 ∷ []; last = Some 2; missed = 1; lost = 4; erased = 0 }; free = 1 }
+  port =
+      record {
+        ring = ring;
+        lane = record {
+          spec = channel;
+          waiting = sample 1 ∷ sample 2 ∷ [];
+          last = Some 2;
+          missed = 1;
+          lost = 4;
+          erased = 0;
+        };
+        free = 1;
+      }
 
   two_and_four : port_out port ≡ record { accepted = 2; lost = 4; capacity = 3; channel = 5 }
   two_and_four = refl

@@ -13,6 +13,7 @@ mod port_out;
 mod sender;
 
 pub use carrier::Carrier;
+pub use loose::Loose;
 pub use opening::open_ends;
 pub use outlet_end::OutletEnd;
 pub use port_end::PortEnd;

@@ -7,9 +7,11 @@ use std::marker::Model;
 
 /// A box as its pointer.
 pub struct Loose<T, A: Allocator> {
-    pub(crate) at: *mut T,
-    pub(crate) alloc: A,
-    pub(crate) ghost value: { T },
+    /// where its value stands
+    pub at: *mut T,
+    /// what gave the memory
+    pub alloc: A,
+    pub ghost value: { T },
 }
 
 impl<T, A: Allocator> Model for Loose<T, A> {

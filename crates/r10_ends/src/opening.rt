@@ -1,18 +1,17 @@
 //! The two ends of a lane are made.
 
 ghost use Rattle.std.specs.Prelude.{◌≡◌, ◌≢◌, ◌⊎◌, ◌↔◌};
-ghost use Rattle.r10_ends.specs.Ends.{AreOpened, IsOpenOne};
+ghost use Rattle.r10_body.specs.Statuses.{memory_status, open_status};
+ghost use Rattle.r10_ends.specs.Ends.{AreEndsOpened, IsOpenOne};
 
 use crate::carrier::Carrier;
 use crate::outlet_end::OutletEnd;
 use crate::port_end::PortEnd;
-use crate::sender::{OUT_OF_MEMORY, PortSender};
+use crate::sender::PortSender;
 use r10_body::ChannelSpec;
+use r10_body::status::{OPEN, OUT_OF_MEMORY};
 use r10_port::lane;
 use std::alloc::Global;
-
-/// The number that is answered where an end is open already.
-const OPEN: u32 = 45;
 
 /// Opens the two ends of a lane for a channel at this place of a recorder's settings: 0, or 30, 45.
 pub fn open_ends(
@@ -22,10 +21,10 @@ pub fn open_ends(
     port: &mut PortEnd,
     outlet: &mut OutletEnd,
 ) -> u32
-    ensures opens { result ≡ 0 → AreOpened spec place port.new outlet.new }
+    ensures opens { result ≡ 0 → AreEndsOpened spec place port.new outlet.new }
     ensures untouched { result ≢ 0 → (port.new ≡ port.old) × (outlet.new ≡ outlet.old) }
-    ensures opened { (result ≡ 45) ↔ IsOpenOne port.old outlet.old }
-    ensures numbers { (result ≡ 0) ⊎ (result ≡ 30) ⊎ (result ≡ 45) }
+    ensures opened { (result ≡ open_status) ↔ IsOpenOne port.old outlet.old }
+    ensures numbers { (result ≡ 0) ⊎ (result ≡ memory_status) ⊎ (result ≡ open_status) }
 {
     if port.is_open() || outlet.is_open() {
         return OPEN;

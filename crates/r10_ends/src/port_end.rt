@@ -2,16 +2,15 @@
 
 ghost use Rattle.std.specs.Prelude.{◌≡◌, false, is_some, true, None};
 ghost use Rattle.r10_body.specs.Messages.{arinc_message, bus_message, data_message, discrete_message, uart_message};
+ghost use Rattle.r10_body.specs.Statuses.{closed_status};
 ghost use Rattle.r10_port.specs.Ends.{with_losses};
 ghost use Rattle.r10_ends.specs.Sending.{OffersByPort, OffersOrLacks, port_out};
 
 use crate::port_handle::PortHandle;
 use crate::port_out::PortOut;
 use crate::sender::PortSender;
+use r10_body::status::CLOSED;
 use std::alloc::Global;
-
-/// The number that is answered where an end is not open.
-const CLOSED: u32 = 44;
 
 /// The sending end of a lane, or none where it is not open. A caller keeps it, zero at first, and never reads it.
 #[repr(C)]
@@ -66,7 +65,7 @@ impl PortEnd {
     ) -> u32
         ensures does { self.old.opened ≡ true
             → PortGoes self.old self.new (λ old new. OffersOrLacks old count (uart_message parity sub bytes.now) result new) }
-        ensures closed { self.old.opened ≡ false → (result ≡ 44) × (self.new ≡ self.old) }
+        ensures closed { self.old.opened ≡ false → (result ≡ closed_status) × (self.new ≡ self.old) }
     {
         if !self.is_open() {
             return CLOSED;
@@ -88,7 +87,7 @@ impl PortEnd {
     ) -> u32
         ensures does { self.old.opened ≡ true
             → PortGoes self.old self.new (λ old new. OffersOrLacks old count (bus_message status gap words.now) result new) }
-        ensures closed { self.old.opened ≡ false → (result ≡ 44) × (self.new ≡ self.old) }
+        ensures closed { self.old.opened ≡ false → (result ≡ closed_status) × (self.new ≡ self.old) }
     {
         if !self.is_open() {
             return CLOSED;
@@ -112,7 +111,7 @@ impl PortEnd {
     ) -> u32
         ensures does { self.old.opened ≡ true → PortGoes self.old self.new
             (λ old new. OffersByPort old count (arinc_message bus format parity high word) result new) }
-        ensures closed { self.old.opened ≡ false → (result ≡ 44) × (self.new ≡ self.old) }
+        ensures closed { self.old.opened ≡ false → (result ≡ closed_status) × (self.new ≡ self.old) }
     {
         if !self.is_open() {
             return CLOSED;
@@ -127,7 +126,7 @@ impl PortEnd {
     pub fn offer_discrete(&mut self, alloc: Global, count: u64, states: u32) -> u32
         ensures does { self.old.opened ≡ true
             → PortGoes self.old self.new (λ old new. OffersByPort old count (discrete_message states) result new) }
-        ensures closed { self.old.opened ≡ false → (result ≡ 44) × (self.new ≡ self.old) }
+        ensures closed { self.old.opened ≡ false → (result ≡ closed_status) × (self.new ≡ self.old) }
     {
         if !self.is_open() {
             return CLOSED;
@@ -150,7 +149,7 @@ impl PortEnd {
     ) -> u32
         ensures does { self.old.opened ≡ true → PortGoes self.old self.new
             (λ old new. OffersOrLacks old count (data_message data_error format sub bytes.now) result new) }
-        ensures closed { self.old.opened ≡ false → (result ≡ 44) × (self.new ≡ self.old) }
+        ensures closed { self.old.opened ≡ false → (result ≡ closed_status) × (self.new ≡ self.old) }
     {
         if !self.is_open() {
             return CLOSED;
@@ -165,7 +164,7 @@ impl PortEnd {
     pub fn lose(&mut self, alloc: Global, lost: u64) -> u32
         ensures does { self.old.opened ≡ true
             → PortGoes self.old self.new (λ old new. (result ≡ 0) × (new ≡ with_losses lost old)) }
-        ensures closed { self.old.opened ≡ false → (result ≡ 44) × (self.new ≡ self.old) }
+        ensures closed { self.old.opened ≡ false → (result ≡ closed_status) × (self.new ≡ self.old) }
     {
         if !self.is_open() {
             return CLOSED;
@@ -180,7 +179,7 @@ impl PortEnd {
     pub fn state(&mut self, alloc: Global, out: &mut PortOut) -> u32
         ensures does { self.old.opened ≡ true
             → PortGoes self.old self.new (λ old new. (result ≡ 0) × (new ≡ old) × (out.new ≡ port_out old)) }
-        ensures closed { self.old.opened ≡ false → (result ≡ 44) × (self.new ≡ self.old) × (out.new ≡ out.old) }
+        ensures closed { self.old.opened ≡ false → (result ≡ closed_status) × (self.new ≡ self.old) × (out.new ≡ out.old) }
     {
         if !self.is_open() {
             return CLOSED;

@@ -7,6 +7,7 @@ ghost use Rattle.r10_port.specs.Ends.{with_losses};
 ghost use Rattle.r10_ends.specs.Sending.{OffersByPort, OffersOrLacks, number_answered, port_out};
 
 use crate::port_out::PortOut;
+use r10_body::status::OUT_OF_MEMORY;
 use r10_body::{
     ArincMessage, BusMessage, ChannelSpec, DataMessage, DiscreteMessage, Message, Refusal,
     UartMessage,
@@ -15,9 +16,6 @@ use r10_count::{Bytes, Count, Items};
 use r10_port::Port;
 use std::alloc::Global;
 use std::marker::Model;
-
-/// The number of the refusal for want of memory.
-pub(crate) const OUT_OF_MEMORY: u32 = 30;
 
 /// The sending end of a channel's lane, and what the channel is set to.
 #[derive(Drop)]

@@ -20,7 +20,7 @@ use Rattle.std.specs.Box.Ownership.{box_owns}
 use Rattle.std.specs.contracts.alloc.Global as heap
 use Rattle.std.proofs.alloc.Global.TheLaws as heap_laws
 use Rattle.std.specs.contracts.impls.GlobalAllocator.TheImpl.{ghosts}
-use Rattle.r10_ffi.proofs.Words.{both, al}
+use Rattle.r10_ends.proofs.Words.{both, al}
 use Rattle.r10_ffi.specs.declared.held.LentRecorder.{LentRecorder}
 use Rattle.r10_ffi.specs.contracts.held.LentRecorder.{the_row as R}
 use Rattle.r10_ffi.specs.contracts.handle.Handle as handle

@@ -1,4 +1,3 @@
-pub mod Words
 mod Handles
 mod Between
 mod Rooms

@@ -1,7 +1,7 @@
 -- A call that may write, after its look for room.
 use Rattle.std.proofs.Common.{◌≡◌, ℕ, Bool, true, false, refl, sym, ap, subst, inr, ◌∙◌, true≢false}
 use Rattle.r10_body.specs.declared.refusal.Refusal.TheVariants.{OutOfMemory}
-use Rattle.r10_calls.specs.Told.{DoesEvent, number_of}
+use Rattle.r10_calls.specs.EventCalls.{DoesEvent, reply_number}
 use Rattle.r10_calls.specs.declared.desk.Desk.{Desk as DeskValue}
 use Rattle.r10_machine.specs.declared.event.Event.{Event as EventValue}
 use Rattle.r10_machine.specs.declared.event.Event.TheVariants.{Erase}
@@ -20,7 +20,7 @@ refused old new has event tells room none same accepted says = record {
   has = has;
   room = room;
   does = subst (λ (d : DeskValue Region). DoesEvent region_disk old.desk event tells d) (sym same)
-      (record { reply = Refused OutOfMemory; told = inr (refl, refl); says = says; config = refl; fault = refl; hand = refl });
+      (record { reply = Refused OutOfMemory; reported = inr (refl, refl); says = says; config = refl; fault = refl; hand = refl });
   accepted = accepted;
   refused = λ e. (refl, same);
 }
@@ -41,8 +41,8 @@ pub refused_erase : (old new : LentRecorder) (has : Bool) → MakesRoom has old.
 refused_erase old new has room none same accepted = record {
   has = has;
   room = room;
-  does = subst (λ (d : DeskValue Region). DoesEvent region_disk old.desk Erase (λ reply. 30 ≡ number_of reply) d) (sym same)
-      (record { reply = Refused OutOfMemory; told = inr (refl, refl); says = refl; config = refl; fault = refl; hand = refl });
+  does = subst (λ (d : DeskValue Region). DoesEvent region_disk old.desk Erase (λ reply. 30 ≡ reply_number reply) d) (sym same)
+      (record { reply = Refused OutOfMemory; reported = inr (refl, refl); says = refl; config = refl; fault = refl; hand = refl });
   accepted = ap (λ (v : _). v.items) accepted;
   refused = λ e. (refl, same);
 }

@@ -1,15 +1,14 @@
 //! The calls on losses, and on messages that go on to another recorder.
 
 ghost use Rattle.std.specs.Prelude.{◌≡◌, true, false};
+ghost use Rattle.r10_body.specs.Statuses.{closed_status};
 ghost use Rattle.r10_calls.specs.Losses.{untold};
 ghost use Rattle.r10_ffi.specs.Calls.{GivesWaiting, IsClosed, IsOpen, TellsLosses};
 
 use crate::recorder::Recorder;
+use r10_body::status::CLOSED;
 use r10_calls::{AccountOut, EntryOut, LossesOut, untold};
 use std::alloc::Global;
-
-/// A handle is not open.
-const CLOSED: u32 = 44;
 
 /// How many messages of the channel at this place were lost, and where that is reported. 0, or 43, 44.
 #[unsafe(no_mangle)]
@@ -20,7 +19,7 @@ pub extern "C" fn r10_losses(
     out: &mut LossesOut,
 ) -> u32
     ensures tells { IsOpen recorder.old → TellsLosses result place out.old out.new recorder.old recorder.new }
-    ensures closed { IsClosed recorder.old → (result ≡ 44) × (recorder.new ≡ recorder.old) × (out.new ≡ out.old) }
+    ensures closed { IsClosed recorder.old → (result ≡ closed_status) × (recorder.new ≡ recorder.old) × (out.new ≡ out.old) }
 {
     if !recorder.is_open() {
         return CLOSED;
@@ -43,7 +42,7 @@ pub extern "C" fn r10_take_waiting(
     ensures gives { IsOpen recorder.old
         → GivesWaiting result channel there.old there.new out.old out.new recorder.old recorder.new }
     ensures closed { IsClosed recorder.old
-        → (result ≡ 44) × (recorder.new ≡ recorder.old) × (there.new ≡ there.old) × (out.new ≡ out.old) }
+        → (result ≡ closed_status) × (recorder.new ≡ recorder.old) × (there.new ≡ there.old) × (out.new ≡ out.old) }
 {
     if !recorder.is_open() {
         return CLOSED;

@@ -3,7 +3,10 @@
 ghost use Rattle.std.specs.Prelude.{◌≡◌, ◌≢◌, ◌⊎◌, ◌↔◌, ◌≤◌, ◌<◌, None, Some, length};
 ghost use Rattle.r10_body.specs.Messages.{arinc_message, bus_message, data_message, discrete_message, uart_message};
 ghost use Rattle.r10_body.specs.declared.entry.Entry.{Entry};
+ghost use Rattle.r10_body.specs.Statuses.{blocks_status, closed_status, directory_status, medium_status, memory_status};
+ghost use Rattle.r10_body.specs.Statuses.{open_status, place_status, room_status, script_status};
 ghost use Rattle.r10_machine.specs.declared.event.Event.TheVariants as events;
+ghost use Rattle.r10_calls.specs.Aside.{HasUnusable};
 ghost use Rattle.r10_calls.specs.Checking.{TellsFault, TellsSettings};
 ghost use Rattle.r10_calls.specs.Copies.{copied};
 ghost use Rattle.r10_calls.specs.Entries.{out_bytes, words_of};
@@ -12,31 +15,23 @@ ghost use Rattle.r10_calls.specs.Listing.{file_in, files_in, channel_given, lane
 ghost use Rattle.r10_calls.specs.Opening.{HasOtherBlocks};
 ghost use Rattle.r10_calls.specs.Outs.{cursor_in, left_out, moved_in, queued_in, taken_out};
 ghost use Rattle.r10_calls.specs.Reading.{count_in, found_in, is_count_in, lent, next_out, place_in};
-ghost use Rattle.r10_calls.specs.Told.{DoesEvent, number_of};
+ghost use Rattle.r10_calls.specs.EventCalls.{DoesEvent, reply_number};
 ghost use Rattle.r10_region.specs.Orders.{CountsQueue, HandsOrderOut, HandsRunOut, HasTold};
 ghost use Rattle.r10_region.specs.RegionDisk.{region_disk};
-ghost use Rattle.r10_ffi.specs.Calls.{Accounts, Does, DoesWriting, Erases, FailsOver, Goes, HandsHeld, IsClosed, IsFormattedRegion};
-ghost use Rattle.r10_ffi.specs.Calls.{IsOpen, IsOpened, Offers};
+ghost use Rattle.r10_ffi.specs.Calls.{Accounts, DoesWithoutWriting, DoesWriting, ErasesWhereOpen, FailsOver, Goes, HandsHeld};
+ghost use Rattle.r10_ffi.specs.Calls.{IsAsideRegion};
+ghost use Rattle.r10_ffi.specs.Calls.{IsClosed, IsFormattedRegion, IsOpen, IsOpened, DoesOffer};
 ghost use Rattle.r10_ffi.specs.Civil.{parts_of};
 
 use crate::civil::{Civil, parts_of};
 use crate::held::LentRecorder;
 use crate::recorder::Recorder;
+use r10_body::status::{CLOSED, OPEN, OUT_OF_MEMORY, ROOM};
 use r10_calls::{
     AccountOut, ChannelOut, EntryOut, FaultOut, FileOut, ScriptOut, StatusOut, count_accepted,
 };
 use r10_region::{OrderOut, QueueOut, Region, RunOut, Strip};
 use std::alloc::Global;
-
-const OUT_OF_MEMORY: u32 = 30;
-
-const ROOM: u32 = 42;
-
-/// The handle is not open.
-const CLOSED: u32 = 44;
-
-/// The handle is open already.
-const OPEN: u32 = 45;
 
 /// The library's version: three numbers of two digits.
 const VERSION: u32 = 200;
@@ -58,9 +53,9 @@ pub extern "C" fn r10_check_script(
     text: &mut [u8],
 ) -> u32
     ensures taken { result ≡ 0 → TellsSettings script.now out.new × (text.new ≡ text.old) }
-    ensures refused { result ≡ 40 → TellsFault out.new text.old text.new }
-    ensures memory { result ≡ 30 → (out.new ≡ out.old) × (text.new ≡ text.old) }
-    ensures numbers { (result ≡ 0) ⊎ (result ≡ 30) ⊎ (result ≡ 40) }
+    ensures refused { result ≡ script_status → TellsFault out.new text.old text.new }
+    ensures memory { result ≡ memory_status → (out.new ≡ out.old) × (text.new ≡ text.old) }
+    ensures numbers { (result ≡ 0) ⊎ (result ≡ memory_status) ⊎ (result ≡ script_status) }
 {
     r10_calls::check_script(alloc, script, out, text)
 }
@@ -77,10 +72,11 @@ pub extern "C" fn r10_format(
 ) -> u32
     ensures formats { result ≡ 0 → IsOpen recorder.new × IsFormattedRegion script.now region.held recorder.new.handle.held }
     ensures untouched { result ≢ 0 → recorder.new ≡ recorder.old }
-    ensures failed { result ≡ 28 → FailsOver region.held room }
-    ensures other { result ≡ 41 → HasOtherBlocks script.now (length region.held) }
-    ensures opened { (result ≡ 45) ↔ IsOpen recorder.old }
-    ensures numbers { (result ≡ 0) ⊎ (result ≡ 28) ⊎ (result ≡ 30) ⊎ (result ≡ 40) ⊎ (result ≡ 41) ⊎ (result ≡ 45) }
+    ensures failed { result ≡ medium_status → FailsOver region.held room }
+    ensures other { result ≡ blocks_status → HasOtherBlocks script.now (length region.held) }
+    ensures opened { (result ≡ open_status) ↔ IsOpen recorder.old }
+    ensures numbers { (result ≡ 0) ⊎ (result ≡ medium_status) ⊎ (result ≡ memory_status) ⊎ (result ≡ script_status)
+        ⊎ (result ≡ blocks_status) ⊎ (result ≡ open_status) }
 {
     if recorder.is_open() {
         return OPEN;
@@ -110,6 +106,57 @@ pub extern "C" fn r10_format(
     }
 }
 
+/// Sets the last file of the medium in this memory aside where it was left open, and opens a recorder over it, which is not
+/// mounted: 0, or 26, 28, 30, 40, 41, 45.
+#[unsafe(no_mangle)]
+pub extern "C" fn r10_set_aside(
+    alloc: Global,
+    region: Strip,
+    room: usize,
+    script: &[u8],
+    recorder: &mut Recorder,
+    was_open: &mut bool,
+) -> u32
+    ensures aside { result ≡ 0
+        → IsOpen recorder.new × IsAsideRegion script.now was_open.new region.held recorder.new.handle.held }
+    ensures untouched { result ≢ 0 → (recorder.new ≡ recorder.old) × (was_open.new ≡ was_open.old) }
+    ensures failed { result ≡ medium_status → FailsOver region.held room }
+    ensures unusable { result ≡ directory_status → HasUnusable script.now region.held }
+    ensures other { result ≡ blocks_status → HasOtherBlocks script.now (length region.held) }
+    ensures opened { (result ≡ open_status) ↔ IsOpen recorder.old }
+    ensures numbers { (result ≡ 0) ⊎ (result ≡ directory_status) ⊎ (result ≡ medium_status) ⊎ (result ≡ memory_status)
+        ⊎ (result ≡ script_status) ⊎ (result ≡ blocks_status) ⊎ (result ≡ open_status) }
+{
+    if recorder.is_open() {
+        return OPEN;
+    }
+    let Ok((lent, orders)) = Region::over(alloc, region, room) else {
+        return OUT_OF_MEMORY;
+    };
+    let (done, medium) = r10_calls::set_aside(alloc, lent, script);
+    let found = match done {
+        Ok(found) => found,
+        Err(number) => return number,
+    };
+    let (desk, accepted) = match r10_calls::open(alloc, medium, script) {
+        Ok(opened) => opened,
+        Err(number) => return number,
+    };
+    let held = LentRecorder {
+        desk,
+        orders,
+        accepted,
+    };
+    match Box::new(alloc, held) {
+        Ok(held) => {
+            recorder.put(held);
+            *was_open = found;
+            0
+        }
+        Err(_) => OUT_OF_MEMORY,
+    }
+}
+
 /// Opens a recorder, which is not mounted, and of whose operations as many as `room` may wait before more memory is asked for: 0,
 /// or 30, 40, 41, 45.
 #[unsafe(no_mangle)]
@@ -122,9 +169,10 @@ pub extern "C" fn r10_open(
 ) -> u32
     ensures opens { result ≡ 0 → IsOpen recorder.new × IsOpened script.now region.held room recorder.new.handle.held }
     ensures untouched { result ≢ 0 → recorder.new ≡ recorder.old }
-    ensures other { result ≡ 41 → HasOtherBlocks script.now (length region.held) }
-    ensures opened { (result ≡ 45) ↔ IsOpen recorder.old }
-    ensures numbers { (result ≡ 0) ⊎ (result ≡ 30) ⊎ (result ≡ 40) ⊎ (result ≡ 41) ⊎ (result ≡ 45) }
+    ensures other { result ≡ blocks_status → HasOtherBlocks script.now (length region.held) }
+    ensures opened { (result ≡ open_status) ↔ IsOpen recorder.old }
+    ensures numbers { (result ≡ 0) ⊎ (result ≡ memory_status) ⊎ (result ≡ script_status) ⊎ (result ≡ blocks_status)
+        ⊎ (result ≡ open_status) }
 {
     if recorder.is_open() {
         return OPEN;
@@ -163,9 +211,9 @@ pub extern "C" fn r10_order(
         (λ old new. (result ≡ 0) × HandsHeld old new
         (λ before after. HandsOrderOut before after old.orders new.orders out.new bytes.old bytes.new)) }
     ensures room { length bytes.old < 512 → IsOpen recorder.old
-        → (result ≡ 42) × (recorder.new ≡ recorder.old) × (out.new ≡ out.old) × (bytes.new ≡ bytes.old) }
+        → (result ≡ room_status) × (recorder.new ≡ recorder.old) × (out.new ≡ out.old) × (bytes.new ≡ bytes.old) }
     ensures closed { IsClosed recorder.old
-        → (result ≡ 44) × (recorder.new ≡ recorder.old) × (out.new ≡ out.old) × (bytes.new ≡ bytes.old) }
+        → (result ≡ closed_status) × (recorder.new ≡ recorder.old) × (out.new ≡ out.old) × (bytes.new ≡ bytes.old) }
 {
     if !recorder.is_open() {
         return CLOSED;
@@ -192,9 +240,9 @@ pub extern "C" fn r10_orders(
         (λ old new. (result ≡ 0) × HandsHeld old new
         (λ before after. HandsRunOut before after old.orders new.orders out.new bytes.old bytes.new)) }
     ensures room { length bytes.old < 512 → IsOpen recorder.old
-        → (result ≡ 42) × (recorder.new ≡ recorder.old) × (out.new ≡ out.old) × (bytes.new ≡ bytes.old) }
+        → (result ≡ room_status) × (recorder.new ≡ recorder.old) × (out.new ≡ out.old) × (bytes.new ≡ bytes.old) }
     ensures closed { IsClosed recorder.old
-        → (result ≡ 44) × (recorder.new ≡ recorder.old) × (out.new ≡ out.old) × (bytes.new ≡ bytes.old) }
+        → (result ≡ closed_status) × (recorder.new ≡ recorder.old) × (out.new ≡ out.old) × (bytes.new ≡ bytes.old) }
 {
     if !recorder.is_open() {
         return CLOSED;
@@ -213,7 +261,7 @@ pub extern "C" fn r10_orders(
 pub extern "C" fn r10_queue(alloc: Global, recorder: &mut Recorder, out: &mut QueueOut) -> u32
     ensures counts { IsOpen recorder.old → Goes recorder.old recorder.new
         (λ old new. (result ≡ 0) × (new.desk ≡ old.desk) × CountsQueue old.orders new.orders out.new) }
-    ensures closed { IsClosed recorder.old → (result ≡ 44) × (recorder.new ≡ recorder.old) × (out.new ≡ out.old) }
+    ensures closed { IsClosed recorder.old → (result ≡ closed_status) × (recorder.new ≡ recorder.old) × (out.new ≡ out.old) }
 {
     if !recorder.is_open() {
         return CLOSED;
@@ -227,9 +275,9 @@ pub extern "C" fn r10_queue(alloc: Global, recorder: &mut Recorder, out: &mut Qu
 /// The program's disk failed: from now on each write and each sync of the recorder fails. 0, or 44.
 #[unsafe(no_mangle)]
 pub extern "C" fn r10_disk_failed(alloc: Global, recorder: &mut Recorder) -> u32
-    ensures told { IsOpen recorder.old
+    ensures reported { IsOpen recorder.old
         → Goes recorder.old recorder.new (λ old new. (result ≡ 0) × (new.desk ≡ old.desk) × HasTold old.orders new.orders) }
-    ensures closed { IsClosed recorder.old → (result ≡ 44) × (recorder.new ≡ recorder.old) }
+    ensures closed { IsClosed recorder.old → (result ≡ closed_status) × (recorder.new ≡ recorder.old) }
 {
     if !recorder.is_open() {
         return CLOSED;
@@ -258,8 +306,8 @@ pub extern "C" fn r10_close(alloc: Global, recorder: &mut Recorder)
 #[unsafe(no_mangle)]
 pub extern "C" fn r10_mount(alloc: Global, recorder: &mut Recorder) -> u32
     ensures does { IsOpen recorder.old → DoesWriting recorder.old recorder.new result
-        (λ old new. DoesEvent region_disk old events.Mount (λ reply. result ≡ number_of reply) new) }
-    ensures closed { IsClosed recorder.old → (result ≡ 44) × (recorder.new ≡ recorder.old) }
+        (λ old new. DoesEvent region_disk old events.Mount (λ reply. result ≡ reply_number reply) new) }
+    ensures closed { IsClosed recorder.old → (result ≡ closed_status) × (recorder.new ≡ recorder.old) }
 {
     if !recorder.is_open() {
         return CLOSED;
@@ -274,8 +322,8 @@ pub extern "C" fn r10_mount(alloc: Global, recorder: &mut Recorder) -> u32
 #[unsafe(no_mangle)]
 pub extern "C" fn r10_dismount(alloc: Global, recorder: &mut Recorder) -> u32
     ensures does { IsOpen recorder.old → DoesWriting recorder.old recorder.new result
-        (λ old new. DoesEvent region_disk old events.Dismount (λ reply. result ≡ number_of reply) new) }
-    ensures closed { IsClosed recorder.old → (result ≡ 44) × (recorder.new ≡ recorder.old) }
+        (λ old new. DoesEvent region_disk old events.Dismount (λ reply. result ≡ reply_number reply) new) }
+    ensures closed { IsClosed recorder.old → (result ≡ closed_status) × (recorder.new ≡ recorder.old) }
 {
     if !recorder.is_open() {
         return CLOSED;
@@ -290,8 +338,8 @@ pub extern "C" fn r10_dismount(alloc: Global, recorder: &mut Recorder) -> u32
 #[unsafe(no_mangle)]
 pub extern "C" fn r10_tick(alloc: Global, recorder: &mut Recorder, count: u64, civil: &Civil) -> u32
     ensures does { IsOpen recorder.old → DoesWriting recorder.old recorder.new result
-        (λ old new. DoesEvent region_disk old (events.Tick count (parts_of civil.now)) (λ reply. result ≡ number_of reply) new) }
-    ensures closed { IsClosed recorder.old → (result ≡ 44) × (recorder.new ≡ recorder.old) }
+        (λ old new. DoesEvent region_disk old (events.Tick count (parts_of civil.now)) (λ reply. result ≡ reply_number reply) new) }
+    ensures closed { IsClosed recorder.old → (result ≡ closed_status) × (recorder.new ≡ recorder.old) }
 {
     if !recorder.is_open() {
         return CLOSED;
@@ -311,8 +359,8 @@ pub extern "C" fn r10_start(
     setup: &[u8],
 ) -> u32
     ensures does { IsOpen recorder.old → DoesWriting recorder.old recorder.new result
-        (λ old new. DoesEvent region_disk old (events.Start name.now setup.now) (λ reply. result ≡ number_of reply) new) }
-    ensures closed { IsClosed recorder.old → (result ≡ 44) × (recorder.new ≡ recorder.old) }
+        (λ old new. DoesEvent region_disk old (events.Start name.now setup.now) (λ reply. result ≡ reply_number reply) new) }
+    ensures closed { IsClosed recorder.old → (result ≡ closed_status) × (recorder.new ≡ recorder.old) }
 {
     if !recorder.is_open() {
         return CLOSED;
@@ -334,9 +382,9 @@ pub extern "C" fn r10_offer_uart(
     sub: u16,
     bytes: &[u8],
 ) -> u32
-    ensures does { IsOpen recorder.old → Offers result channel recorder.old recorder.new (λ old new. DoesEvent region_disk old
-        (events.Offer channel count (uart_message parity sub bytes.now)) (λ reply. result ≡ number_of reply) new) }
-    ensures closed { IsClosed recorder.old → (result ≡ 44) × (recorder.new ≡ recorder.old) }
+    ensures does { IsOpen recorder.old → DoesOffer result channel recorder.old recorder.new (λ old new. DoesEvent region_disk old
+        (events.Offer channel count (uart_message parity sub bytes.now)) (λ reply. result ≡ reply_number reply) new) }
+    ensures closed { IsClosed recorder.old → (result ≡ closed_status) × (recorder.new ≡ recorder.old) }
 {
     if !recorder.is_open() {
         return CLOSED;
@@ -360,9 +408,9 @@ pub extern "C" fn r10_offer_1553(
     gap: u16,
     words: &[u16],
 ) -> u32
-    ensures does { IsOpen recorder.old → Offers result channel recorder.old recorder.new (λ old new. DoesEvent region_disk old
-        (events.Offer channel count (bus_message status gap words.now)) (λ reply. result ≡ number_of reply) new) }
-    ensures closed { IsClosed recorder.old → (result ≡ 44) × (recorder.new ≡ recorder.old) }
+    ensures does { IsOpen recorder.old → DoesOffer result channel recorder.old recorder.new (λ old new. DoesEvent region_disk old
+        (events.Offer channel count (bus_message status gap words.now)) (λ reply. result ≡ reply_number reply) new) }
+    ensures closed { IsClosed recorder.old → (result ≡ closed_status) × (recorder.new ≡ recorder.old) }
 {
     if !recorder.is_open() {
         return CLOSED;
@@ -388,9 +436,9 @@ pub extern "C" fn r10_offer_arinc(
     high: bool,
     word: u32,
 ) -> u32
-    ensures does { IsOpen recorder.old → Offers result channel recorder.old recorder.new (λ old new. DoesEvent region_disk old
-        (events.Offer channel count (arinc_message bus format parity high word)) (λ reply. result ≡ number_of reply) new) }
-    ensures closed { IsClosed recorder.old → (result ≡ 44) × (recorder.new ≡ recorder.old) }
+    ensures does { IsOpen recorder.old → DoesOffer result channel recorder.old recorder.new (λ old new. DoesEvent region_disk old
+        (events.Offer channel count (arinc_message bus format parity high word)) (λ reply. result ≡ reply_number reply) new) }
+    ensures closed { IsClosed recorder.old → (result ≡ closed_status) × (recorder.new ≡ recorder.old) }
 {
     if !recorder.is_open() {
         return CLOSED;
@@ -414,9 +462,9 @@ pub extern "C" fn r10_offer_discrete(
     count: u64,
     states: u32,
 ) -> u32
-    ensures does { IsOpen recorder.old → Offers result channel recorder.old recorder.new (λ old new. DoesEvent region_disk old
-        (events.Offer channel count (discrete_message states)) (λ reply. result ≡ number_of reply) new) }
-    ensures closed { IsClosed recorder.old → (result ≡ 44) × (recorder.new ≡ recorder.old) }
+    ensures does { IsOpen recorder.old → DoesOffer result channel recorder.old recorder.new (λ old new. DoesEvent region_disk old
+        (events.Offer channel count (discrete_message states)) (λ reply. result ≡ reply_number reply) new) }
+    ensures closed { IsClosed recorder.old → (result ≡ closed_status) × (recorder.new ≡ recorder.old) }
 {
     if !recorder.is_open() {
         return CLOSED;
@@ -441,9 +489,9 @@ pub extern "C" fn r10_offer_message(
     sub: u16,
     bytes: &[u8],
 ) -> u32
-    ensures does { IsOpen recorder.old → Offers result channel recorder.old recorder.new (λ old new. DoesEvent region_disk old
-        (events.Offer channel count (data_message data_error format sub bytes.now)) (λ reply. result ≡ number_of reply) new) }
-    ensures closed { IsClosed recorder.old → (result ≡ 44) × (recorder.new ≡ recorder.old) }
+    ensures does { IsOpen recorder.old → DoesOffer result channel recorder.old recorder.new (λ old new. DoesEvent region_disk old
+        (events.Offer channel count (data_message data_error format sub bytes.now)) (λ reply. result ≡ reply_number reply) new) }
+    ensures closed { IsClosed recorder.old → (result ≡ closed_status) × (recorder.new ≡ recorder.old) }
 {
     if !recorder.is_open() {
         return CLOSED;
@@ -461,9 +509,9 @@ pub extern "C" fn r10_offer_message(
 /// So many messages of a channel were lost before they were offered. 0, or 6, 30.
 #[unsafe(no_mangle)]
 pub extern "C" fn r10_lost(alloc: Global, recorder: &mut Recorder, channel: u16, count: u64) -> u32
-    ensures does { IsOpen recorder.old → Does recorder.old recorder.new
-        (λ old new. DoesEvent region_disk old (events.Lose channel count) (λ reply. result ≡ number_of reply) new) }
-    ensures closed { IsClosed recorder.old → (result ≡ 44) × (recorder.new ≡ recorder.old) }
+    ensures does { IsOpen recorder.old → DoesWithoutWriting recorder.old recorder.new
+        (λ old new. DoesEvent region_disk old (events.Lose channel count) (λ reply. result ≡ reply_number reply) new) }
+    ensures closed { IsClosed recorder.old → (result ≡ closed_status) × (recorder.new ≡ recorder.old) }
 {
     if !recorder.is_open() {
         return CLOSED;
@@ -484,8 +532,8 @@ pub extern "C" fn r10_pump(
     moved: &mut usize,
 ) -> u32
     ensures does { IsOpen recorder.old → DoesWriting recorder.old recorder.new result (λ old new. DoesEvent region_disk old
-        (events.Pump channel most) (λ reply. (result ≡ number_of reply) × (moved.new ≡ moved_in reply moved.old)) new) }
-    ensures closed { IsClosed recorder.old → (result ≡ 44) × (recorder.new ≡ recorder.old) × (moved.new ≡ moved.old) }
+        (events.Pump channel most) (λ reply. (result ≡ reply_number reply) × (moved.new ≡ moved_in reply moved.old)) new) }
+    ensures closed { IsClosed recorder.old → (result ≡ closed_status) × (recorder.new ≡ recorder.old) × (moved.new ≡ moved.old) }
 {
     if !recorder.is_open() {
         return CLOSED;
@@ -500,8 +548,8 @@ pub extern "C" fn r10_pump(
 #[unsafe(no_mangle)]
 pub extern "C" fn r10_event(alloc: Global, recorder: &mut Recorder, number: u16, count: u64) -> u32
     ensures does { IsOpen recorder.old → DoesWriting recorder.old recorder.new result
-        (λ old new. DoesEvent region_disk old (events.Event number count) (λ reply. result ≡ number_of reply) new) }
-    ensures closed { IsClosed recorder.old → (result ≡ 44) × (recorder.new ≡ recorder.old) }
+        (λ old new. DoesEvent region_disk old (events.Event number count) (λ reply. result ≡ reply_number reply) new) }
+    ensures closed { IsClosed recorder.old → (result ≡ closed_status) × (recorder.new ≡ recorder.old) }
 {
     if !recorder.is_open() {
         return CLOSED;
@@ -516,8 +564,8 @@ pub extern "C" fn r10_event(alloc: Global, recorder: &mut Recorder, number: u16,
 #[unsafe(no_mangle)]
 pub extern "C" fn r10_commit(alloc: Global, recorder: &mut Recorder) -> u32
     ensures does { IsOpen recorder.old → DoesWriting recorder.old recorder.new result
-        (λ old new. DoesEvent region_disk old events.Commit (λ reply. result ≡ number_of reply) new) }
-    ensures closed { IsClosed recorder.old → (result ≡ 44) × (recorder.new ≡ recorder.old) }
+        (λ old new. DoesEvent region_disk old events.Commit (λ reply. result ≡ reply_number reply) new) }
+    ensures closed { IsClosed recorder.old → (result ≡ closed_status) × (recorder.new ≡ recorder.old) }
 {
     if !recorder.is_open() {
         return CLOSED;
@@ -537,10 +585,10 @@ pub extern "C" fn r10_stop(
     left: &mut usize,
 ) -> u32
     ensures does { IsOpen recorder.old → DoesWriting recorder.old recorder.new result
-        (λ old new. DoesEvent region_disk old events.Stop (λ reply. (result ≡ number_of reply)
+        (λ old new. DoesEvent region_disk old events.Stop (λ reply. (result ≡ reply_number reply)
         × (taken.new ≡ taken_out reply taken.old) × (left.new ≡ left_out reply left.old)) new) }
     ensures closed { IsClosed recorder.old
-        → (result ≡ 44) × (recorder.new ≡ recorder.old) × (taken.new ≡ taken.old) × (left.new ≡ left.old) }
+        → (result ≡ closed_status) × (recorder.new ≡ recorder.old) × (taken.new ≡ taken.old) × (left.new ≡ left.old) }
 {
     if !recorder.is_open() {
         return CLOSED;
@@ -555,8 +603,8 @@ pub extern "C" fn r10_stop(
 #[unsafe(no_mangle)]
 pub extern "C" fn r10_seal(alloc: Global, recorder: &mut Recorder) -> u32
     ensures does { IsOpen recorder.old → DoesWriting recorder.old recorder.new result
-        (λ old new. DoesEvent region_disk old events.Seal (λ reply. result ≡ number_of reply) new) }
-    ensures closed { IsClosed recorder.old → (result ≡ 44) × (recorder.new ≡ recorder.old) }
+        (λ old new. DoesEvent region_disk old events.Seal (λ reply. result ≡ reply_number reply) new) }
+    ensures closed { IsClosed recorder.old → (result ≡ closed_status) × (recorder.new ≡ recorder.old) }
 {
     if !recorder.is_open() {
         return CLOSED;
@@ -570,8 +618,8 @@ pub extern "C" fn r10_seal(alloc: Global, recorder: &mut Recorder) -> u32
 /// Takes all files from the medium. 0, or 1, 2, 4, 20, 28, 30.
 #[unsafe(no_mangle)]
 pub extern "C" fn r10_erase(alloc: Global, recorder: &mut Recorder) -> u32
-    ensures does { IsOpen recorder.old → Erases result recorder.old recorder.new }
-    ensures closed { IsClosed recorder.old → (result ≡ 44) × (recorder.new ≡ recorder.old) }
+    ensures does { IsOpen recorder.old → ErasesWhereOpen result recorder.old recorder.new }
+    ensures closed { IsClosed recorder.old → (result ≡ closed_status) × (recorder.new ≡ recorder.old) }
 {
     if !recorder.is_open() {
         return CLOSED;
@@ -585,9 +633,10 @@ pub extern "C" fn r10_erase(alloc: Global, recorder: &mut Recorder) -> u32
 /// How many files the medium has. 0, or 1, 2, 30.
 #[unsafe(no_mangle)]
 pub extern "C" fn r10_files(alloc: Global, recorder: &mut Recorder, count: &mut usize) -> u32
-    ensures does { IsOpen recorder.old → Does recorder.old recorder.new (λ old new. DoesEvent region_disk old events.Files
-        (λ reply. (result ≡ number_of reply) × (count.new ≡ files_in reply count.old)) new) }
-    ensures closed { IsClosed recorder.old → (result ≡ 44) × (recorder.new ≡ recorder.old) × (count.new ≡ count.old) }
+    ensures does { IsOpen recorder.old → DoesWithoutWriting recorder.old recorder.new
+        (λ old new. DoesEvent region_disk old events.Files
+        (λ reply. (result ≡ reply_number reply) × (count.new ≡ files_in reply count.old)) new) }
+    ensures closed { IsClosed recorder.old → (result ≡ closed_status) × (recorder.new ≡ recorder.old) × (count.new ≡ count.old) }
 {
     if !recorder.is_open() {
         return CLOSED;
@@ -607,11 +656,11 @@ pub extern "C" fn r10_file(
     out: &mut FileOut,
     name: &mut [u8],
 ) -> u32
-    ensures does { IsOpen recorder.old → Does recorder.old recorder.new
+    ensures does { IsOpen recorder.old → DoesWithoutWriting recorder.old recorder.new
         (λ old new. DoesEvent region_disk old events.Files (λ reply. (result ≡ file_place reply number)
         × (out.new ≡ file_in reply number out.old) × (name.new ≡ name_in reply number name.old)) new) }
     ensures closed { IsClosed recorder.old
-        → (result ≡ 44) × (recorder.new ≡ recorder.old) × (out.new ≡ out.old) × (name.new ≡ name.old) }
+        → (result ≡ closed_status) × (recorder.new ≡ recorder.old) × (out.new ≡ out.old) × (name.new ≡ name.old) }
 {
     if !recorder.is_open() {
         return CLOSED;
@@ -625,9 +674,10 @@ pub extern "C" fn r10_file(
 /// How the recorder is. 0, or 30.
 #[unsafe(no_mangle)]
 pub extern "C" fn r10_status(alloc: Global, recorder: &mut Recorder, out: &mut StatusOut) -> u32
-    ensures does { IsOpen recorder.old → Does recorder.old recorder.new (λ old new. DoesEvent region_disk old events.Status
-        (λ reply. (result ≡ number_of reply) × (out.new ≡ status_given reply out.old)) new) }
-    ensures closed { IsClosed recorder.old → (result ≡ 44) × (recorder.new ≡ recorder.old) × (out.new ≡ out.old) }
+    ensures does { IsOpen recorder.old → DoesWithoutWriting recorder.old recorder.new
+        (λ old new. DoesEvent region_disk old events.Status
+        (λ reply. (result ≡ reply_number reply) × (out.new ≡ status_given reply out.old)) new) }
+    ensures closed { IsClosed recorder.old → (result ≡ closed_status) × (recorder.new ≡ recorder.old) × (out.new ≡ out.old) }
 {
     if !recorder.is_open() {
         return CLOSED;
@@ -646,9 +696,10 @@ pub extern "C" fn r10_channel(
     place: usize,
     out: &mut ChannelOut,
 ) -> u32
-    ensures does { IsOpen recorder.old → Does recorder.old recorder.new (λ old new. DoesEvent region_disk old events.Status
+    ensures does { IsOpen recorder.old → DoesWithoutWriting recorder.old recorder.new
+        (λ old new. DoesEvent region_disk old events.Status
         (λ reply. (result ≡ lane_place reply place) × (out.new ≡ channel_given reply place out.old)) new) }
-    ensures closed { IsClosed recorder.old → (result ≡ 44) × (recorder.new ≡ recorder.old) × (out.new ≡ out.old) }
+    ensures closed { IsClosed recorder.old → (result ≡ closed_status) × (recorder.new ≡ recorder.old) × (out.new ≡ out.old) }
 {
     if !recorder.is_open() {
         return CLOSED;
@@ -668,7 +719,7 @@ pub extern "C" fn r10_account(
     out: &mut AccountOut,
 ) -> u32
     ensures does { IsOpen recorder.old → Accounts result place out.old out.new recorder.old recorder.new }
-    ensures closed { IsClosed recorder.old → (result ≡ 44) × (recorder.new ≡ recorder.old) × (out.new ≡ out.old) }
+    ensures closed { IsClosed recorder.old → (result ≡ closed_status) × (recorder.new ≡ recorder.old) × (out.new ≡ out.old) }
 {
     if !recorder.is_open() {
         return CLOSED;
@@ -691,9 +742,10 @@ pub extern "C" fn r10_cursor(
     to: u64,
     id: &mut usize,
 ) -> u32
-    ensures does { IsOpen recorder.old → Does recorder.old recorder.new (λ old new. DoesEvent region_disk old
-        (events.Cursor file channels.now from to) (λ reply. (result ≡ number_of reply) × (id.new ≡ cursor_in reply id.old)) new) }
-    ensures closed { IsClosed recorder.old → (result ≡ 44) × (recorder.new ≡ recorder.old) × (id.new ≡ id.old) }
+    ensures does { IsOpen recorder.old → DoesWithoutWriting recorder.old recorder.new (λ old new. DoesEvent region_disk old
+        (events.Cursor file channels.now from to) (λ reply. (result ≡ reply_number reply)
+        × (id.new ≡ cursor_in reply id.old)) new) }
+    ensures closed { IsClosed recorder.old → (result ≡ closed_status) × (recorder.new ≡ recorder.old) × (id.new ≡ id.old) }
 {
     if !recorder.is_open() {
         return CLOSED;
@@ -712,9 +764,10 @@ pub extern "C" fn r10_advance(
     id: usize,
     queued: &mut usize,
 ) -> u32
-    ensures does { IsOpen recorder.old → Does recorder.old recorder.new (λ old new. DoesEvent region_disk old (events.Advance id)
-        (λ reply. (result ≡ number_of reply) × (queued.new ≡ queued_in reply queued.old)) new) }
-    ensures closed { IsClosed recorder.old → (result ≡ 44) × (recorder.new ≡ recorder.old) × (queued.new ≡ queued.old) }
+    ensures does { IsOpen recorder.old → DoesWithoutWriting recorder.old recorder.new
+        (λ old new. DoesEvent region_disk old (events.Advance id)
+        (λ reply. (result ≡ reply_number reply) × (queued.new ≡ queued_in reply queued.old)) new) }
+    ensures closed { IsClosed recorder.old → (result ≡ closed_status) × (recorder.new ≡ recorder.old) × (queued.new ≡ queued.old) }
 {
     if !recorder.is_open() {
         return CLOSED;
@@ -737,12 +790,13 @@ pub extern "C" fn r10_next(
     words: &mut [u16],
 ) -> u32
     ensures does { 65_535 ≤ length bytes.old → 36 ≤ length words.old → IsOpen recorder.old
-        → Does recorder.old recorder.new (λ old new. DoesEvent region_disk old (events.Next id) (λ reply. (result ≡ number_of reply)
+        → DoesWithoutWriting recorder.old recorder.new (λ old new. DoesEvent region_disk old (events.Next id)
+        (λ reply. (result ≡ reply_number reply)
         × (lent there.new out.new bytes.new words.new ≡ next_out reply (lent there.old out.old bytes.old words.old))) new) }
     ensures room { (length bytes.old < 65_535) ⊎ (length words.old < 36) → IsOpen recorder.old
-        → Goes recorder.old recorder.new (λ old new. (result ≡ 42) × (new.desk ≡ old.desk) × (new.orders ≡ old.orders)
+        → Goes recorder.old recorder.new (λ old new. (result ≡ room_status) × (new.desk ≡ old.desk) × (new.orders ≡ old.orders)
         × (lent there.new out.new bytes.new words.new ≡ lent there.old out.old bytes.old words.old)) }
-    ensures closed { IsClosed recorder.old → (result ≡ 44) × (recorder.new ≡ recorder.old) × (there.new ≡ there.old)
+    ensures closed { IsClosed recorder.old → (result ≡ closed_status) × (recorder.new ≡ recorder.old) × (there.new ≡ there.old)
         × (out.new ≡ out.old) × (bytes.new ≡ bytes.old) × (words.new ≡ words.old) }
 {
     if !recorder.is_open() {
@@ -764,10 +818,11 @@ pub extern "C" fn r10_take(
     out: &mut EntryOut,
 ) -> u32
     ensures takes { IsOpen recorder.old
-        → Does recorder.old recorder.new (λ old new. TakesInHand region_disk old id (λ reply. (result ≡ number_of reply)
+        → DoesWithoutWriting recorder.old recorder.new (λ old new. TakesInHand region_disk old id
+        (λ reply. (result ≡ reply_number reply)
         × (there.new ≡ is_next_in reply there.old) × (out.new ≡ next_fields reply out.old)) new) }
     ensures closed { IsClosed recorder.old
-        → (result ≡ 44) × (recorder.new ≡ recorder.old) × (there.new ≡ there.old) × (out.new ≡ out.old) }
+        → (result ≡ closed_status) × (recorder.new ≡ recorder.old) × (there.new ≡ there.old) × (out.new ≡ out.old) }
 {
     if !recorder.is_open() {
         return CLOSED;
@@ -787,17 +842,17 @@ pub extern "C" fn r10_taken(
     bytes: &mut [u8],
     words: &mut [u16],
 ) -> u32
-    ensures stays { IsOpen recorder.old → Does recorder.old recorder.new (λ old new. new ≡ old) }
+    ensures stays { IsOpen recorder.old → DoesWithoutWriting recorder.old recorder.new (λ old new. new ≡ old) }
     ensures none { IsOpen recorder.old → Goes recorder.old recorder.new
-        (λ old new. entry_in old.desk.hand ≡ None → (result ≡ 43) × (bytes.new ≡ bytes.old) × (words.new ≡ words.old)) }
+        (λ old new. entry_in old.desk.hand ≡ None → (result ≡ place_status) × (bytes.new ≡ bytes.old) × (words.new ≡ words.old)) }
     ensures copies { IsOpen recorder.old → Goes recorder.old recorder.new (λ old new. (e : Entry)
         → entry_in old.desk.hand ≡ Some e → length (out_bytes e) ≤ length bytes.old → length (words_of e) ≤ length words.old
         → (result ≡ 0) × (bytes.new ≡ copied (out_bytes e) bytes.old) × (words.new ≡ copied (words_of e) words.old)) }
     ensures room { IsOpen recorder.old → Goes recorder.old recorder.new (λ old new. (e : Entry)
         → entry_in old.desk.hand ≡ Some e → (length bytes.old < length (out_bytes e)) ⊎ (length words.old < length (words_of e))
-        → (result ≡ 42) × (bytes.new ≡ bytes.old) × (words.new ≡ words.old)) }
+        → (result ≡ room_status) × (bytes.new ≡ bytes.old) × (words.new ≡ words.old)) }
     ensures closed { IsClosed recorder.old
-        → (result ≡ 44) × (recorder.new ≡ recorder.old) × (bytes.new ≡ bytes.old) × (words.new ≡ words.old) }
+        → (result ≡ closed_status) × (recorder.new ≡ recorder.old) × (bytes.new ≡ bytes.old) × (words.new ≡ words.old) }
 {
     if !recorder.is_open() {
         return CLOSED;
@@ -813,7 +868,7 @@ pub extern "C" fn r10_taken(
 pub extern "C" fn r10_fault(alloc: Global, recorder: &mut Recorder, out: &mut FaultOut) -> u32
     ensures gives { IsOpen recorder.old → Goes recorder.old recorder.new
         (λ old new. (result ≡ 0) × (new.desk ≡ old.desk) × (new.orders ≡ old.orders) × (out.new ≡ old.desk.fault)) }
-    ensures closed { IsClosed recorder.old → (result ≡ 44) × (recorder.new ≡ recorder.old) × (out.new ≡ out.old) }
+    ensures closed { IsClosed recorder.old → (result ≡ closed_status) × (recorder.new ≡ recorder.old) × (out.new ≡ out.old) }
 {
     if !recorder.is_open() {
         return CLOSED;
@@ -827,9 +882,9 @@ pub extern "C" fn r10_fault(alloc: Global, recorder: &mut Recorder, out: &mut Fa
 /// Closes a cursor. 0, or 21, 30.
 #[unsafe(no_mangle)]
 pub extern "C" fn r10_close_cursor(alloc: Global, recorder: &mut Recorder, id: usize) -> u32
-    ensures does { IsOpen recorder.old → Does recorder.old recorder.new
-        (λ old new. DoesEvent region_disk old (events.Close id) (λ reply. result ≡ number_of reply) new) }
-    ensures closed { IsClosed recorder.old → (result ≡ 44) × (recorder.new ≡ recorder.old) }
+    ensures does { IsOpen recorder.old → DoesWithoutWriting recorder.old recorder.new
+        (λ old new. DoesEvent region_disk old (events.Close id) (λ reply. result ≡ reply_number reply) new) }
+    ensures closed { IsClosed recorder.old → (result ≡ closed_status) × (recorder.new ≡ recorder.old) }
 {
     if !recorder.is_open() {
         return CLOSED;
@@ -855,13 +910,13 @@ pub extern "C" fn r10_find(
     words: &mut [u16],
 ) -> u32
     ensures does { 65_535 ≤ length bytes.old → 36 ≤ length words.old → IsOpen recorder.old
-        → Does recorder.old recorder.new (λ old new. DoesEvent region_disk old (events.Find file channel count)
-        (λ reply. (result ≡ number_of reply) × (number.new ≡ place_in reply number.old)
+        → DoesWithoutWriting recorder.old recorder.new (λ old new. DoesEvent region_disk old (events.Find file channel count)
+        (λ reply. (result ≡ reply_number reply) × (number.new ≡ place_in reply number.old)
         × (lent there.new out.new bytes.new words.new ≡ found_in reply (lent there.old out.old bytes.old words.old))) new) }
     ensures room { (length bytes.old < 65_535) ⊎ (length words.old < 36) → IsOpen recorder.old
-        → Goes recorder.old recorder.new (λ old new. (result ≡ 42) × (new.desk ≡ old.desk) × (new.orders ≡ old.orders)
+        → Goes recorder.old recorder.new (λ old new. (result ≡ room_status) × (new.desk ≡ old.desk) × (new.orders ≡ old.orders)
         × (number.new ≡ number.old) × (lent there.new out.new bytes.new words.new ≡ lent there.old out.old bytes.old words.old)) }
-    ensures closed { IsClosed recorder.old → (result ≡ 44) × (recorder.new ≡ recorder.old) × (there.new ≡ there.old)
+    ensures closed { IsClosed recorder.old → (result ≡ closed_status) × (recorder.new ≡ recorder.old) × (there.new ≡ there.old)
         × (number.new ≡ number.old) × (out.new ≡ out.old) × (bytes.new ≡ bytes.old) × (words.new ≡ words.old) }
 {
     if !recorder.is_open() {
@@ -885,11 +940,11 @@ pub extern "C" fn r10_count_at(
     there: &mut bool,
     count: &mut u64,
 ) -> u32
-    ensures does { IsOpen recorder.old → Does recorder.old recorder.new
-        (λ old new. DoesEvent region_disk old (events.CountAt file (parts_of civil.now)) (λ reply. (result ≡ number_of reply)
+    ensures does { IsOpen recorder.old → DoesWithoutWriting recorder.old recorder.new
+        (λ old new. DoesEvent region_disk old (events.CountAt file (parts_of civil.now)) (λ reply. (result ≡ reply_number reply)
         × (there.new ≡ is_count_in reply there.old) × (count.new ≡ count_in reply count.old)) new) }
     ensures closed { IsClosed recorder.old
-        → (result ≡ 44) × (recorder.new ≡ recorder.old) × (there.new ≡ there.old) × (count.new ≡ count.old) }
+        → (result ≡ closed_status) × (recorder.new ≡ recorder.old) × (there.new ≡ there.old) × (count.new ≡ count.old) }
 {
     if !recorder.is_open() {
         return CLOSED;

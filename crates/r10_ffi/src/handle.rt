@@ -5,7 +5,7 @@ ghost use Rattle.r10_ffi.specs.declared.held.LentRecorder.{LentRecorder};
 ghost use Rattle.r10_ends.specs.Owning.{IsThere};
 
 use crate::held::LentRecorder;
-use crate::loose::Loose;
+use r10_ends::Loose;
 use std::alloc::Global;
 use std::marker::Model;
 

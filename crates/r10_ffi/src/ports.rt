@@ -2,6 +2,7 @@
 
 ghost use Rattle.std.specs.Prelude.{◌≡◌, ◌≢◌, ◌⊎◌, ◌↔◌, false, true, None};
 ghost use Rattle.r10_body.specs.Messages.{arinc_message, bus_message, data_message, discrete_message, uart_message};
+ghost use Rattle.r10_body.specs.Statuses.{no_channel_status, closed_status, memory_status, open_status, script_status};
 ghost use Rattle.r10_carrier.specs.Opening.{LacksChannel, OpensLane};
 ghost use Rattle.r10_ends.specs.Ends.{IsOpenOne, PortGoes};
 ghost use Rattle.r10_ends.specs.Sending.{OffersByPort, OffersOrLacks, port_out};
@@ -11,13 +12,11 @@ ghost use Rattle.r10_ffi.specs.Calls.{IsClosed, IsOpen};
 ghost use Rattle.r10_ffi.specs.Ports.{CarriesInto};
 
 use crate::recorder::Recorder;
+use r10_body::status::CLOSED;
 use r10_calls::count_accepted;
 use r10_carrier::{carry_one, open_lane};
 use r10_ends::{OutletEnd, PortEnd, PortOut};
 use std::alloc::Global;
-
-/// A handle is not open.
-const CLOSED: u32 = 44;
 
 /// Opens the two ends of a lane for a channel of the script. 0, or 6, 30, 40, 45.
 #[unsafe(no_mangle)]
@@ -29,10 +28,11 @@ pub extern "C" fn r10_port_open(
     outlet: &mut OutletEnd,
 ) -> u32
     ensures opens { result ≡ 0 → OpensLane script.now channel port.new outlet.new }
-    ensures unknown { result ≡ 6 → LacksChannel script.now channel }
+    ensures unknown { result ≡ no_channel_status → LacksChannel script.now channel }
     ensures untouched { result ≢ 0 → (port.new ≡ port.old) × (outlet.new ≡ outlet.old) }
-    ensures opened { (result ≡ 45) ↔ IsOpenOne port.old outlet.old }
-    ensures numbers { (result ≡ 0) ⊎ (result ≡ 6) ⊎ (result ≡ 30) ⊎ (result ≡ 40) ⊎ (result ≡ 45) }
+    ensures opened { (result ≡ open_status) ↔ IsOpenOne port.old outlet.old }
+    ensures numbers { (result ≡ 0) ⊎ (result ≡ no_channel_status) ⊎ (result ≡ memory_status) ⊎ (result ≡ script_status)
+        ⊎ (result ≡ open_status) }
 {
     open_lane(alloc, script, channel, port, outlet)
 }
@@ -49,7 +49,7 @@ pub extern "C" fn r10_port_uart(
 ) -> u32
     ensures does { port.old.opened ≡ true
         → PortGoes port.old port.new (λ old new. OffersOrLacks old count (uart_message parity sub bytes.now) result new) }
-    ensures closed { port.old.opened ≡ false → (result ≡ 44) × (port.new ≡ port.old) }
+    ensures closed { port.old.opened ≡ false → (result ≡ closed_status) × (port.new ≡ port.old) }
 {
     port.offer_uart(alloc, count, parity, sub, bytes)
 }
@@ -66,7 +66,7 @@ pub extern "C" fn r10_port_1553(
 ) -> u32
     ensures does { port.old.opened ≡ true
         → PortGoes port.old port.new (λ old new. OffersOrLacks old count (bus_message status gap words.now) result new) }
-    ensures closed { port.old.opened ≡ false → (result ≡ 44) × (port.new ≡ port.old) }
+    ensures closed { port.old.opened ≡ false → (result ≡ closed_status) × (port.new ≡ port.old) }
 {
     port.offer_1553(alloc, count, status, gap, words)
 }
@@ -85,7 +85,7 @@ pub extern "C" fn r10_port_arinc(
 ) -> u32
     ensures does { port.old.opened ≡ true
         → PortGoes port.old port.new (λ old new. OffersByPort old count (arinc_message bus format parity high word) result new) }
-    ensures closed { port.old.opened ≡ false → (result ≡ 44) × (port.new ≡ port.old) }
+    ensures closed { port.old.opened ≡ false → (result ≡ closed_status) × (port.new ≡ port.old) }
 {
     port.offer_arinc(alloc, count, bus, format, parity, high, word)
 }
@@ -100,7 +100,7 @@ pub extern "C" fn r10_port_discrete(
 ) -> u32
     ensures does { port.old.opened ≡ true
         → PortGoes port.old port.new (λ old new. OffersByPort old count (discrete_message states) result new) }
-    ensures closed { port.old.opened ≡ false → (result ≡ 44) × (port.new ≡ port.old) }
+    ensures closed { port.old.opened ≡ false → (result ≡ closed_status) × (port.new ≡ port.old) }
 {
     port.offer_discrete(alloc, count, states)
 }
@@ -118,7 +118,7 @@ pub extern "C" fn r10_port_message(
 ) -> u32
     ensures does { port.old.opened ≡ true → PortGoes port.old port.new
         (λ old new. OffersOrLacks old count (data_message data_error format sub bytes.now) result new) }
-    ensures closed { port.old.opened ≡ false → (result ≡ 44) × (port.new ≡ port.old) }
+    ensures closed { port.old.opened ≡ false → (result ≡ closed_status) × (port.new ≡ port.old) }
 {
     port.offer_message(alloc, count, data_error, format, sub, bytes)
 }
@@ -127,7 +127,7 @@ pub extern "C" fn r10_port_message(
 #[unsafe(no_mangle)]
 pub extern "C" fn r10_port_lost(alloc: Global, port: &mut PortEnd, count: u64) -> u32
     ensures does { port.old.opened ≡ true → PortGoes port.old port.new (λ old new. (result ≡ 0) × (new ≡ with_losses count old)) }
-    ensures closed { port.old.opened ≡ false → (result ≡ 44) × (port.new ≡ port.old) }
+    ensures closed { port.old.opened ≡ false → (result ≡ closed_status) × (port.new ≡ port.old) }
 {
     port.lose(alloc, count)
 }
@@ -137,7 +137,7 @@ pub extern "C" fn r10_port_lost(alloc: Global, port: &mut PortEnd, count: u64) -
 pub extern "C" fn r10_port_state(alloc: Global, port: &mut PortEnd, out: &mut PortOut) -> u32
     ensures does { port.old.opened ≡ true
         → PortGoes port.old port.new (λ old new. (result ≡ 0) × (new ≡ old) × (out.new ≡ port_out old)) }
-    ensures closed { port.old.opened ≡ false → (result ≡ 44) × (port.new ≡ port.old) × (out.new ≡ out.old) }
+    ensures closed { port.old.opened ≡ false → (result ≡ closed_status) × (port.new ≡ port.old) × (out.new ≡ out.old) }
 {
     port.state(alloc, out)
 }
@@ -173,7 +173,7 @@ pub extern "C" fn r10_carry_one(
     ensures carries { IsOpen recorder.old → outlet.old.opened ≡ true
         → CarriesInto region_disk recorder.old outlet.old carried.new result recorder.new outlet.new }
     ensures closed { IsClosed recorder.old ⊎ (outlet.old.opened ≡ false)
-        → (result ≡ 44) × (recorder.new ≡ recorder.old) × (outlet.new ≡ outlet.old) × (carried.new ≡ carried.old) }
+        → (result ≡ closed_status) × (recorder.new ≡ recorder.old) × (outlet.new ≡ outlet.old) × (carried.new ≡ carried.old) }
 {
     if !recorder.is_open() || !outlet.is_open() {
         return CLOSED;

@@ -3,20 +3,19 @@
 ghost use Rattle.std.specs.Prelude.{◌≡◌};
 ghost use Rattle.r10_machine.specs.declared.event.Event.TheVariants as events;
 ghost use Rattle.r10_calls.specs.Outs.{left_out, moved_in, taken_out};
-ghost use Rattle.r10_calls.specs.Told.{DoesEvent, number_of};
+ghost use Rattle.r10_calls.specs.EventCalls.{DoesEvent, reply_number};
 ghost use Rattle.r10_region.specs.RegionDisk.{region_disk};
 ghost use Rattle.r10_ffi.specs.Calls.{ErasesHeld, WritesHeld};
 
 use crate::held::LentRecorder;
+use r10_body::status::OUT_OF_MEMORY;
 use r10_count::Parts;
 use std::alloc::Global;
-
-const OUT_OF_MEMORY: u32 = 30;
 
 impl LentRecorder {
     pub(crate) fn mount(&mut self, alloc: Global) -> u32
         ensures { WritesHeld result self.old self.new
-            (λ old new. DoesEvent region_disk old events.Mount (λ reply. result ≡ number_of reply) new) }
+            (λ old new. DoesEvent region_disk old events.Mount (λ reply. result ≡ reply_number reply) new) }
     {
         if !self.orders.make_room(alloc) {
             return OUT_OF_MEMORY;
@@ -26,7 +25,7 @@ impl LentRecorder {
 
     pub(crate) fn dismount(&mut self, alloc: Global) -> u32
         ensures { WritesHeld result self.old self.new
-            (λ old new. DoesEvent region_disk old events.Dismount (λ reply. result ≡ number_of reply) new) }
+            (λ old new. DoesEvent region_disk old events.Dismount (λ reply. result ≡ reply_number reply) new) }
     {
         if !self.orders.make_room(alloc) {
             return OUT_OF_MEMORY;
@@ -36,7 +35,7 @@ impl LentRecorder {
 
     pub(crate) fn tick(&mut self, alloc: Global, count: u64, parts: Parts) -> u32
         ensures { WritesHeld result self.old self.new
-            (λ old new. DoesEvent region_disk old (events.Tick count parts) (λ reply. result ≡ number_of reply) new) }
+            (λ old new. DoesEvent region_disk old (events.Tick count parts) (λ reply. result ≡ reply_number reply) new) }
     {
         if !self.orders.make_room(alloc) {
             return OUT_OF_MEMORY;
@@ -46,7 +45,7 @@ impl LentRecorder {
 
     pub(crate) fn start(&mut self, alloc: Global, name: &[u8], setup: &[u8]) -> u32
         ensures { WritesHeld result self.old self.new
-            (λ old new. DoesEvent region_disk old (events.Start name.now setup.now) (λ reply. result ≡ number_of reply) new) }
+            (λ old new. DoesEvent region_disk old (events.Start name.now setup.now) (λ reply. result ≡ reply_number reply) new) }
     {
         if !self.orders.make_room(alloc) {
             return OUT_OF_MEMORY;
@@ -62,7 +61,7 @@ impl LentRecorder {
         moved: &mut usize,
     ) -> u32
         ensures { WritesHeld result self.old self.new (λ old new. DoesEvent region_disk old (events.Pump channel most)
-            (λ reply. (result ≡ number_of reply) × (moved.new ≡ moved_in reply moved.old)) new) }
+            (λ reply. (result ≡ reply_number reply) × (moved.new ≡ moved_in reply moved.old)) new) }
     {
         if !self.orders.make_room(alloc) {
             return OUT_OF_MEMORY;
@@ -72,7 +71,7 @@ impl LentRecorder {
 
     pub(crate) fn event(&mut self, alloc: Global, number: u16, count: u64) -> u32
         ensures { WritesHeld result self.old self.new
-            (λ old new. DoesEvent region_disk old (events.Event number count) (λ reply. result ≡ number_of reply) new) }
+            (λ old new. DoesEvent region_disk old (events.Event number count) (λ reply. result ≡ reply_number reply) new) }
     {
         if !self.orders.make_room(alloc) {
             return OUT_OF_MEMORY;
@@ -82,7 +81,7 @@ impl LentRecorder {
 
     pub(crate) fn commit(&mut self, alloc: Global) -> u32
         ensures { WritesHeld result self.old self.new
-            (λ old new. DoesEvent region_disk old events.Commit (λ reply. result ≡ number_of reply) new) }
+            (λ old new. DoesEvent region_disk old events.Commit (λ reply. result ≡ reply_number reply) new) }
     {
         if !self.orders.make_room(alloc) {
             return OUT_OF_MEMORY;
@@ -92,7 +91,7 @@ impl LentRecorder {
 
     pub(crate) fn stop(&mut self, alloc: Global, taken: &mut usize, left: &mut usize) -> u32
         ensures { WritesHeld result self.old self.new
-            (λ old new. DoesEvent region_disk old events.Stop (λ reply. (result ≡ number_of reply)
+            (λ old new. DoesEvent region_disk old events.Stop (λ reply. (result ≡ reply_number reply)
             × (taken.new ≡ taken_out reply taken.old) × (left.new ≡ left_out reply left.old)) new) }
     {
         if !self.orders.make_room(alloc) {
@@ -103,7 +102,7 @@ impl LentRecorder {
 
     pub(crate) fn seal(&mut self, alloc: Global) -> u32
         ensures { WritesHeld result self.old self.new
-            (λ old new. DoesEvent region_disk old events.Seal (λ reply. result ≡ number_of reply) new) }
+            (λ old new. DoesEvent region_disk old events.Seal (λ reply. result ≡ reply_number reply) new) }
     {
         if !self.orders.make_room(alloc) {
             return OUT_OF_MEMORY;

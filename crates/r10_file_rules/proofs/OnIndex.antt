@@ -21,8 +21,8 @@ use Rattle.r10_body.proofs.Rules.{bytes_more, follows_fit}
 use Rattle.r10_index.specs.Book.{Book}
 use Rattle.r10_index.specs.Counted.{IsBookOf, CountsEntriesUpTo}
 use Rattle.r10_index.specs.Written.{names}
-pub use Rattle.r10_index.proofs.Behind.{entries_fit}
-use Rattle.r10_index.proofs.Behind.{part_fits, last_more, no_names, no_link_here, closed_last}
+pub use Rattle.r10_index.proofs.FileWithIndex.{entries_fit}
+use Rattle.r10_index.proofs.FileWithIndex.{part_fits, last_more, no_names, no_link_here, closed_last}
 use Rattle.r10_index.proofs.Roots.{names_length}
 use Rattle.r10_index.proofs.Sought.{entries_joined}
 use Rattle.r10_packet_rules.specs.Facts.{AreFactsOf, kind_of}
@@ -215,7 +215,7 @@ keeps_root t ps p clock counter body b ix each short clock_is count counter_is k
     let link = link_at clock counter t.root t.bytes in
     let here : List RootEntry = names clock t.start t.pending ++ link ∷ [] in
     let front : unnamed ps ≡ names clock t.start t.pending = ix.loose ∙ ap (λ n. names n t.start t.pending) (sym clock_is) in
-    let told : here ≡ unnamed ps ++ last ∷ [] =
+    let reported : here ≡ unnamed ps ++ last ∷ [] =
     ap (λ (es : List RootEntry). es ++ link ∷ []) (sym front) ∙ ap (λ (e : RootEntry). unnamed ps ++ e ∷ []) (link_is t.root ps p clock counter t.bytes ix.link clock_is counter_is ix.bytes) in
     let size : length here ≡ t.pending + 1 = omega (arith, length-append (names clock t.start t.pending) (link ∷ []), names_length clock t.start t.pending) in
     let here_fit : AllByRecursion FitsRoot here = all_more FitsRoot (names clock t.start t.pending) link (names_fit clock t.start t.pending count ix.low)
@@ -224,11 +224,11 @@ keeps_root t ps p clock counter body b ix each short clock_is count counter_is k
           let right = test.0 yes in
           root_from ps p a.entries a.is (
             (omega (arith, right.0.0, pending_is t ps ix), group_is t ps ix right.0.2),
-            one_root_body a.entries here own.fields here_fit (sym spelled ∙ right.1) ∙ told,
+            one_root_body a.entries here own.fields here_fit (sym spelled ∙ right.1) ∙ reported,
           ),
       λ keeps.
           let next = root_to ps p a.entries a.is keeps in
-          let same : a.entries ≡ here = next.1 ∙ sym told in
+          let same : a.entries ≡ here = next.1 ∙ sym reported in
           test.1 (
             (omega (arith, next.0.0, pending_is t ps ix), omega (arith, own.counted, ap (λ (es : List RootEntry). length es) same, size), group_of t ps ix next.0.1),
             spelled ∙ ap root_body same,

@@ -72,10 +72,10 @@ lossy : (g : Gap) (n : ℕ) → g ≡ Lost n → g ≡ Whole → ⊥
 lossy g n is whole = let no : Lost n ≡ Whole = sym is ∙ whole in cc
 
 by_report : (o : Option LossBody) (before : List Packet) (p : Packet) → MayFollow before p → IsGapTold o p → sum_by entry_cost (packet_entries p) ≡ sum_by plain_cost (packet_entries p) + owed o
-by_report None before p may told = omega (arith, without_loss p.channel p.gap (messages_of p.counter p.content) (untold p.gap told may.fits.gap))
-by_report (Some loss) before p may told =
-    let some : 0 < length (messages_of p.counter p.content) = has_messages p.counter p.content may.fits.content (λ own. lossy p.gap loss.lost told.1 (may.channels.2 own)) in
-    let cost : lost_cost p.gap ≡ 68 = ap lost_cost told.1 in
+by_report None before p may reported = omega (arith, without_loss p.channel p.gap (messages_of p.counter p.content) (untold p.gap reported may.fits.gap))
+by_report (Some loss) before p may reported =
+    let some : 0 < length (messages_of p.counter p.content) = has_messages p.counter p.content may.fits.content (λ own. lossy p.gap loss.lost reported.1 (may.channels.2 own)) in
+    let cost : lost_cost p.gap ≡ 68 = ap lost_cost reported.1 in
     omega (arith, with_loss p.channel p.gap (messages_of p.counter p.content) some, cost)
 
 -- a packet's entries cost what they do by themselves, and what the report before it adds

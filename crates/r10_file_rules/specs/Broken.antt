@@ -1,7 +1,8 @@
 -- The least rule that a packet breaks after others.
 use Rattle.std.specs.Prelude.{ℕ, ◌≤◌, List, Option, Some, None, IfSome}
 use Rattle.r10_body.specs.Packets.{Packet}
-use Rattle.r10_body.specs.Rules.{KeepsStart, KeepsChannels, KeepsSequence, KeepsCounts, KeepsIndex, KeepsCounters, KeepsEvents, IsSoundReport, report_of, MayFollow}
+use Rattle.r10_body.specs.Rules.{KeepsStart, KeepsChannels, KeepsSequence, KeepsCounts, KeepsIndex, KeepsCounters, KeepsEvents}
+use Rattle.r10_body.specs.Rules.{IsSoundReport, report_of, MayFollow}
 
 -- a packet breaks this rule after these
 pub data Breaks (before : List Packet) (p : Packet) : ℕ → Type 0 where

@@ -1,5 +1,6 @@
 -- What is kept of a file's index.
-use Rattle.std.specs.Prelude.{◌≡◌, ◌⊎◌, ℕ, ◌+◌, ◌-◌, ◌*◌, ◌^◌, ◌<◌, ◌≤◌, Option, None, Some, List, [], ◌∷◌, ◌++◌, length, filter, count_by}
+use Rattle.std.specs.Prelude.{◌≡◌, ◌⊎◌, ℕ, ◌+◌, ◌-◌, ◌*◌, ◌^◌, ◌<◌, ◌≤◌, Option, None, Some, List, [], ◌∷◌, ◌++◌, length, filter}
+use Rattle.std.specs.Prelude.{count_by}
 use Rattle.r10_indexbody.specs.Index.{root_body}
 use Rattle.r10_indexbody.specs.declared.entry.RootEntry.{RootEntry}
 use Rattle.r10_body.specs.Limits.{entries_per_node, full_node}
@@ -13,7 +14,8 @@ use Rattle.r10_file_rules.specs.declared.index.IndexTracks.{IndexTracks}
 -- the last root stands at this offset, or there is none
 abbrev pub IsLastRoot : Option ℕ → List Packet → Type 0
 IsLastRoot None packets = count_by is_root packets ≡ 0
-IsLastRoot (Some offset) packets = (0 < count_by is_root packets) × (offset < 2 ^ 63) × ((own : RootEntry) → last_root 0 own packets ≡ root_at (last_time 0 packets) offset)
+IsLastRoot (Some offset) packets = (0 < count_by is_root packets) × (offset < 2 ^ 63)
+    × ((own : RootEntry) → last_root 0 own packets ≡ root_at (last_time 0 packets) offset)
 
 pub record IsIndexed (t : IndexTracks) (packets : List Packet) : Type 0 where
   -- what nodes say of the packets that are no index packets
@@ -38,7 +40,8 @@ abbrev pub HasPlaceIn : Option ℕ → ℕ → ℕ → Type 0
 HasPlaceIn None pending group = Unit {0}
 HasPlaceIn (Some offset) pending group = pending < group
 
--- a root's last entry: the root before it, which has the clock's counter, or the root itself, with its own counter and at its offset
+-- a root's last entry: the root before it, which has the clock's counter, or the root itself, with its own counter and at its
+-- offset
 abbrev pub link_at : ℕ → ℕ → Option ℕ → ℕ → RootEntry
 link_at clock counter None own = root_at counter own
 link_at clock counter (Some offset) own = root_at clock offset

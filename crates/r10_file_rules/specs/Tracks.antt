@@ -27,7 +27,7 @@ pub record ComesNext (t : Tracks) (packets : List Packet) (p : Packet) (facts : 
   pub tracked : IsTracked t packets
   pub fits : FitsPacket p
   pub checksums : KeepsChecksums p
-  pub told : IsGapTold (last_report packets) p
+  pub reported : IsGapTold (last_report packets) p
   pub tells : AreFactsOf facts p
   pub body_is : body ≡ packet_body p
 

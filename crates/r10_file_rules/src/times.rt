@@ -45,7 +45,7 @@ impl TimeTracks {
 
     /// The counter of the last time packet, or 0.
     pub(crate) fn counter(&self) -> u64
-        ensures told { (packets : List Packet) → AreTimes self.now packets → result ≡ last_time 0 packets }
+        ensures reported { (packets : List Packet) → AreTimes self.now packets → result ≡ last_time 0 packets }
         ensures range { IsCount result }
     {
         match self.last {

@@ -35,14 +35,17 @@ having_met v seen = record v { met = seen }
 abbrev pub spent_seat : SeatKnows
 spent_seat = reading_seat []
 
--- what a seat has seen is a beginning of what is published, and so is what one that it met had seen; the one that publishes has seen all of it
+-- what a seat has seen is a beginning of what is published, and so is what one that it met had seen; the one that publishes
+-- has seen all of it
 abbrev pub SeesFront : ℕ → List Glance → ℕ → SeatKnows → Type 0
-SeesFront writer published by v = IsPrefix v.seen published × IsPrefix v.met published × (v.writes ≡ true → (by ≡ writer) × (v.seen ≡ published))
+SeesFront writer published by v = IsPrefix v.seen published × IsPrefix v.met published
+    × (v.writes ≡ true → (by ≡ writer) × (v.seen ≡ published))
 
 -- the rule: there is one list, of which so much is known, whose last triple the words are, and each seat sees a front of it
 abbrev pub KeepsOneList : (List Glance → Type 0) → List ℕ → List SeatKnows → Type 0
 KeepsOneList keeps words views =
-    (writer : ℕ) × (published : List Glance) × (0 < length published) × (last_triple published ≡ triple_of_words words) × keeps published
+    (writer : ℕ) × (published : List Glance) × (0 < length published) × (last_triple published ≡ triple_of_words words)
+    × keeps published
     × ((by : ℕ) (v : SeatKnows) → get_elem? views by ≡ some v → SeesFront writer published by v)
 
 -- the list has grown by the triple that the words now are
@@ -53,5 +56,6 @@ GrewByWords v before after w = w ≡ writing_seat (v.seen ++ triple_of_words aft
 -- A seat that publishes is again one that met no other. What the one that it met had seen is a beginning of all that is published.
 abbrev pub SawAll : (List Glance → Type 0) → SeatKnows → List ℕ → List ℕ → SeatKnows → Type 0
 SawAll keeps v before after w =
-    (w.writes ≡ v.writes) × IsPrefix v.seen w.seen × (last_triple w.seen ≡ triple_of_words after) × keeps w.seen × (0 < length w.seen)
+    (w.writes ≡ v.writes) × IsPrefix v.seen w.seen × (last_triple w.seen ≡ triple_of_words after) × keeps w.seen
+    × (0 < length w.seen)
     × (v.writes ≡ true → (w ≡ writing_seat v.seen) × IsPrefix v.met v.seen)

@@ -9,11 +9,11 @@ use Rattle.r10_control.specs.Checks.{files_of}
 use Rattle.r10_control.specs.Owns.{ended_files}
 use Rattle.r10_control.specs.Reading.{IsReadAt, ShowsAt, is_ended, is_recorded, of_ended, of_recorded}
 use Rattle.r10_cursor.specs.Files.{HasDataPackets, bytes_in}
-use Rattle.r10_cursor.specs.Standing.{fresh_slot}
+use Rattle.r10_cursor.specs.RepresentedCursors.{fresh_slot}
 use Rattle.r10_cursor.specs.declared.cursor.Cursor.{Cursor}
 use Rattle.r10_dirchain.specs.Chain.{listed_files}
-use Rattle.r10_cursor.specs.Knowing.{SaysClosed}
-use Rattle.r10_refinement.specs.Kept.{Work, unmounted, idle, recording, failed}
+use Rattle.r10_cursor.specs.JudgedFiles.{SaysClosed}
+use Rattle.r10_refinement.specs.KeptState.{Work, unmounted, idle, recording, failed}
 use Rattle.r10_medium.specs.Disk.{Image}
 use Rattle.r10_held.specs.Auditing.{GoOn, at_place}
 use Rattle.r10_held.specs.Transcripts.{Agrees, Follow, IsPart, beginning}

@@ -8,7 +8,7 @@ use Rattle.r10_control.specs.Reading.{ShowsAt}
 use Rattle.r10_cursor.specs.Replays.{AdvancesReading, Reading}
 use Rattle.r10_cursor.specs.declared.cursor.Cursor.{Cursor}
 use Rattle.r10_machine.specs.Replay.{Ordered, wanted}
-use Rattle.r10_refinement.specs.Kept.{Work}
+use Rattle.r10_refinement.specs.KeptState.{Work}
 use Rattle.r10_medium.specs.Disk.{Image}
 use Rattle.r10_held.specs.Auditing.{GoOn, IsNext, at_place}
 use Rattle.r10_held.specs.declared.transcript.Instalment.{Instalment}
@@ -109,8 +109,8 @@ covers_so old mid now packets file generation left advances is =
 pub compared : OneOrder → (packets : List Packet) (old new : Reading) (i : Instalment) → i.from ≡ old.covered → i.from ≤ i.to → AdvancesReading old new (take (max i.to old.covered) packets) → new.covered ≡ i.to
     → (same : Bool) → (IsTrue same → new.queue ≡ i.entries) → (new.queue ≡ i.entries → IsTrue same)
     → (IsTrue same → IsNext packets old.channels old.from old.to old.covered i) × (IsNext packets old.channels old.from old.to old.covered i → IsTrue same)
-compared one packets old new i begins forward advances covered same tells told =
-    (λ yes. same_part one packets old new i begins forward advances covered (tells yes), λ next. told (part_same one packets old new i advances next).1)
+compared one packets old new i begins forward advances covered same tells reported =
+    (λ yes. same_part one packets old new i begins forward advances covered (tells yes), λ next. reported (part_same one packets old new i advances next).1)
 
 -- where it isn't there
 pub elsewhere : OneOrder → (packets : List Packet) (old new : Reading) (i : Instalment) → AdvancesReading old new (take (max i.to old.covered) packets) → (new.covered ≡ i.to → ⊥)

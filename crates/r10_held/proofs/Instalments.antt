@@ -17,7 +17,7 @@ use Rattle.r10_held.specs.Naming.{ChannelRing}
 use Rattle.r10_held.specs.State.{HeldState}
 use Rattle.r10_machine.specs.Checks.{is_mounted, is_working}
 use Rattle.r10_machine.specs.declared.mode.Mode.{Mode}
-use Rattle.r10_refinement.specs.Kept.{mode_of}
+use Rattle.r10_refinement.specs.KeptState.{mode_of}
 use Rattle.r10_medium.specs.Disk.{Disk}
 use Rattle.r10_held.specs.Advancing.{AdvancesHeld, AdvancesUnderLock, SaysBehind, TakesInstalment}
 use Rattle.r10_held.proofs.Agreeing.{read_shows as shows}

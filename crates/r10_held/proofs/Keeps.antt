@@ -14,7 +14,7 @@ use Rattle.r10_control.specs.Own.{AreOwn, OwnGrow, OwnStay}
 use Rattle.r10_control.specs.Refused.{RefusesCall, RefusesOpen}
 use Rattle.r10_control.specs.State.{RecorderState}
 use Rattle.r10_control.specs.Taking.{RefusesReadied, StepsByTaking, Part, TookAll, entries_of}
-use Rattle.r10_control.specs.Told.{last_shown}
+use Rattle.r10_control.specs.RecorderStatus.{last_shown}
 use Rattle.r10_control.proofs.Stops.{none_of}
 use Rattle.r10_gauge.specs.Published.{commits_of}
 use Rattle.r10_machine.specs.declared.event.Event.{Event as EventValue}
@@ -22,7 +22,7 @@ use Rattle.r10_machine.specs.declared.event.Event.TheVariants as events
 use Rattle.r10_machine.specs.declared.mode.Stopped.{Stopped}
 use Rattle.r10_machine.specs.declared.reply.Reply.{Reply as ReplyValue}
 use Rattle.r10_refinement.specs.Grown.{AreGrown}
-use Rattle.r10_refinement.specs.Kept.{Kept, Work, unmounted, idle, recording, failed}
+use Rattle.r10_refinement.specs.KeptState.{Kept, Work, unmounted, idle, recording, failed}
 use Rattle.r10_medium.specs.Disk.{Disk, Image, Unchanged}
 use Rattle.r10_port.specs.Ends.{Receiving, TookReceived}
 use Rattle.r10_held.specs.Account.{Accounted, ChannelAccounts, ChannelBounds, IsAccounted, IsBounded}

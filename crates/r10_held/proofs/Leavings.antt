@@ -13,12 +13,12 @@ use Rattle.r10_control.specs.Effects.{CommitEffect, DismountEffect, EraseEffect,
 use Rattle.r10_control.specs.Refused.{IsSameKept, IsSameWork, RefusesCall, RefusesOpen}
 use Rattle.r10_control.specs.SealRefusals.{IsSealed}
 use Rattle.r10_control.specs.Taking.{RefusesReadied}
-use Rattle.r10_control.specs.Told.{last_shown}
+use Rattle.r10_control.specs.RecorderStatus.{last_shown}
 use Rattle.r10_dirchain.specs.declared.chain.ChainBlock.{ChainBlock}
 use Rattle.r10_machine.specs.Config.{Config}
 use Rattle.r10_machine.specs.Machine.{Tick}
 use Rattle.r10_machine.specs.declared.event.Event.TheVariants as events
-use Rattle.r10_refinement.specs.Kept.{Kept, Work, mode_of, unmounted, idle, recording, failed, OpenState}
+use Rattle.r10_refinement.specs.KeptState.{Kept, Work, mode_of, unmounted, idle, recording, failed, OpenState}
 use Rattle.r10_medium.specs.Disk.{Disk, Image}
 
 -- ---- what is reported of the last file

@@ -3,10 +3,10 @@ use Rattle.std.proofs.Common.{◌≡◌, ◌≤◌, Option, None, sym, ◌∙◌
 use Rattle.r10_body.specs.declared.refusal.Refusal.{Refusal}
 use Rattle.r10_body.specs.declared.refusal.Refusal.TheVariants as refusals
 use Rattle.r10_control.specs.Refused.{RefusesCall}
-use Rattle.r10_refinement.specs.Kept.{Kept}
+use Rattle.r10_refinement.specs.KeptState.{Kept}
 use Rattle.r10_medium.specs.Disk.{Disk, Unchanged}
 use Rattle.r10_medium.proofs.Failures.{rose_later}
-use Rattle.r10_medium.proofs.Stops.{unchanged_twice}
+use Rattle.r10_medium.proofs.PowerLoss.{unchanged_twice}
 
 -- a call that only read, and then one that is refused, where what is lacking then was lacking before
 pub refused_behind : {M : Type 0} (disk : M → Disk) (lacks lacked : Refusal → Type 0) (k later : Kept) (a b c : M) (r : Refusal) → ((x : Refusal) → lacks x → lacked x)

@@ -4,7 +4,7 @@ use Rattle.std.specs.List.{AllByRecursion}
 use Rattle.std.proofs.lemmas.List.{append-nil, drop_more, take-append-drop, take_all, take_more}
 use Rattle.r10_count.proofs.Lists.{all_more}
 use Rattle.r10_body.specs.declared.refusal.Refusal.{Refusal}
-use Rattle.r10_refinement.specs.Kept.{Work}
+use Rattle.r10_refinement.specs.KeptState.{Work}
 use Rattle.r10_medium.specs.Disk.{Image}
 use Rattle.r10_held.specs.Auditing.{AreAbsentOrRead, IsAbsentOrRead, IsAuditRefusal, IsFirstRefused}
 use Rattle.r10_held.specs.Transcripts.{Agrees, AllAgree}

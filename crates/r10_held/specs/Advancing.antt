@@ -23,16 +23,19 @@ SaysBehind so r = Unit {0}
 
 -- of a lock's value: refused After, with the last that was seen, exactly where less was published than was seen, and then nothing
 -- changes; else the recorder's advance
-pub record AdvancesHeld {M : Type 0} (disk : M → Disk) (seen : List Glance) (old new : HeldState M) (cursor later : Cursor) (result : Result ℕ Refusal) : Type 0 where
+pub record AdvancesHeld {M : Type 0} (disk : M → Disk) (seen : List Glance) (old new : HeldState M) (cursor later : Cursor)
+    (result : Result ℕ Refusal) : Type 0 where
   pub at_least : OnOk result (commits_of seen ≤ commits_of old.published)
-  pub behind : commits_of old.published < commits_of seen → (result ≡ Err (Behind (last_triple seen))) × (later ≡ cursor) × (new ≡ old)
+  pub behind : commits_of old.published < commits_of seen → (result ≡ Err (Behind (last_triple seen))) × (later ≡ cursor)
+      × (new ≡ old)
   pub only_behind : IfErr result (SaysBehind (commits_of old.published < commits_of seen))
   pub advances : commits_of seen ≤ commits_of old.published → AdvancesRecorder disk old.recorder new.recorder cursor later result
   pub gauge : StaysPublished old new
 
 -- So it was of what the lock had when it was taken: a value that publishes at the gauge at which the pass looks, and has published
 -- all that the pass has seen. Of it is known what is known of whatever a lock keeps.
-pub record AdvancesUnderLock {M : Type 0} (disk : M → Disk) (rings : List ChannelRing) (pass : LookingEnd) (cursor later : Cursor) (result : Result ℕ Refusal) : Type 0 where
+pub record AdvancesUnderLock {M : Type 0} (disk : M → Disk) (rings : List ChannelRing) (pass : LookingEnd) (cursor later : Cursor)
+    (result : Result ℕ Refusal) : Type 0 where
   pub old : HeldState M
   pub new : HeldState M
   pub fact : LockFact disk rings old.recorder old.published
@@ -49,7 +52,8 @@ pub record TakesInstalment (old new : Cursor) (n : ℕ) : Type 0 where
   pub length_is : n ≡ length new.reading.queue
 
 -- A player's advance. What was seen before is a beginning of what is seen then; the cursor takes its next instalment, or stays.
-pub record AdvancesPlayer {M : Type 0} (disk : M → Disk) (rings : List ChannelRing) (before after : Player) (result : Result ℕ Refusal)
+pub record AdvancesPlayer {M : Type 0} (disk : M → Disk) (rings : List ChannelRing) (before after : Player)
+    (result : Result ℕ Refusal)
     : Type 0 where
   pub same : after.pass.cell ≡ before.pass.cell
   pub seen : IsPrefix before.pass.seen after.pass.seen

@@ -10,11 +10,11 @@ use Rattle.r10_control.specs.Refused.{RefusesCall}
 use Rattle.r10_control.specs.State.{RecorderState}
 use Rattle.r10_count.specs.Checks.{first_broken}
 use Rattle.r10_count.specs.Count.{IsCount}
-use Rattle.r10_cursor.specs.Standing.{fresh_slot}
+use Rattle.r10_cursor.specs.RepresentedCursors.{fresh_slot}
 use Rattle.r10_cursor.specs.declared.cursor.Cursor.{Cursor}
 use Rattle.r10_machine.specs.Checks.{is_working, mounted_checks}
 use Rattle.r10_machine.specs.declared.event.Event.TheVariants as events
-use Rattle.r10_refinement.specs.Kept.{Kept, Work, mode_of}
+use Rattle.r10_refinement.specs.KeptState.{Kept, Work, mode_of}
 use Rattle.r10_medium.specs.Disk.{Disk, Image}
 use Rattle.r10_held.specs.Transcripts.{Agrees, AllAgree, IsPart}
 use Rattle.r10_held.specs.declared.transcript.Instalment.{Instalment}
@@ -53,7 +53,8 @@ IsAbsentOrRead work image file = (length (files_of work) ≤ file) ⊎ IsReadAt 
 -- so it is of each transcript's file, one after the other, up to the first that doesn't agree
 abbrev pub AreAbsentOrRead : Work → Image → List Transcript → Type 0
 AreAbsentOrRead work image [] = Unit {0}
-AreAbsentOrRead work image (t ∷ transcripts) = IsAbsentOrRead work image t.file × (Agrees work image t → AreAbsentOrRead work image transcripts)
+AreAbsentOrRead work image (t ∷ transcripts) = IsAbsentOrRead work image t.file
+    × (Agrees work image t → AreAbsentOrRead work image transcripts)
 
 -- ---- instalment by instalment
 
@@ -76,12 +77,14 @@ pub record IsNext (packets : List Packet) (channels : List ℕ) (first last at :
 -- and so do all, one after the other
 abbrev pub GoOn : List Packet → List ℕ → ℕ → ℕ → ℕ → List Instalment → Type 0
 GoOn packets channels first last at [] = Unit {0}
-GoOn packets channels first last at (i ∷ instalments) = IsNext packets channels first last at i × GoOn packets channels first last i.to instalments
+GoOn packets channels first last at (i ∷ instalments) = IsNext packets channels first last at i
+    × GoOn packets channels first last i.to instalments
 
 -- ---- the calls of an audit
 
 -- A cursor is opened again on a transcript's file, for its channels and its range; it has covered nothing.
-pub record OpensAgain {M L : Type 0} (disk : M → Disk) (t : Transcript) (before after : RecorderState M L) (answer : Result Cursor Refusal)
+pub record OpensAgain {M L : Type 0} (disk : M → Disk) (t : Transcript) (before after : RecorderState M L)
+    (answer : Result Cursor Refusal)
     : Type 0 where
   pub passed : OnOk answer (recorder_refusal before.kept (events.Cursor t.file t.channels t.first t.last) ≡ None)
   pub opened : IfOk answer (λ c. c ≡ fresh_slot before.kept.generation t.channels t.file t.first t.last)

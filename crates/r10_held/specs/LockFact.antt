@@ -32,11 +32,13 @@ pub record LanesAccounted {M : Type 0} (disk : M → Disk) (rings : List Channel
   pub accounted : Accounted disk outlet_spec outlet_received r
 
 -- and of the file that is recorded the last triple tells, once something was published
-pub record LockFact {M : Type 0} (disk : M → Disk) (rings : List ChannelRing) (r : RecorderState M Receiving) (published : List Glance) : Type 0 where
+pub record LockFact {M : Type 0} (disk : M → Disk) (rings : List ChannelRing) (r : RecorderState M Receiving)
+    (published : List Glance) : Type 0 where
   pub lanes : LanesAccounted disk rings r
   pub last : LastIsShown r.kept.work published
 
 -- the lanes and the gauge are those that are named, and the recorder alone took from the lanes
-pub record IsNamed {M : Type 0} (disk : M → Disk) (rings : List ChannelRing) (gauge : TableId) (g : GaugedState M) : Type 0 where
+pub record HasNamedLanes {M : Type 0} (disk : M → Disk) (rings : List ChannelRing) (gauge : TableId)
+    (g : GaugedState M) : Type 0 where
   pub lanes : LanesAccounted disk rings g.recorder
   pub gauge_is : g.cell ≡ gauge

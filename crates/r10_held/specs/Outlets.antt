@@ -9,11 +9,15 @@ use Rattle.r10_machine.specs.declared.mode.Stopped.{Stopped}
 use Rattle.r10_medium.specs.Disk.{Disk}
 use Rattle.r10_port.specs.Ends.{Receiving, TookReceived, reached_by_outlet}
 
-abbrev pub PumpsOutlets : {M : Type 0} → (M → Disk) → ℕ → ℕ → RecorderState M Receiving → RecorderState M Receiving → Result ℕ Refusal → Type 0
-PumpsOutlets disk channel most before after answer = DoesPump TookReceived outlet_shows outlet_quiet reached_by_outlet outlet_spec disk channel most before after answer
+abbrev pub PumpsOutlets : {M : Type 0} → (M → Disk) → ℕ → ℕ → RecorderState M Receiving → RecorderState M Receiving
+    → Result ℕ Refusal → Type 0
+PumpsOutlets disk channel most before after answer = DoesPump TookReceived outlet_shows outlet_quiet reached_by_outlet outlet_spec
+    disk channel most before after answer
 
-abbrev pub StopsOutlets : {M : Type 0} → (M → Disk) → RecorderState M Receiving → RecorderState M Receiving → Result Stopped Refusal → Type 0
+abbrev pub StopsOutlets : {M : Type 0} → (M → Disk) → RecorderState M Receiving → RecorderState M Receiving → Result Stopped Refusal
+    → Type 0
 StopsOutlets disk before after answer = DoesStop TookReceived outlet_quiet reached_by_outlet outlet_spec disk before after answer
 
-abbrev pub TellsOutlets : {M : Type 0} → (M → Disk) → RecorderState M Receiving → RecorderState M Receiving → Result RecorderStatus Refusal → Type 0
+abbrev pub TellsOutlets : {M : Type 0} → (M → Disk) → RecorderState M Receiving → RecorderState M Receiving
+    → Result RecorderStatus Refusal → Type 0
 TellsOutlets disk before after answer = TellsStatus TookReceived outlet_quiet outlet_spec disk before after answer

@@ -3,7 +3,7 @@ use Rattle.std.specs.Prelude.{◌≡◌, ℕ, ◌≤◌, List, [], ◌∷◌, le
 use Rattle.std.specs.List.{AllByRecursion}
 use Rattle.r10_body.specs.Packets.{Packet, file_entries}
 use Rattle.r10_machine.specs.Replay.{Ordered, wanted}
-use Rattle.r10_refinement.specs.Kept.{Work}
+use Rattle.r10_refinement.specs.KeptState.{Work}
 use Rattle.r10_medium.specs.Disk.{Image}
 use Rattle.r10_control.specs.Reading.{ShowsAt}
 use Rattle.r10_held.specs.declared.transcript.Instalment.{Instalment}
@@ -19,7 +19,8 @@ abbrev pub beginning : List Instalment → ℕ
 beginning [] = 0
 beginning (i ∷ instalments) = i.from
 
--- of a file that shows these packets, an instalment ends among them, and has what is wanted of those from its beginning to its end, in order
+-- of a file that shows these packets, an instalment ends among them, and has what is wanted of those from its beginning to its
+-- end, in order
 pub record IsPart (packets : List Packet) (channels : List ℕ) (first last : ℕ) (i : Instalment) : Type 0 where
   pub within : i.to ≤ length packets
   pub entries : Ordered (wanted channels first last (file_entries (drop i.from (take i.to packets)))) i.entries

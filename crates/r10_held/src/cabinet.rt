@@ -3,7 +3,7 @@
 ghost use Rattle.std.specs.Prelude.{◌≡◌, ◌↔◌, IsTrue};
 ghost use mathlib.Core.List.{IsPrefix};
 ghost use Rattle.r10_gauge.specs.Published.{AreNumbered, last_triple, nothing_published};
-ghost use Rattle.r10_held.specs.LockFact.{IsNamed};
+ghost use Rattle.r10_held.specs.LockFact.{HasNamedLanes};
 ghost use Rattle.r10_held.specs.Recorder.{failed};
 
 use crate::gauged::{Ends, Gauged};
@@ -48,7 +48,7 @@ impl<M: BlockMedium, N: Rings> Cabinet<M, N> {
     /// A cabinet round a recorder with its gauge, and the first pass. The recorder's lanes are those of the rings that `N` names,
     /// it alone took from them, and the gauge is the one that `N` names. It takes no memory.
     pub fn new(gauged: Gauged<M>) -> (Cabinet<M, N>, Pass)
-        requires named { IsNamed M.disk N.rings N.gauge gauged }
+        requires named { HasNamedLanes M.disk N.rings N.gauge gauged }
         ensures pass { (result.1.cell ≡ result.0.gauge) × (result.1.seen ≡ nothing_published) }
         ensures made { IsTrue result.0.had_failed ↔ (gauged.recorder.kept.work ≡ failed) }
     {

@@ -4,7 +4,7 @@ ghost use Rattle.std.specs.Prelude.{IfOk, IsTrue, map, ◌↔◌, ◌≡◌};
 ghost use Rattle.r10_control.specs.Calls.{OnlyTells};
 ghost use Rattle.r10_control.specs.Checks.{listing_checks};
 ghost use Rattle.r10_control.specs.Checks.{files_of};
-ghost use Rattle.r10_control.specs.Told.{info_in, last_shown, number_on};
+ghost use Rattle.r10_control.specs.RecorderStatus.{info_in, last_shown, number_on};
 ghost use Rattle.r10_machine.specs.declared.event.Event.TheVariants as events;
 ghost use Rattle.r10_machine.specs.declared.reply.Reply.TheVariants as replies;
 ghost use Rattle.r10_held.specs.Outlets.{TellsOutlets};
@@ -31,7 +31,7 @@ impl<M: BlockMedium, N: Rings> Held<M, N> {
     /// last, as the medium shows it. Refused: Failed, NotMounted, OutOfMemory.
     pub fn files(&self) -> Result<Vec<FileInfo>, Refusal>
         ensures does { OnlyTells M.disk events.Files listing_checks (λ infos. replies.Files infos.items) self.now.recorder result }
-        ensures told { IfOk result (λ infos. infos.items ≡ map info_in (files_of self.now.recorder.kept.work)) }
+        ensures reported { IfOk result (λ infos. infos.items ≡ map info_in (files_of self.now.recorder.kept.work)) }
     {
         self.recorder.files()
     }

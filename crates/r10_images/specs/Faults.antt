@@ -6,7 +6,8 @@ use Rattle.r10_medium.specs.Disk.{Rose}
 use Rattle.r10_images.specs.declared.fault.StreamFault.{StreamFault}
 use Rattle.r10_images.specs.declared.fault.StreamFault.TheVariants as stream_faults
 
--- of an input that was not read to its end: memory was refused; the reader failed, and was not only interrupted; or it was called as often as a command may
+-- of an input that was not read to its end: memory was refused; the reader failed, and was not only interrupted; or it was
+-- called as often as a command may
 abbrev pub IsInputFault : StreamFault → Type 0
 IsInputFault (stream_faults.Memory error) = Unit {0}
 IsInputFault (stream_faults.Read error) = error_kind error ≢ Interrupted

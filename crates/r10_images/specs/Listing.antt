@@ -22,7 +22,8 @@ abbrev pub listed_file_line : ℕ → Entry → List ℕ
 listed_file_line n e =
     (codes "file " ++ (decimal n ++ codes " "))
     ++ (shown_name e
-    ++ (codes " " ++ (decimal e.size ++ (codes " " ++ (decimal e.block_count ++ (codes " " ++ (flag_text (is_closed e) ++ codes "\n")))))))
+    ++ (codes " "
+    ++ (decimal e.size ++ (codes " " ++ (decimal e.block_count ++ (codes " " ++ (flag_text (is_closed e) ++ codes "\n")))))))
 
 -- the lines of the files from number n on
 abbrev pub listed_file_lines : ℕ → List Entry → List ℕ
@@ -35,7 +36,8 @@ refusal_line block = codes "refused 26 BadDirectory " ++ (decimal block ++ codes
 
 -- the lines of the files of the medium's directory, or the refusal where it has none
 abbrev pub PrintsFiles : Image → Outcome → List ℕ → Type 0
-PrintsFiles image Done text = (chain : List ChainBlock) × IsDirectory image chain × (text ≡ listed_file_lines 0 (listed_files chain))
+PrintsFiles image Done text = (chain : List ChainBlock) × IsDirectory image chain
+    × (text ≡ listed_file_lines 0 (listed_files chain))
 PrintsFiles image Refused text = (block : ℕ) × IsBad image block × (text ≡ refusal_line block)
 
 -- a writer was given them

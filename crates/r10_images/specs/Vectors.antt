@@ -17,7 +17,8 @@ unfolding digits
 flight-line = refl
 
 -- a name of `A b/c`, with a space after it; a file that is not closed
-pub odd-lines : listed_file_lines 9 (record flight { name = codes "A b/c " ++ replicate 50 0; size = 68; close_time = dashes } ∷ blank ∷ []) ≡ codes "file 9 A?b?c 68 1 0\nfile 10  0 0 1\n"
+pub odd-lines : listed_file_lines 9 (record flight { name = codes "A b/c " ++ replicate 50 0; size = 68; close_time = dashes }
+    ∷ blank ∷ []) ≡ codes "file 9 A?b?c 68 1 0\nfile 10  0 0 1\n"
 unfolding digits
 odd-lines = refl
 

@@ -49,7 +49,7 @@ impl BlockMedium for Image {
         Ok(())
     }
 
-    /// A write of an image always fails, and changes nothing of it: what is read, and what a stop may leave, is as before.
+    /// A write of an image always fails, and changes nothing of it: what is read, and what a power loss may leave, is as before.
     fn write(&mut self, n: usize, block: &[u8; 512]) -> Result<(), MediumFault>
         requires { n < length (image_disk self.old).blocks }
         ensures written { OnOk result ((image_disk self.new).blocks ≡ slice_set (image_disk self.old).blocks n block.now) }
@@ -64,7 +64,7 @@ impl BlockMedium for Image {
 
     /// A sync of an image never fails, and changes nothing.
     fn sync(&mut self) -> Result<(), MediumFault>
-        ensures sure { OnOk result (IsSynced (image_disk self.new)) }
+        ensures durable { OnOk result (IsSynced (image_disk self.new)) }
         ensures same { Unchanged (image_disk self.old) (image_disk self.new) }
         ensures counts { Counts (image_disk self.old) (image_disk self.new) result }
         ensures never_fails { IsOk result }

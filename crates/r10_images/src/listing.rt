@@ -63,7 +63,7 @@ fn list_medium<M: BlockMedium, W: Write>(
     ensures lists { IfOk result
         (λ outcome. ListsFiles (M.disk medium.old).blocks outcome (W.contents writer.old) (W.contents writer.new)) }
     ensures fault { IfErr result (IsMediumFault (M.disk medium.old).failures (M.disk medium.new).failures) }
-    ensures told { IfErr result IsListFault }
+    ensures reported { IfErr result IsListFault }
 {
     match read_chain(alloc, medium) {
         Ok(directory) => {

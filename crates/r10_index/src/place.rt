@@ -1,7 +1,7 @@
 //! Where an index is written.
 
 ghost use Rattle.std.specs.Prelude.{◌≡◌, ◌+◌, ◌^◌, ◌<◌};
-ghost use Rattle.r10_index.specs.Left.{first_place};
+ghost use Rattle.r10_index.specs.UnfinishedIndex.{first_place};
 
 /// Where the next packet of an index stands.
 #[derive(Clone, Copy)]

@@ -38,7 +38,7 @@ all_suit (e ∷ es) = (refl, all_suit es)
 
 -- so many entries go with a word exactly where it is a node's and tells them
 agrees_from : (word n : ℕ) → 2147483648 ≤ word → word < 2 ^ 32 → word % 65536 ≡ n → word / 2147483648 == 1 && word % 65536 == n ≡ true
-agrees_from word n high lt told = and_from (word / 2147483648 == 1) (word % 65536 == n) (eq-eqb (word / 2147483648) 1 (omega (arith, high, lt))) (eq-eqb (word % 65536) n told)
+agrees_from word n high lt reported = and_from (word / 2147483648 == 1) (word % 65536 == n) (eq-eqb (word / 2147483648) 1 (omega (arith, high, lt))) (eq-eqb (word % 65536) n reported)
 
 agreed : (word n : ℕ) → word / 2147483648 == 1 && word % 65536 == n ≡ true → (2147483648 ≤ word) × (word % 65536 ≡ n)
 agreed word n is =
@@ -58,14 +58,14 @@ body_is es body is =
 
 pub is_body : (es : List NodeEntry) (body : List ℕ) → IsBody node_form 0 0 es body → IsNode es body
 is_body es body is =
-    let told = agreed (2147483648 + length es % 65536) (length es) is.agrees in
-    let lt : length es < 2 ^ 16 = omega (arith, told.1) in
+    let reported = agreed (2147483648 + length es % 65536) (length es) is.agrees in
+    let lt : length es < 2 ^ 16 = omega (arith, reported.1) in
     (record { some = opens_some es is.opens; counted = lt; fields = are_fits 0 es is.fits }, is.spelled ∙ bytes_are es lt)
 
 pub foreign_is : (body : List ℕ) → IsForeign node_form body → IsForeignNode body
 foreign_is body f =
-    let told = agreed f.0 (length f.1) f.3 in
-    (f.0, concat f.1, told.0, f.2, omega (arith, fixed_length 20 f.1 f.4, told.1), f.5)
+    let reported = agreed f.0 (length f.1) f.3 in
+    (f.0, concat f.1, reported.0, f.2, omega (arith, fixed_length 20 f.1 f.4, reported.1), f.5)
 
 pub is_foreign : (body : List ℕ) → IsForeignNode body → IsForeign node_form body
 is_foreign body f =

@@ -53,8 +53,8 @@ counts word n (inl is) = or_left (word % 65536 == n) (word % 65536 + 1 == n) (eq
 counts word n (inr is) = or_right (word % 65536 == n) (word % 65536 + 1 == n) (eq-eqb (word % 65536 + 1) n (sym is))
 
 agrees_from : (word n : ℕ) → word < 2147483648 → (n ≡ word % 65536) ⊎ (n ≡ word % 65536 + 1) → word / 2147483648 == 0 && (word % 65536 == n || word % 65536 + 1 == n) ≡ true
-agrees_from word n low told =
-    and_from (word / 2147483648 == 0) (word % 65536 == n || word % 65536 + 1 == n) (eq-eqb (word / 2147483648) 0 (omega (arith, low))) (counts word n told)
+agrees_from word n low reported =
+    and_from (word / 2147483648 == 0) (word % 65536 == n || word % 65536 + 1 == n) (eq-eqb (word / 2147483648) 0 (omega (arith, low))) (counts word n reported)
 
 told_by : (word n : ℕ) → (word % 65536 == n ≡ true) ⊎ (word % 65536 + 1 == n ≡ true) → (n ≡ word % 65536) ⊎ (n ≡ word % 65536 + 1)
 told_by word n (inl is) = inl (sym (eqb-true (word % 65536) n is))
@@ -83,14 +83,14 @@ body_is es body is =
 
 pub is_body : (es : List RootEntry) (body : List ℕ) → IsBody root_form 0 0 es body → IsRoot es body
 is_body es body is =
-    let told = agreed (length es % 65536) (length es) is.agrees in
-    let lt : length es < 2 ^ 16 = whole (length es) told.1 in
+    let reported = agreed (length es % 65536) (length es) is.agrees in
+    let lt : length es < 2 ^ 16 = whole (length es) reported.1 in
     (record { some = opens_some es is.opens; counted = lt; fields = are_fits 0 es is.fits }, is.spelled ∙ bytes_are es lt)
 
 pub foreign_is : (body : List ℕ) → IsForeign root_form body → IsForeignRoot body
 foreign_is body f =
-    let told = agreed f.0 (length f.1) f.3 in
-    (f.0, concat f.1, length f.1, told.0, told.1, omega (arith, fixed_length 16 f.1 f.4), f.5)
+    let reported = agreed f.0 (length f.1) f.3 in
+    (f.0, concat f.1, length f.1, reported.0, reported.1, omega (arith, fixed_length 16 f.1 f.4), f.5)
 
 pub is_foreign : (body : List ℕ) → IsForeignRoot body → IsForeign root_form body
 is_foreign body f =

@@ -25,16 +25,19 @@ same_node a b c d e f g h counters types channels offsets = rw (counters, types,
 -- no other entry is spelled so
 pub node-one : (e d : NodeEntry) → FitsNode e → FitsNode d → node_entry e ≡ node_entry d → e ≡ d
 node-one e d fe fd same =
-    let first = same_stamp e.counter d.counter (le_bytes 4 (65536 * e.data_type + e.channel) ++ le_bytes 8 e.offset) (le_bytes 4 (65536 * d.data_type + d.channel) ++ le_bytes 8 d.offset) fe.counter fd.counter same in
-    let second = same_u32 (65536 * e.data_type + e.channel) (65536 * d.data_type + d.channel) (le_bytes 8 e.offset) (le_bytes 8 d.offset)
+    let first = same_stamp e.counter d.counter (le_bytes 4 (65536 * e.data_type + e.channel) ++ le_bytes 8 e.offset)
+    (le_bytes 4 (65536 * d.data_type + d.channel) ++ le_bytes 8 d.offset) fe.counter fd.counter same in
+    let second = same_u32 (65536 * e.data_type + e.channel) (65536 * d.data_type + d.channel) (le_bytes 8 e.offset)
+    (le_bytes 8 d.offset)
     (omega (arith, fe.data_type, fe.channel)) (omega (arith, fd.data_type, fd.channel)) first.1 in
     let third = same_u64 e.offset d.offset [] [] fe.offset fd.offset second.1 in
-    same_node e.counter d.counter e.data_type d.data_type e.channel d.channel e.offset d.offset first.0 (omega (arith, second.0, fe.channel, fd.channel)) (omega (arith, second.0, fe.channel, fd.channel)) third.0
+    same_node e.counter d.counter e.data_type d.data_type e.channel d.channel e.offset d.offset first.0
+    (omega (arith, second.0, fe.channel, fd.channel)) (omega (arith, second.0, fe.channel, fd.channel)) third.0
 
 abbrev pub node_form : Form NodeEntry
 node_form = record {
   front = 20;
-  told = λ front. Some 20;
+  reported = λ front. Some 20;
   count = λ e. e.counter;
   spelled = λ before e. node_entry e;
   size = λ e. 20;
@@ -75,7 +78,7 @@ root-one e d fe fd same =
 abbrev pub root_form : Form RootEntry
 root_form = record {
   front = 16;
-  told = λ front. Some 16;
+  reported = λ front. Some 16;
   count = λ e. e.counter;
   spelled = λ before e. root_entry e;
   size = λ e. 16;

@@ -1,4 +1,5 @@
--- The bodies of index packets: the channel specific data word, then for each packet that is named an intra-packet time stamp and where it stands. A node names packets of data, and a root names nodes.
+-- The bodies of index packets: the channel specific data word, then for each packet that is named an intra-packet time stamp
+-- and where it stands. A node names packets of data, and a root names nodes.
 use Rattle.std.specs.Prelude.{◌≡◌, ℕ, ◌+◌, ◌*◌, ◌%◌, ◌^◌, ◌<◌, ◌≤◌, ◌⊎◌, Bool, ◌&&◌, ◌||◌, nat_le, List, ◌++◌, length}
 use Rattle.std.specs.List.{flat_map, AllByRecursion}
 use Rattle.r10_count.specs.Bytes.{le_bytes, u32_at, bit_of}
@@ -40,7 +41,8 @@ IsNode entries body = FitsNodeBody entries × (body ≡ node_body entries)
 -- whoever wrote it: a word of a node, and twenty bytes for each of as many entries as it tells
 abbrev pub IsForeignNode : List ℕ → Type 0
 IsForeignNode body =
-    (word : ℕ) × (rest : List ℕ) × (2 ^ 31 ≤ word) × (word < 2 ^ 32) × (length rest ≡ 20 * (word % 2 ^ 16)) × (body ≡ le_bytes 4 word ++ rest)
+    (word : ℕ) × (rest : List ℕ) × (2 ^ 31 ≤ word) × (word < 2 ^ 32) × (length rest ≡ 20 * (word % 2 ^ 16))
+    × (body ≡ le_bytes 4 word ++ rest)
 
 -- ---- roots
 
@@ -64,7 +66,8 @@ pub record FitsRootBody (entries : List RootEntry) : Type 0 where
 abbrev pub IsRoot : List RootEntry → List ℕ → Type 0
 IsRoot entries body = FitsRootBody entries × (body ≡ root_body entries)
 
--- whoever wrote it: a word of a root, and sixteen bytes for each of as many entries as it tells, or of one more, since some recorders don't count the last
+-- whoever wrote it: a word of a root, and sixteen bytes for each of as many entries as it tells, or of one more, since some
+-- recorders don't count the last
 abbrev pub IsForeignRoot : List ℕ → Type 0
 IsForeignRoot body =
     (word : ℕ) × (rest : List ℕ) × (entries : ℕ) × (word < 2 ^ 31) × ((entries ≡ word % 2 ^ 16) ⊎ (entries ≡ word % 2 ^ 16 + 1))

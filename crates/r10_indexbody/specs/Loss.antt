@@ -1,4 +1,5 @@
--- The body of a loss report: the channel specific data word 0, the letters LOSS, a channel, a field of zeros, and how many messages were lost on the channel.
+-- The body of a loss report: the channel specific data word 0, the letters LOSS, a channel, a field of zeros, and how many
+-- messages were lost on the channel.
 use Rattle.std.specs.Prelude.{◌≡◌, ℕ, ◌^◌, ◌<◌, Bool, ◌&&◌, ◌==◌, List, ◌++◌, length, drop}
 use Rattle.r10_count.specs.Bytes.{le_bytes, u32_at}
 use Rattle.r10_indexbody.specs.declared.loss.LossBody.{LossBody}

@@ -3,7 +3,8 @@ use Rattle.std.specs.Prelude.{◌≡◌, true, false, [], ◌∷◌, ◌++◌, r
 use Rattle.r10_indexbody.specs.Loss.{loss_body, is_loss_body}
 
 -- one message lost on channel 5
-pub one-lost : loss_body (record { channel = 5; reserved = 0; lost = 1 }) ≡ 0 ∷ 0 ∷ 0 ∷ 0 ∷ 0x4C ∷ 0x4F ∷ 0x53 ∷ 0x53 ∷ 5 ∷ 0 ∷ 0 ∷ 0 ∷ 1 ∷ 0 ∷ 0 ∷ 0 ∷ 0 ∷ 0 ∷ 0 ∷ 0 ∷ []
+pub one-lost : loss_body (record { channel = 5; reserved = 0; lost = 1 }) ≡ 0 ∷ 0 ∷ 0 ∷ 0 ∷ 0x4C ∷ 0x4F ∷ 0x53 ∷ 0x53 ∷ 5 ∷ 0 ∷ 0
+    ∷ 0 ∷ 1 ∷ 0 ∷ 0 ∷ 0 ∷ 0 ∷ 0 ∷ 0 ∷ 0 ∷ []
 one-lost = refl
 
 pub any-fields : is_loss_body ((0 ∷ 0 ∷ 0 ∷ 0 ∷ 0x4C ∷ 0x4F ∷ 0x53 ∷ 0x53 ∷ []) ++ replicate 12 0xFF) ≡ true

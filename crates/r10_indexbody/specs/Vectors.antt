@@ -25,7 +25,8 @@ a_root_entry offset = record { counter = 1000; offset = offset }
 
 -- the node, and the root itself
 pub root-body : root_body (a_root_entry 124 ∷ a_root_entry 212 ∷ []) ≡
-    (0x02 ∷ 0x00 ∷ 0x00 ∷ 0x00 ∷ []) ++ at_1000 ++ (124 ∷ 0 ∷ 0 ∷ 0 ∷ 0 ∷ 0 ∷ 0 ∷ 0 ∷ []) ++ at_1000 ++ (212 ∷ 0 ∷ 0 ∷ 0 ∷ 0 ∷ 0 ∷ 0 ∷ 0 ∷ [])
+    (0x02 ∷ 0x00 ∷ 0x00 ∷ 0x00 ∷ []) ++ at_1000 ++ (124 ∷ 0 ∷ 0 ∷ 0 ∷ 0 ∷ 0 ∷ 0 ∷ 0 ∷ []) ++ at_1000
+    ++ (212 ∷ 0 ∷ 0 ∷ 0 ∷ 0 ∷ 0 ∷ 0 ∷ 0 ∷ [])
 root-body = refl
 
 -- a channel beyond 16 bits is spelled as another data type: only the ranges tell them apart
@@ -45,8 +46,10 @@ foreign-root = (1, replicate 16 0, 1, lit< tt, inl refl, refl, refl)
 pub foreign-root-uncounted : IsForeignRoot (0x01 ∷ 0x00 ∷ 0x00 ∷ 0x00 ∷ replicate 32 0)
 foreign-root-uncounted = (1, replicate 32 0, 2, lit< tt, inr refl, refl, refl)
 
--- neither the file's size (bit 30) nor data headers (bit 29) are read, in nodes and in roots; a body without a whole word says nothing
-pub opaque-words : map (λ high. is_opaque_index (0 ∷ 0 ∷ 0 ∷ high ∷ [])) (0x40 ∷ 0xC0 ∷ 0x20 ∷ 0xA0 ∷ 0x00 ∷ 0x80 ∷ 0x10 ∷ []) ≡ true ∷ true ∷ true ∷ true ∷ false ∷ false ∷ false ∷ []
+-- neither the file's size (bit 30) nor data headers (bit 29) are read, in nodes and in roots; a body without a whole word says
+-- nothing
+pub opaque-words : map (λ high. is_opaque_index (0 ∷ 0 ∷ 0 ∷ high ∷ [])) (0x40 ∷ 0xC0 ∷ 0x20 ∷ 0xA0 ∷ 0x00 ∷ 0x80 ∷ 0x10 ∷ [])
+    ≡ true ∷ true ∷ true ∷ true ∷ false ∷ false ∷ false ∷ []
 opaque-words = refl
 
 pub no-word : is_opaque_index (0 ∷ 0 ∷ 0x40 ∷ []) ≡ false

@@ -164,8 +164,8 @@ impl BodyEntry for RootEntry {
     }
 
     fn agrees(word: u32, count: usize) -> bool {
-        let told = (word % 0x1_0000) as usize;
-        word / 0x8000_0000 == 0 && (told == count || told + 1 == count)
+        let reported = (word % 0x1_0000) as usize;
+        word / 0x8000_0000 == 0 && (reported == count || reported + 1 == count)
     }
 
     fn count(&self) -> u64 {

@@ -53,7 +53,7 @@ impl LossBody {
     /// The fields that a body tells, if it is a report's.
     pub fn decode(body: &[u8]) -> Option<LossBody>
         ensures found { IfSome result (λ read. IsLossBody read body.now) }
-        ensures none { IfNone result ((told : LossBodyValue) → IsLossBody told body.now → ⊥) }
+        ensures none { IfNone result ((reported : LossBodyValue) → IsLossBody reported body.now → ⊥) }
     {
         let (word, rest) = split_u32(body)?;
         let (mark, rest) = split_u32(rest)?;

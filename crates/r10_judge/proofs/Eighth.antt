@@ -11,7 +11,7 @@ use Rattle.r10_indexbody.proofs.Nodes.{body-length as node_length}
 use Rattle.r10_body.proofs.Lone.{packet-length}
 use Rattle.r10_body.proofs.Recording.{setup-first, time-second, uart-third, node-fourth}
 use Rattle.r10_body.specs.Content.{type_of}
-use Rattle.r10_body.specs.Faults.{IsAnswered, IsAtFault}
+use Rattle.r10_body.specs.Faults.{IsFollowedByFlagged, IsAtFault}
 use Rattle.r10_body.specs.Packets.{Packet, FitsPacket, packet_bytes, packet_rest, file_bytes, file_entries}
 use Rattle.r10_body.specs.Rules.{MayFollow, EachFollows, KeepsChecksums, KeepsStart, KeepsChannels, KeepsSequence, KeepsCounts, KeepsIndex, Rise, is_index, is_data, is_node, packet_on, is_entry_on, last_report, node_entries}
 use Rattle.r10_body.specs.Vectors.{data_packets, data-len, a_node_packet}
@@ -63,7 +63,7 @@ at_eight closed before p more rules quiet keeps breaks =
       more = more;
       bytes_are = refl;
       keep = rules;
-      answered = no_report (last_report before) (λ loss. IsAnswered loss (packet_bytes p)) quiet;
+      answered = no_report (last_report before) (λ loss. IsFollowedByFlagged loss (packet_bytes p)) quiet;
       foreign = packet_foreign p keeps.fits;
       number = 8;
       at_is = refl;

@@ -9,7 +9,7 @@ use Rattle.r10_body.proofs.Lone.{packet-length}
 use Rattle.r10_body.specs.Foreign.{opaque_at, IsForeignPacket}
 use Rattle.r10_body.specs.Packets.{Packet, packet_bytes, file_bytes, file_entries}
 use Rattle.r10_body.specs.Rules.{EachFollows, MayFollow, EndsIndex, EndsReports, IsGapTold, IsSoundReport, has_whole_index, is_index, is_closed_file, last_report, report_of}
-use Rattle.r10_body.specs.Faults.{HasFault, IsAnswered, IsReportAnswered, ReadsPacket, BreaksRule, IsWrongHere, IsAtFault, first_packet}
+use Rattle.r10_body.specs.Faults.{HasFault, IsFollowedByFlagged, IsReportAnswered, ReadsPacket, BreaksRule, IsWrongHere, IsAtFault, first_packet}
 use Rattle.r10_body.specs.Faults as broken_rules
 use Rattle.r10_body.specs.declared.fault.FileFault.{FileFault}
 use Rattle.r10_body.specs.declared.fault.FileFault.TheVariants.{Truncated, DataSum, Body, Rule}
@@ -57,9 +57,9 @@ first_foreign before rest closed some right none = by (opaque_at rest) (has_data
   sound = framed before rest closed some right
 
   by : (opaque sum : Bool) → opaque_at rest ≡ opaque → has_data_checksum rest ≡ sum → ⊥
-  by true sum is told = none (is_foreign rest sound (λ clear. absurd (true≢false (sym is ∙ clear))))
-  by false false is told = right DataSum (broken_rules.packet (inl some) (sound, is, told))
-  by false true is told = right Body (broken_rules.packet (inl some) (sound, is, told, λ body. none (is_foreign rest sound (λ _. (told, body)))))
+  by true sum is reported = none (is_foreign rest sound (λ clear. absurd (true≢false (sym is ∙ clear))))
+  by false false is reported = right DataSum (broken_rules.packet (inl some) (sound, is, reported))
+  by false true is reported = right Body (broken_rules.packet (inl some) (sound, is, reported, λ body. none (is_foreign rest sound (λ _. (reported, body)))))
 
 -- ---- packet by packet
 
@@ -75,16 +75,16 @@ not_here before rest closed p reads right open_file = by (is_index p) refl where
 
 -- what it reports is answered
 abbrev Answers : Packet → List ℕ → Type 0
-Answers p rest = IfSome (report_of p) (λ loss. IsAnswered loss (behind rest))
+Answers p rest = IfSome (report_of p) (λ loss. IsFollowedByFlagged loss (behind rest))
 
 may_stand : (before : List Packet) (rest : List ℕ) (closed : Bool) (p : Packet) → ReadsPacket rest p → IsGapTold (last_report before) p → ((m : ℕ) → BreaksRule before rest closed m → ⊥) → (MayStand closed before p → Answers p rest → ⊥) → ⊥
-may_stand before rest closed p reads told right none =
+may_stand before rest closed p reads reported right none =
     right 4 (broken_rules.start p reads (λ start. right 5 (broken_rules.channels p reads (λ channels. right 6 (broken_rules.sequence p reads (λ sequence. right 7 (broken_rules.counts p reads (λ counts.
     right 8 (broken_rules.index p reads (λ index. right 9 (broken_rules.counters p reads (λ counters. right 10 (broken_rules.events p reads (λ events. on_reports (report_of p) refl (λ sound answered.
-    none (record { fits = reads.0; checksums = reads.1; start = start; channels = channels; sequence = sequence; counts = counts; index = index; counters = counters; events = events; reports = (told, sound) }, not_here before rest closed p reads right)
+    none (record { fits = reads.0; checksums = reads.1; start = start; channels = channels; sequence = sequence; counts = counts; index = index; counters = counters; events = events; reports = (reported, sound) }, not_here before rest closed p reads right)
     answered)))))))))))))))
   where
-    on_reports : (o : Option LossBody) → report_of p ≡ o → (IfSome o IsSoundReport → IfSome o (λ loss. IsAnswered loss (behind rest)) → ⊥) → ⊥
+    on_reports : (o : Option LossBody) → report_of p ≡ o → (IfSome o IsSoundReport → IfSome o (λ loss. IsFollowedByFlagged loss (behind rest)) → ⊥) → ⊥
     on_reports None e go = go tt tt
     on_reports (Some loss) e go = right 11 (broken_rules.reports p loss reads (report_is p loss e) (λ both. go both.0 both.1))
 
@@ -107,8 +107,8 @@ keep_more closed before p keep may = record {
 
 says : (bytes : List ℕ) (packets : List Packet) (closed : Bool) → KeepRules closed packets → bytes ≡ file_bytes packets → 2 ≤ length packets → is_closed_file packets ≡ closed → EndsIndex packets → EndsReports packets → SaysClosed bytes closed
 says bytes packets closed keep is two same ends quiet =
-    let told = begins packets keep.strict (omega (arith, two)) in
-    (told.0, file_entries packets, (packets, is, record { file = record { each = keep.strict; start = two; index = ends; reports = quiet }; setup_is = told.1; entries_are = λ channel. refl; closed_is = same }))
+    let reported = begins packets keep.strict (omega (arith, two)) in
+    (reported.0, file_entries packets, (packets, is, record { file = record { each = keep.strict; start = two; index = ends; reports = quiet }; setup_is = reported.1; entries_are = λ channel. refl; closed_is = same }))
 
 whole : (bytes : List ℕ) (packets : List Packet) (closed : Bool) → KeepRules closed packets → bytes ≡ file_bytes packets → EndsReports packets → 2 ≤ length packets → NothingWrong closed packets [] → (SaysClosed bytes closed → ⊥) → ⊥
 whole bytes packets false keep is quiet two right none = none (says bytes packets false keep is two (not_closed packets (keep.unclosed refl)) (λ _. keep.unclosed refl) quiet)
@@ -139,9 +139,9 @@ may_come : (before : List Packet) (rest : List ℕ) (closed : Bool) → EachFoll
     → ((p : Packet) → ReadsPacket rest p → MayStand closed before p → Answers p rest → ⊥) → ⊥
 may_come before rest closed each answered foreign right none =
     no_rule before rest closed 3 foreign right (broken_rules.body (λ (p, reads).
-    let told = told_packet before rest p each reads answered in
-    let own = reads_retold rest p told.0 told.1.retold told.1.fits reads in
-    may_stand before rest closed told.0 own told.1.told (λ m. no_rule before rest closed m foreign right) (none told.0 own)))
+    let reported = told_packet before rest p each reads answered in
+    let own = reads_retold rest p reported.0 reported.1.retold reported.1.fits reads in
+    may_stand before rest closed reported.0 own reported.1.reported (λ m. no_rule before rest closed m foreign right) (none reported.0 own)))
 
 walk : (bytes : List ℕ) (closed : Bool) (n : ℕ) (before : List Packet) (rest : List ℕ) → ((offset : ℕ) (fault : FileFault) → IsAtFault bytes closed offset fault → ⊥) → (SaysClosed bytes closed → ⊥)
     → KeepRules closed before → IsReportAnswered before rest → bytes ≡ file_bytes before ++ rest → length rest ≤ n → ⊥
@@ -153,7 +153,7 @@ walk bytes closed (suc n) before (x ∷ xs) right none keep answered is le =
     let sound : NothingWrong closed before rest = none_wrong bytes closed before rest right keep answered is in
     first_foreign before rest closed (omega arith) sound (λ foreign. may_come before rest closed keep.strict answered foreign sound (λ p reads may answers.
     walk bytes closed n (before ++ p ∷ []) (behind rest) right none (keep_more closed before p keep may)
-    (subst (λ (o : Option LossBody). IfSome o (λ loss. IsAnswered loss (behind rest))) (sym (last_with None before p)) answers)
+    (subst (λ (o : Option LossBody). IfSome o (λ loss. IsFollowedByFlagged loss (behind rest))) (sym (last_with None before p)) answers)
     (same_bytes bytes before rest p reads is) (shorter rest p n reads le)))
 
 pub either : (bytes : List ℕ) (closed : Bool) → ((offset : ℕ) (fault : FileFault) → IsAtFault bytes closed offset fault → ⊥) → (SaysClosed bytes closed → ⊥) → ⊥

@@ -3,19 +3,19 @@ use Rattle.std.proofs.Common.{◌≡◌, ◌↔◌, ℕ, ◌<◌, ◌≤◌, Boo
 use Rattle.std.proofs.lemmas.List.{append-nil, length-append}
 use Rattle.r10_packet.specs.Framing.{header_at, body_at}
 use Rattle.r10_packet.specs.Header.{checksum_bits}
-use Rattle.r10_packet.specs.Packet.{filled, least_filler}
+use Rattle.r10_packet.specs.Packet.{with_trailer, least_filler}
 use Rattle.r10_packet.specs.declared.header.Header.{Header}
 use Rattle.r10_body.proofs.Lone.{packet-length}
 use Rattle.r10_body.specs.Foreign.{IsForeignPacket}
 use Rattle.r10_body.specs.Packets.{Packet, packet_bytes, file_bytes, file_entries}
 use Rattle.r10_indexbody.specs.declared.loss.LossBody.{LossBody}
 use Rattle.r10_body.specs.Rules.{EndsReports, last_report}
-use Rattle.r10_body.specs.Faults.{HasFault, IsAnswered, IsReportAnswered, KeepsHeader, KeepsFiller, ReadsPacket, BreaksRule, IsWrongHere, IsAtFault, first_packet}
+use Rattle.r10_body.specs.Faults.{HasFault, IsFollowedByFlagged, IsReportAnswered, KeepsHeader, KeepsFiller, ReadsPacket, BreaksRule, IsWrongHere, IsAtFault, first_packet}
 use Rattle.r10_body.specs.Faults as broken_rules
 use Rattle.r10_body.specs.declared.fault.FileFault.{FileFault}
 use Rattle.r10_body.specs.declared.fault.FileFault.TheVariants.{Rule}
 use Rattle.r10_packet_rules.proofs.Fronts.{range_front, stays}
-use Rattle.r10_packet_rules.proofs.Ways.{first_again, packet_long}
+use Rattle.r10_packet_rules.proofs.OneWayApart.{first_again, packet_long}
 use Rattle.r10_packet_rules.proofs.Written.{packet_foreign}
 use Rattle.r10_packet_rules.specs.declared.file.FirstFault.{FirstFault}
 use Rattle.r10_file_rules.specs.declared.tracks.Tracks.{Tracks}
@@ -26,7 +26,7 @@ use Rattle.r10_judge.proofs.Judging.{begins, broken_here, least_here, pending, p
 -- ---- what stands after a packet changes no rule of it
 
 abbrev IsFilled : Header → List ℕ → List ℕ → Type 0
-IsFilled h body bytes = slice_range bytes 24 h.packet_len ≡ filled (checksum_bits h.flags) body (least_filler (checksum_bits h.flags) body)
+IsFilled h body bytes = slice_range bytes 24 h.packet_len ≡ with_trailer (checksum_bits h.flags) body (least_filler (checksum_bits h.flags) body)
 
 same_filler : (packet more : List ℕ) → IsForeignPacket packet → KeepsFiller (packet ++ more) ↔ KeepsFiller packet
 same_filler packet more foreign =
@@ -124,7 +124,7 @@ report_at_fault closed packets rest keep none =
       bytes_are = pending_bytes (file_bytes packets) packets rest w refl;
       offset_is = pending_place packets rest w;
       strict = front.strict;
-      answered = pending_quiet packets rest w (λ loss. IsAnswered loss (packet_bytes w.packet ++ rest));
+      answered = pending_quiet packets rest w (λ loss. IsFollowedByFlagged loss (packet_bytes w.packet ++ rest));
       unclosed = front.unclosed;
       wrong = broken_rules.rule (subst IsForeignPacket (sym (first_again (packet_bytes w.packet) rest whole)) whole) (pending_breaks closed packets rest w) (pending_least closed packets rest w);
     }
@@ -152,7 +152,7 @@ missing_at_fault closed tracks bytes fault goes quiet missing = record {
   bytes_are = goes.bytes_are ∙ sym (append-nil (file_bytes goes.packets));
   offset_is = ap length goes.bytes_are;
   strict = goes.keep.strict;
-  answered = no_report (last_report goes.packets) (λ loss. IsAnswered loss []) quiet;
+  answered = no_report (last_report goes.packets) (λ loss. IsFollowedByFlagged loss []) quiet;
   unclosed = goes.keep.unclosed;
   wrong = missing;
 }
@@ -160,5 +160,5 @@ missing_at_fault closed tracks bytes fault goes quiet missing = record {
 -- nothing is missing
 pub nothing_missing : (closed : Bool) (tracks : Tracks) (bytes : List ℕ) (goes : KeepsRulesSoFar closed tracks bytes) → EndsReports goes.packets → MayMiss closed goes.packets None → SaysClosed bytes closed
 nothing_missing closed tracks bytes goes quiet (some, same, ends) =
-    let told = begins goes.packets goes.keep.strict (omega (arith, some)) in
-    (told.0, file_entries goes.packets, (goes.packets, goes.bytes_are, record { file = record { each = goes.keep.strict; start = some; index = ends; reports = quiet }; setup_is = told.1; entries_are = λ channel. refl; closed_is = same }))
+    let reported = begins goes.packets goes.keep.strict (omega (arith, some)) in
+    (reported.0, file_entries goes.packets, (goes.packets, goes.bytes_are, record { file = record { each = goes.keep.strict; start = some; index = ends; reports = quiet }; setup_is = reported.1; entries_are = λ channel. refl; closed_is = same }))

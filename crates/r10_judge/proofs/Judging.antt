@@ -10,12 +10,12 @@ use Rattle.r10_body.specs.Files.{IsStrict}
 use Rattle.r10_body.specs.Foreign.{IsForeignPacket}
 use Rattle.r10_body.specs.Packets.{Packet, FitsPacket, packet_bytes, file_bytes, file_entries}
 use Rattle.r10_body.specs.Rules.{EachFollows, IsSoundReport, MayFollow, IsFile, KeepsChecksums, is_index, is_closed_file, last_report, report_from, report_of}
-use Rattle.r10_body.specs.Faults.{IsAnswered, IsReportAnswered, ReadsPacket, BreaksRule, first_packet}
+use Rattle.r10_body.specs.Faults.{IsFollowedByFlagged, IsReportAnswered, ReadsPacket, BreaksRule, first_packet}
 use Rattle.r10_body.specs.Faults as broken_rules
 use Rattle.r10_body.specs.declared.fault.FileFault.TheVariants.{Rule}
 use Rattle.std.specs.Prelude.{count_by}
 use Rattle.r10_packet_rules.specs.declared.file.FirstFault.{FirstFault}
-use Rattle.r10_packet_rules.proofs.Ways.{packet_long}
+use Rattle.r10_packet_rules.proofs.OneWayApart.{packet_long}
 use Rattle.r10_packet_rules.proofs.Written.{packet_foreign}
 use Rattle.r10_body.proofs.OneMeaning.{one_list}
 use Rattle.r10_body.proofs.Reporting.{ends_with, is_report, quiet_before, report_is, report_long, reports_it}
@@ -97,7 +97,7 @@ reported p q loss same is = reports_it p loss (ap (λ (x : Packet). x.content) s
 
 -- and none at all where what it reports is answered
 pub keeps_all : (closed : Bool) (before : List Packet) (bytes : List ℕ) (p : Packet) (n : ℕ) → ReadsPacket bytes p → MayFollow before p → (closed ≡ false → is_index p ≡ false)
-    → IfSome (report_of p) (λ loss. IsAnswered loss (behind bytes)) → BreaksRule before bytes closed n → ⊥
+    → IfSome (report_of p) (λ loss. IsFollowedByFlagged loss (behind bytes)) → BreaksRule before bytes closed n → ⊥
 keeps_all closed before bytes p n reads may unclosed answered (broken_rules.version b) = b (framed bytes p reads).keeps
 keeps_all closed before bytes p n reads may unclosed answered (broken_rules.filler is b) = b (framed bytes p reads).filler
 keeps_all closed before bytes p n reads may unclosed answered (broken_rules.body b) = b (p, reads)
@@ -112,7 +112,7 @@ keeps_all closed before bytes p n reads may unclosed answered (broken_rules.coun
 keeps_all closed before bytes p n reads may unclosed answered (broken_rules.events q read b) = b (retold_events before p q (retold bytes p q reads read) may.events)
 keeps_all closed before bytes p n reads may unclosed answered (broken_rules.reports q loss read is b) =
     let e : report_of p ≡ Some loss = reported p q loss (retold bytes p q reads read) is in
-    b (subst (λ (o : Option LossBody). IfSome o IsSoundReport) e may.reports.1, subst (λ (o : Option LossBody). IfSome o (λ l. IsAnswered l (behind bytes))) e answered)
+    b (subst (λ (o : Option LossBody). IfSome o IsSoundReport) e may.reports.1, subst (λ (o : Option LossBody). IfSome o (λ l. IsFollowedByFlagged l (behind bytes))) e answered)
 
 -- where an index packet may stand, or it is none
 pub first_elsewhere : (closed : Bool) (before : List Packet) (p : Packet) (o : Option ℕ) → (IsTrue (is_index p) → closed ≡ false → ⊥) → (closed ≡ false → is_index p ≡ false) → broken_later.BreaksLaterRuleFirst before p o → BreaksRuleOfFileFirst closed before p o
@@ -212,9 +212,9 @@ pub record IsPending (packets : List Packet) (rest : List ℕ) : Type 0 where
   pub each : EachFollows [] front
   pub may : MayFollow front packet
   pub reports : report_of packet ≡ Some loss
-  pub unanswered : IsAnswered loss rest → ⊥
+  pub unanswered : IsFollowedByFlagged loss rest → ⊥
 
-pending_by : (o : Option LossBody) (packets : List Packet) (rest : List ℕ) → o ≡ last_report packets → EachFollows [] packets → (IfSome o (λ loss. IsAnswered loss rest) → ⊥) → IsPending packets rest
+pending_by : (o : Option LossBody) (packets : List Packet) (rest : List ℕ) → o ≡ last_report packets → EachFollows [] packets → (IfSome o (λ loss. IsFollowedByFlagged loss rest) → ⊥) → IsPending packets rest
 pending_by None packets rest is each none = absurd (none tt)
 pending_by (Some loss) packets rest is each none =
     let ends = ends_with [] packets loss each (sym is) in
@@ -228,7 +228,7 @@ pub pending_breaks : (closed : Bool) (packets : List Packet) (rest : List ℕ) (
 pending_breaks closed packets rest w =
     let reads = reads_first w.packet rest (w.may.fits, w.may.checksums) in
     let there : behind (packet_bytes w.packet ++ rest) ≡ rest = reads_behind (packet_bytes w.packet) rest (packet_foreign w.packet w.may.fits) in
-    broken_rules.reports w.packet w.loss reads (report_is w.packet w.loss w.reports) (λ both. w.unanswered (subst (λ (l : List ℕ). IsAnswered w.loss l) there both.1))
+    broken_rules.reports w.packet w.loss reads (report_is w.packet w.loss w.reports) (λ both. w.unanswered (subst (λ (l : List ℕ). IsFollowedByFlagged w.loss l) there both.1))
 
 pub pending_least : (closed : Bool) (packets : List Packet) (rest : List ℕ) (w : IsPending packets rest) (m : ℕ) → BreaksRule w.front (packet_bytes w.packet ++ rest) closed m → 11 ≤ m
 pending_least closed packets rest w m breaks =
@@ -277,7 +277,7 @@ stops_at_report closed tracks before packet goes foreign none =
       more = packet;
       bytes_are = pending_bytes before goes.packets packet w goes.bytes_are;
       keep = pending_keep closed goes.packets packet w goes.keep;
-      answered = pending_quiet goes.packets packet w (λ loss. IsAnswered loss (packet_bytes w.packet));
+      answered = pending_quiet goes.packets packet w (λ loss. IsFollowedByFlagged loss (packet_bytes w.packet));
       foreign = packet_foreign w.packet w.may.fits;
       number = 11;
       at_is = ap (λ offset. record { offset = offset; fault = Rule 11 }) (pending_place goes.packets packet w);
@@ -309,10 +309,10 @@ goes_on closed tracks new before packet p goes foreign reads first tracked = rec
 -- ---- the end
 
 -- the last of two lists decides, where it has a packet
-pub last_behind : (told : Option LossBody) (ps : List Packet) (qs : List Packet) → 0 < length qs → report_from told (ps ++ qs) ≡ report_from None qs
-last_behind told [] [] some = absurd (omega (arith, some))
-last_behind told [] (q ∷ qs) some = refl
-last_behind told (p ∷ ps) qs some = last_behind (report_of p) ps qs some
+pub last_behind : (reported : Option LossBody) (ps : List Packet) (qs : List Packet) → 0 < length qs → report_from reported (ps ++ qs) ≡ report_from None qs
+last_behind reported [] [] some = absurd (omega (arith, some))
+last_behind reported [] (q ∷ qs) some = refl
+last_behind reported (p ∷ ps) qs some = last_behind (report_of p) ps qs some
 
 setup_of : (c : Content) → (type_of c == 1) ≡ true → (text : List ℕ) × (c ≡ setup text)
 setup_of (setup text) is = (text, refl)
@@ -322,14 +322,14 @@ setup_of c is = cc
 pub begins : (packets : List Packet) → EachFollows [] packets → 0 < length packets → (text : List ℕ) × (map (λ p. p.content) (take 1 packets) ≡ setup text ∷ [])
 begins [] each some = absurd (omega (arith, some))
 begins (p ∷ ps) each some =
-    let told = setup_of p.content (each.0.start.0.1 refl) in
-    (told.0, ap (λ c. c ∷ []) told.1)
+    let reported = setup_of p.content (each.0.start.0.1 refl) in
+    (reported.0, ap (λ c. c ∷ []) reported.1)
 
 -- packets that are a whole file
 pub whole_is_strict : (bytes : List ℕ) (packets : List Packet) → bytes ≡ file_bytes packets → IsFile packets → IsStrict bytes
 whole_is_strict bytes packets are file =
-    let told = begins packets file.each (omega (arith, file.start)) in
-    (told.0, file_entries packets, is_closed_file packets, (packets, are, record { file = file; setup_is = told.1; entries_are = λ channel. refl; closed_is = refl }))
+    let reported = begins packets file.each (omega (arith, file.start)) in
+    (reported.0, file_entries packets, is_closed_file packets, (packets, are, record { file = file; setup_is = reported.1; entries_are = λ channel. refl; closed_is = refl }))
 
 -- the packets of a strict file are a whole file
 pub strict_is_whole : (bytes : List ℕ) (packets : List Packet) → bytes ≡ file_bytes packets → EachFollows [] packets → IsStrict bytes → IsFile packets
@@ -346,10 +346,10 @@ broken_is_none at bytes b (text, entries, closed, (all, they, say)) =
     let reads : ReadsPacket rest p = subst (λ (l : List ℕ). ReadsPacket l p) (sym next.rest_is) own in
     let there : behind rest ≡ file_bytes next.more = ap behind next.rest_is ∙ reads_behind (packet_bytes p) (file_bytes next.more) (packet_foreign p next.may.fits) in
     let last : report_from (report_of p) next.more ≡ None = sym (last_behind None b.packets (p ∷ next.more) (omega arith)) ∙ ap (λ (ps : List Packet). last_report ps) (sym next.all_are) ∙ say.file.reports in
-    let answered : IfSome (report_of p) (λ loss. IsAnswered loss (file_bytes next.more ++ [])) =
-    answered_behind b.packets next.more p [] next.each (no_report (report_from (report_of p) next.more) (λ loss. IsAnswered loss []) last) in
+    let answered : IfSome (report_of p) (λ loss. IsFollowedByFlagged loss (file_bytes next.more ++ [])) =
+    answered_behind b.packets next.more p [] next.each (no_report (report_from (report_of p) next.more) (λ loss. IsFollowedByFlagged loss []) last) in
     keeps_all true b.packets rest p b.number reads next.may (λ open_file. absurd (true≢false open_file))
-    (subst (λ (l : List ℕ). IfSome (report_of p) (λ loss. IsAnswered loss l)) (append-nil (file_bytes next.more) ∙ sym there) answered) (broken_here true at bytes b)
+    (subst (λ (l : List ℕ). IfSome (report_of p) (λ loss. IsFollowedByFlagged loss l)) (append-nil (file_bytes next.more) ∙ sym there) answered) (broken_here true at bytes b)
 
 -- ---- what stands
 

@@ -7,4 +7,4 @@ pub mod Places
 pub mod Either
 pub mod Eighth
 pub mod Eleventh
-pub mod Parts
+pub mod PartsOfBytes

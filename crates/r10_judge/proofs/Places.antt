@@ -7,13 +7,13 @@ use Rattle.r10_body.proofs.Lone.{packet-length}
 use Rattle.r10_body.specs.Foreign.{IsForeignPacket}
 use Rattle.r10_body.specs.Packets.{Packet, packet_bytes, file_bytes}
 use Rattle.r10_body.specs.Rules.{EachFollows, EndsIndex, MayFollow, is_index, is_closed_file, last_report, report_from, report_of}
-use Rattle.r10_body.specs.Faults.{HasFault, IsAnswered, ReadsPacket, BreaksRule, IsWrongHere, IsAtFault, first_packet}
+use Rattle.r10_body.specs.Faults.{HasFault, IsFollowedByFlagged, ReadsPacket, BreaksRule, IsWrongHere, IsAtFault, first_packet}
 use Rattle.r10_body.specs.Faults as broken_rules
 use Rattle.r10_body.specs.declared.fault.FileFault.{FileFault}
 use Rattle.r10_body.specs.declared.fault.FileFault.TheVariants.{Rule}
 use Rattle.r10_packet_rules.proofs.Faults.{one_fault, apart}
 use Rattle.r10_packet_rules.proofs.Fronts.{first_joined}
-use Rattle.r10_packet_rules.proofs.Ways.{packet_long, first_again}
+use Rattle.r10_packet_rules.proofs.OneWayApart.{packet_long, first_again}
 use Rattle.r10_packet_rules.proofs.Written.{packet_foreign}
 use Rattle.r10_body.proofs.Indexes.{none_at, not_closed, not_whole, part_of}
 use Rattle.r10_body.proofs.Injective.{one_follower}
@@ -31,7 +31,7 @@ pub record GoesOnWith (closed : Bool) (before : List Packet) (rest : List ℕ) :
   pub may : MayFollow before packet
   pub unclosed : closed ≡ false → is_index packet ≡ false
   pub first : rest ≡ packet_bytes packet ++ more
-  pub answered : IfSome (report_of packet) (λ loss. IsAnswered loss more)
+  pub answered : IfSome (report_of packet) (λ loss. IsFollowedByFlagged loss more)
 
 no_bytes : (closed : Bool) (before : List Packet) (rest : List ℕ) → GoesOnWith closed before rest → length rest ≡ 0 → ⊥
 no_bytes closed before rest on none = omega (arith, none, ap length on.first, length-append (packet_bytes on.packet) on.more, packet-length on.packet)
@@ -40,10 +40,10 @@ its_reading : (closed : Bool) (before : List Packet) (rest : List ℕ) (on : Goe
 its_reading closed before rest on =
     (on.may.fits, on.may.checksums, ap first_packet on.first ∙ first_again (packet_bytes on.packet) on.more (packet_foreign on.packet on.may.fits))
 
-its_answer : (closed : Bool) (before : List Packet) (rest : List ℕ) (on : GoesOnWith closed before rest) → IfSome (report_of on.packet) (λ loss. IsAnswered loss (behind rest))
+its_answer : (closed : Bool) (before : List Packet) (rest : List ℕ) (on : GoesOnWith closed before rest) → IfSome (report_of on.packet) (λ loss. IsFollowedByFlagged loss (behind rest))
 its_answer closed before rest on =
     let there : behind rest ≡ on.more = ap behind on.first ∙ reads_behind (packet_bytes on.packet) on.more (packet_foreign on.packet on.may.fits) in
-    subst (λ (l : List ℕ). IfSome (report_of on.packet) (λ loss. IsAnswered loss l)) (sym there) on.answered
+    subst (λ (l : List ℕ). IfSome (report_of on.packet) (λ loss. IsFollowedByFlagged loss l)) (sym there) on.answered
 
 -- then nothing is wrong there
 nothing_wrong : (closed : Bool) (before : List Packet) (rest : List ℕ) (fault : FileFault) → GoesOnWith closed before rest → IsWrongHere before rest closed fault → ⊥
@@ -62,7 +62,7 @@ data Meets (closed : Bool) (ps qs : List Packet) (r s : List ℕ) : Type 0 where
   left_on : GoesOnWith closed qs s → Meets closed ps qs r s
   right_on : GoesOnWith closed ps r → Meets closed ps qs r s
 
-goes_on_with : (closed : Bool) (before qs : List Packet) (q : Packet) (r s : List ℕ) → EachFollows before (q ∷ qs) → (closed ≡ false → count_by is_index (q ∷ qs) ≡ 0) → IfSome (report_from (report_of q) qs) (λ loss. IsAnswered loss s) → r ≡ (packet_bytes q ++ file_bytes qs) ++ s
+goes_on_with : (closed : Bool) (before qs : List Packet) (q : Packet) (r s : List ℕ) → EachFollows before (q ∷ qs) → (closed ≡ false → count_by is_index (q ∷ qs) ≡ 0) → IfSome (report_from (report_of q) qs) (λ loss. IsFollowedByFlagged loss s) → r ≡ (packet_bytes q ++ file_bytes qs) ++ s
     → GoesOnWith closed (before ++ []) r
 goes_on_with closed before qs q r s each unclosed last is = record {
   packet = q;
@@ -74,7 +74,7 @@ goes_on_with closed before qs q r s each unclosed last is = record {
 }
 
 meets : (closed : Bool) (o w : Option LossBody) (before ps qs : List Packet) (r s : List ℕ) → EachFollows before ps → EachFollows before qs → (closed ≡ false → count_by is_index ps ≡ 0) → (closed ≡ false → count_by is_index qs ≡ 0)
-    → IfSome (report_from o ps) (λ loss. IsAnswered loss r) → IfSome (report_from w qs) (λ loss. IsAnswered loss s)
+    → IfSome (report_from o ps) (λ loss. IsFollowedByFlagged loss r) → IfSome (report_from w qs) (λ loss. IsFollowedByFlagged loss s)
     → file_bytes ps ++ r ≡ file_bytes qs ++ s → Meets closed (before ++ ps) (before ++ qs) r s
 meets closed o w before [] [] r s f g u v a b e = same refl e
 meets closed o w before [] (q ∷ qs) r s f g u v a b e = right_on (goes_on_with closed before qs q r s g v b e)
@@ -157,7 +157,7 @@ nothing_missing packets closed fault two is ends (broken_rules.no_index none som
 pub strict_apart : (bytes : List ℕ) (closed : Bool) (offset : ℕ) (fault : FileFault) → IsAtFault bytes closed offset fault → SaysClosed bytes closed → ⊥
 strict_apart bytes closed offset fault x (text, entries, (all, they, say)) =
     elim (meets closed None None [] x.packets all x.rest [] x.strict say.file.each x.unclosed (λ open_file. say.file.index (not_whole all (say.closed_is ∙ open_file))) x.answered
-    (no_report (last_report all) (λ loss. IsAnswered loss []) say.file.reports) (sym x.bytes_are ∙ they ∙ sym (append-nil (file_bytes all)))) [
+    (no_report (last_report all) (λ loss. IsFollowedByFlagged loss []) say.file.reports) (sym x.bytes_are ∙ they ∙ sym (append-nil (file_bytes all)))) [
       | same ps rs ↦
           nothing_missing all closed fault say.file.start say.closed_is say.file.index
           (subst (λ (b : List Packet). IsWrongHere b [] closed fault) ps (subst (λ (r : List ℕ). IsWrongHere x.packets r closed fault) rs x.wrong))

@@ -26,7 +26,8 @@ pub record KeepsRulesSoFar (closed : Bool) (tracks : Tracks) (bytes : List ℕ) 
   pub keep : KeepRules closed packets
   pub tracked : IsTracked tracks packets
 
--- after packets that keep the rules a packet of any recorder breaks one, whatever stands after these bytes, and of those that it breaks this is the least
+-- after packets that keep the rules a packet of any recorder breaks one, whatever stands after these bytes, and of those that
+-- it breaks this is the least
 pub record BreaksAt (closed : Bool) (at : FirstFault) (bytes : List ℕ) : Type 0 where
   pub packets : List Packet
   pub packet : List ℕ
@@ -50,7 +51,8 @@ TracksJudged j bytes = StandsAt j.broken j.closed j.tracks bytes
 
 -- what stands next answers the report that stands last, where one does, or not
 abbrev pub TellsAnswer : Bool → Tracks → List ℕ → Type 0
-TellsAnswer told tracks rest = (packets : List Packet) → IsTracked tracks packets → IsTrue told ↔ IsReportAnswered packets rest
+TellsAnswer reported tracks rest = (packets : List Packet) → IsTracked tracks packets
+    → IsTrue reported ↔ IsReportAnswered packets rest
 
 -- ---- one packet more
 
@@ -91,7 +93,8 @@ pub record TracksStrictFile (closed : Bool) (tracks : Tracks) (bytes : List ℕ)
   pub say : PacketsSay packets text entries closed
   pub tracked : IsTracked tracks packets
 
--- nothing is missing after packets that keep the rules and of which no report stands last, or what is missing makes the file end with this fault
+-- nothing is missing after packets that keep the rules and of which no report stands last, or what is missing makes the file
+-- end with this fault
 abbrev pub MayMiss : Bool → List Packet → Option FileFault → Type 0
 MayMiss closed packets None = (2 ≤ length packets) × (is_closed_file packets ≡ closed) × EndsIndex packets
 MayMiss closed packets (Some fault) = IsWrongHere packets [] closed fault

@@ -23,9 +23,9 @@ abbrev pub EndsAt : List ℕ → ℕ → FileFault → Type 0
 EndsAt bytes offset fault = EndsWithFault (Some fault) (drop offset bytes)
 
 -- what stands at an offset has this fault, and it is reported whether it answers the report that stands last
-pub record IsFaultTold (bytes : List ℕ) (offset : ℕ) (told : Bool) (tracks : Tracks) (fault : FileFault) : Type 0 where
+pub record IsFaultTold (bytes : List ℕ) (offset : ℕ) (reported : Bool) (tracks : Tracks) (fault : FileFault) : Type 0 where
   pub ends : EndsAt bytes offset fault
-  pub answered : TellsAnswer told tracks (drop offset bytes)
+  pub answered : TellsAnswer reported tracks (drop offset bytes)
 
 -- the file is walked up to its end, or up to what is no packet of any recorder
 pub record IsWalked (bytes : List ℕ) (walked : Walked) : Type 0 where

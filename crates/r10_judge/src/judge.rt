@@ -3,7 +3,7 @@
 ghost use Rattle.std.specs.Prelude.{◌≡◌, ◌↔◌, ◌⊎◌, ◌+◌, ◌<◌, ◌≤◌, ◌^◌, ◌++◌, ℕ, Bool, List, [], length, take, true, false, IsTrue};
 ghost use Rattle.std.specs.Prelude.{IfOk, IfErr, MatchOption, MatchResult, OnOk, OnErr, Ok, None, Some, is_some};
 ghost use Rattle.r10_packet.specs.Framing.{framing_fault, body_at};
-ghost use Rattle.r10_body.specs.Faults.{HasFault, IsAnswered, IsAtFault, IsReportAnswered};
+ghost use Rattle.r10_body.specs.Faults.{HasFault, IsFollowedByFlagged, IsAtFault, IsReportAnswered};
 ghost use Rattle.r10_body.specs.Files.{IsStrict};
 ghost use Rattle.r10_body.specs.Foreign.{IsForeignPacket};
 ghost use Rattle.r10_body.specs.Packets.{Packet, FitsPacket, packet_body, packet_bytes};
@@ -360,7 +360,7 @@ impl Judge {
 
 /// Whether a flagged packet stands first that is of the channel of a report.
 fn answers(loss: &LossBody, rest: &[u8]) -> bool
-    ensures { IsTrue result ↔ IsAnswered loss.now rest.now }
+    ensures { IsTrue result ↔ IsFollowedByFlagged loss.now rest.now }
 {
     match r10_packet::Packet::read(rest) {
         Ok((view, _)) => { view.header.channel == loss.channel && view.header.flags / 16 % 2 == 1 }

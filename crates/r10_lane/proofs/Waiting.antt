@@ -17,7 +17,7 @@ use Rattle.r10_machine.specs.Calls.{overflowed}
 use Rattle.r10_machine.specs.SoundParts.{Climbs, count_or_0}
 use Rattle.r10_count.proofs.Rules.{rules_stop, none_broken, rules_parts}
 use Rattle.r10_machine.proofs.Climbing.{climbs_push, map-joined}
-use Rattle.r10_lane.specs.Lanes.{Offers, IsTaken, TookWaiting, Waits, counts_of, first_count_or}
+use Rattle.r10_lane.specs.Lanes.{Offers, IsMessageTaken, TookWaiting, Waits, counts_of, first_count_or}
 use Rattle.r10_lane.specs.Laws.{lane_took_stays}
 use Rattle.r10_count.proofs.Lists.{all_joined}
 
@@ -49,7 +49,7 @@ pub waits_more : (spec : ChannelSpec) (last : Option ℕ) (waiting : List Sample
 waits_more spec last waiting x waits fine sound =
     let fine = passed spec last x.count x.message fine in
     record {
-      taken = all_joined (IsTaken spec) waiting (x ∷ []) waits.taken (fine.0, tt);
+      taken = all_joined (IsMessageTaken spec) waiting (x ∷ []) waits.taken (fine.0, tt);
       gaps = all_joined (λ (y : Sample). IsSoundGap y.gap) waiting (x ∷ []) waits.gaps (sound, tt);
       counts = all_joined (λ (y : Sample). IsCount y.count) waiting (x ∷ []) waits.counts (fine.2, tt);
       climbs = subst (λ (ns : List ℕ). Climbs 0 ns x.count) (sym (map-joined (λ (y : Sample). y.count) waiting (x ∷ []))) (climbs_push 0 (counts_of waiting) (count_or_0 last) x.count fine.1 waits.climbs);

@@ -29,22 +29,24 @@ Offers old count message result new = MatchResult result
 -- ---- what waits
 
 -- a message that the channel takes
-abbrev pub IsTaken : ChannelSpec → Sample → Type 0
-IsTaken spec x = channel_refusal spec x.message ≡ None
+abbrev pub IsMessageTaken : ChannelSpec → Sample → Type 0
+IsMessageTaken spec x = channel_refusal spec x.message ≡ None
 
 abbrev pub counts_of : List Sample → List ℕ
 counts_of xs = map (λ x. x.count) xs
 
--- what may wait in a lane: messages that the channel takes, with gaps that tell no loss of none, whose counts don't fall up to the last accepted one
+-- what may wait in a lane: messages that the channel takes, with gaps that tell no loss of none, whose counts don't fall up to
+-- the last accepted one
 pub record Waits (spec : ChannelSpec) (last : ℕ) (waiting : List Sample) : Type 0 where
-  pub taken : AllByRecursion (IsTaken spec) waiting
+  pub taken : AllByRecursion (IsMessageTaken spec) waiting
   pub gaps : AllByRecursion (λ x. IsSoundGap x.gap) waiting
   pub counts : AllByRecursion (λ x. IsCount x.count) waiting
   pub climbs : Climbs 0 (counts_of waiting) last
 
--- what may be taken from a lane, from one count that it has reached on and up to another: messages that the channel takes, with gaps that tell no loss of none, whose counts don't fall
+-- what may be taken from a lane, from one count that it has reached on and up to another: messages that the channel takes,
+-- with gaps that tell no loss of none, whose counts don't fall
 pub record Gives (spec : ChannelSpec) (low : ℕ) (samples : List Sample) (high : ℕ) : Type 0 where
-  pub passes : AllByRecursion (IsTaken spec) samples
+  pub passes : AllByRecursion (IsMessageTaken spec) samples
   pub gaps : AllByRecursion (λ x. IsSoundGap x.gap) samples
   pub counts : AllByRecursion (λ x. IsCount x.count) samples
   pub climbs : Climbs low (counts_of samples) high

@@ -29,9 +29,12 @@ pub gave_rises : (a b : ChannelSpec) (xs : List Sample) → GaveNothing a xs b �
 gave_rises a b xs gave = omega arith
 
 pub gave_gives : (a b : ChannelSpec) (xs : List Sample) → GaveNothing a xs b → Gives a (all_counts a) xs (all_counts b)
-gave_gives a b xs gave = subst (λ (l : List Sample). Gives a (all_counts a) l (all_counts b)) (sym gave.0) (gives_none a (all_counts a) (all_counts b) (omega arith))
+gave_gives a b xs gave = subst (λ (l : List Sample). Gives a (all_counts a) l (all_counts b)) (sym gave.0)
+    (gives_none a (all_counts a) (all_counts b) (omega arith))
 
-pub gave_stays_quiet : (a b : ChannelSpec) (xs waiting : List Sample) → GaveNothing a xs b → ◌≡◌ {A = Option (List Sample)} (Some []) (Some waiting) → (rest : List Sample) × ◌≡◌ {A = Option (List Sample)} (Some []) (Some rest) × (waiting ≡ xs ++ rest)
+pub gave_stays_quiet : (a b : ChannelSpec) (xs waiting : List Sample) → GaveNothing a xs b
+    → ◌≡◌ {A = Option (List Sample)} (Some []) (Some waiting) → (rest : List Sample)
+    × ◌≡◌ {A = Option (List Sample)} (Some []) (Some rest) × (waiting ≡ xs ++ rest)
 gave_stays_quiet a b xs waiting gave quiet = ([], refl, sym (none waiting quiet) ∙ sym (ap (λ (l : List Sample). l ++ []) gave.0))
   where
     none : (ys : List Sample) → ◌≡◌ {A = Option (List Sample)} (Some []) (Some ys) → [] ≡ ys

@@ -97,14 +97,14 @@ does_keeps s old Seal replies.Done new sound does =
 does_keeps s old Erase replies.Done new sound is =
     let next : new.generation ≡ old.generation + 1 = ap (λ (m : Machine). m.generation) is in
     record { generation = omega (arith, next); files = λ again i n there. absurd (omega (arith, next, again)) }
-does_keeps s old Files (replies.Files files) new sound (told, is) = keeps_same old new is
-does_keeps s old Status (replies.Status status) new sound (told, is) = keeps_same old new is
+does_keeps s old Files (replies.Files files) new sound (reported, is) = keeps_same old new is
+does_keeps s old Status (replies.Status status) new sound (reported, is) = keeps_same old new is
 does_keeps s old (Cursor file channels from to) (replies.Cursor id) new sound (free, sets) = keeps_cursor old new id _ sets
 does_keeps s old (Advance id) (replies.Advanced n) new sound does =
     some_then (Keeps old new) (cursor_of id old) _ does (λ c is_c moves. some_then (Keeps old new) (slice_get old.files c.file) _ moves (λ f is_f made. keeps_cursor old new id _ made.3))
 does_keeps s old (Next id) (replies.Next given) new sound does =
     some_then (Keeps old new) (cursor_of id old) _ does (λ c is_c made. keeps_cursor old new id _ made.1)
 does_keeps s old (Close id) replies.Done new sound sets = keeps_cursor old new id None sets
-does_keeps s old (Find file channel count) (replies.Found answer) new sound (told, is) = keeps_same old new is
-does_keeps s old (CountAt file parts) (replies.CountAt answer) new sound (told, is) = keeps_same old new is
+does_keeps s old (Find file channel count) (replies.Found answer) new sound (reported, is) = keeps_same old new is
+does_keeps s old (CountAt file parts) (replies.CountAt answer) new sound (reported, is) = keeps_same old new is
 does_keeps s old event reply new sound does = absurd does

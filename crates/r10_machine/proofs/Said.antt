@@ -17,7 +17,7 @@ use Rattle.r10_dirchain.specs.Chain.{HoldsBlock, listed_files}
 use Rattle.r10_dirchain.specs.Mount.{mount_rules, place_rules, stands}
 use Rattle.r10_dirchain.specs.OnMedium.{SameButIn, Turned}
 use Rattle.r10_dirchain.specs.Steps.{with_last_entry}
-use Rattle.r10_dirchain.proofs.Standing.{Stand, usable_of}
+use Rattle.r10_dirchain.proofs.RulesAsFacts.{Stand, usable_of}
 use Rattle.r10_dirchain.proofs.Usable.{placed}
 use Rattle.r10_blockout.specs.Blocks.{bytes_from}
 use Rattle.r10_body.specs.Files.{FileSays}

@@ -74,15 +74,15 @@ does_sound s old Seal replies.Done new config sound fine does =
 does_sound s old Erase replies.Done new config sound fine does =
     let parts = rules_parts (idle_checks old.mode) (erase_checks old.generation) fine in
     erases_sound s old new sound parts.0 parts.1 does
-does_sound s old Files (replies.Files files) new config sound fine (told, is) = subst (IsSound s) (sym is) sound
-does_sound s old Status (replies.Status status) new config sound fine (told, is) = subst (IsSound s) (sym is) sound
+does_sound s old Files (replies.Files files) new config sound fine (reported, is) = subst (IsSound s) (sym is) sound
+does_sound s old Status (replies.Status status) new config sound fine (reported, is) = subst (IsSound s) (sym is) sound
 does_sound s old (Cursor file channels from to) (replies.Cursor id) new config sound fine does =
     opens_sound s old file channels from to id new sound (file_there (length old.files) file from to (rules_parts (mounted_checks old.mode) (cursor_checks (length old.files) file from to) fine).1) does
 does_sound s old (Advance id) (replies.Advanced n) new config sound fine does = advances_sound s old id n new sound does
 does_sound s old (Next id) (replies.Next given) new config sound fine does = gives_sound s old id given new sound does
 does_sound s old (Close id) replies.Done new config sound fine does = closes_sound s old id new sound does
-does_sound s old (Find file channel count) (replies.Found answer) new config sound fine (told, is) = subst (IsSound s) (sym is) sound
-does_sound s old (CountAt file parts) (replies.CountAt answer) new config sound fine (told, is) = subst (IsSound s) (sym is) sound
+does_sound s old (Find file channel count) (replies.Found answer) new config sound fine (reported, is) = subst (IsSound s) (sym is) sound
+does_sound s old (CountAt file parts) (replies.CountAt answer) new config sound fine (reported, is) = subst (IsSound s) (sym is) sound
 does_sound s old event reply new config sound fine does = absurd does
 
 -- ---- refusals

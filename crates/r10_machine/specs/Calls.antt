@@ -1,5 +1,6 @@
 -- What each call does that is neither refused nor fails: the answer and the new state.
-use Rattle.std.specs.Prelude.{◌≡◌, ℕ, ◌+◌, ◌<◌, Bool, true, false, List, [], ◌∷◌, ◌++◌, length, map, take, drop, count_by, Option, Some, None, IsSomeAnd, slice_get}
+use Rattle.std.specs.Prelude.{◌≡◌, ℕ, ◌+◌, ◌<◌, Bool, true, false, List, [], ◌∷◌, ◌++◌, length, map, take, drop, count_by, Option}
+use Rattle.std.specs.Prelude.{Some, None, IsSomeAnd, slice_get}
 use Rattle.std.specs.List.{flat_map, sum_by}
 use Rattle.r10_body.specs.Gaps.{gap_after}
 use Rattle.r10_body.specs.Rules.{is_entry_on}
@@ -10,7 +11,9 @@ use Rattle.r10_body.specs.declared.message.Message.TheVariants as messages
 use Rattle.r10_machine.specs.declared.mode.Mode.TheVariants.{Idle, Recording}
 use Rattle.r10_machine.specs.declared.mode.Stopped.{Stopped}
 use Rattle.r10_machine.specs.Config.{Config}
-use Rattle.r10_machine.specs.Machine.{Machine, Tick, Lane, File, Cursor, saturated, lane_in, lane_of, with_lane, rising, waiting_entries, shown_entries, with_entries, last_file, with_last, change_last, last_size, cursor_of, SetsCursor}
+use Rattle.r10_machine.specs.Machine.{Machine, Tick, Lane, File, Cursor, saturated, lane_in, lane_of, with_lane, rising}
+use Rattle.r10_machine.specs.Machine.{waiting_entries, shown_entries, with_entries, last_file, with_last, change_last, last_size}
+use Rattle.r10_machine.specs.Machine.{cursor_of, SetsCursor}
 use Rattle.r10_machine.specs.Room.{next_block, fits, TakesIn}
 use Rattle.r10_machine.specs.Checks.{is_recording}
 use Rattle.r10_machine.specs.Replay.{wanted, Ordered}
@@ -141,9 +144,11 @@ wanted_since f c = wanted c.channels c.from c.to (drop c.covered (shown_entries 
 abbrev pub Advances : Machine → ℕ → ℕ → Machine → Type 0
 Advances old id n new =
     IsSomeAnd (cursor_of id old) (λ c. IsSomeAnd (slice_get old.files c.file) (λ f.
-    (queue : List Entry) × Ordered (wanted_since f c) queue × (n ≡ length queue) × SetsCursor old new id (Some (record c { covered = f.shown; queue = queue }))))
+    (queue : List Entry) × Ordered (wanted_since f c) queue × (n ≡ length queue)
+    × SetsCursor old new id (Some (record c { covered = f.shown; queue = queue }))))
 
 -- the first of the queue, or nothing
 abbrev pub GivesQueued : Machine → ℕ → Option Entry → Machine → Type 0
 GivesQueued old id given new =
-    IsSomeAnd (cursor_of id old) (λ c. (given ≡ slice_get c.queue 0) × SetsCursor old new id (Some (record c { queue = drop 1 c.queue })))
+    IsSomeAnd (cursor_of id old) (λ c. (given ≡ slice_get c.queue 0)
+    × SetsCursor old new id (Some (record c { queue = drop 1 c.queue })))

@@ -1,4 +1,5 @@
--- Single cases of the whole machine: the order of refusals, steps and what is none, what is found, and what a recorder tells of itself.
+-- Single cases of the whole machine: the order of refusals, steps and what is none, what is found, and what a recorder tells
+-- of itself.
 use Rattle.std.specs.Prelude.{◌≡◌, ℕ, ◌-◌, ◌^◌, true, false, List, [], ◌∷◌, refl, length, map, replicate, Some, None}
 use Rattle.std.proofs.Common.{lit<, lit≤, arith, inl}
 use Rattle.r10_body.specs.Messages.{uart_message}
@@ -9,7 +10,8 @@ use Rattle.r10_machine.specs.declared.mode.Mode.TheVariants.{Idle, Recording, Fa
 use Rattle.r10_machine.specs.Machine.{Machine, File, Lane, with_lane}
 use Rattle.r10_machine.specs.Calls.{accepted, overflowed, without}
 use Rattle.r10_machine.specs.SmallCases.{narrow, four_bytes, full_file}
-use Rattle.r10_machine.specs.Vectors.{settings, channel, new, mounted, ticked, started, filled_lane, lost, stopped, begun, first_time, leap_day, name, text, entry, read}
+use Rattle.r10_machine.specs.Vectors.{settings, channel, new, mounted, ticked, started, filled_lane, lost, stopped, begun}
+use Rattle.r10_machine.specs.Vectors.{first_time, leap_day, name, text, entry, read}
 use Rattle.r10_machine.specs.declared.event.Event.TheVariants as events
 use Rattle.r10_machine.specs.declared.reply.Reply.TheVariants as replies
 use Rattle.r10_machine.specs.Finding.{found, count_at, status_of, free_bytes}
@@ -72,13 +74,17 @@ count-at-no-date = refl
 abbrev pub file_called : ℕ → File
 file_called letter = record begun { name = letter ∷ []; closed = true }
 
-pub ninth-file : refusal settings (record ticked { files = map file_called (0x41 ∷ 0x42 ∷ 0x43 ∷ 0x44 ∷ 0x45 ∷ 0x46 ∷ 0x47 ∷ 0x48 ∷ []) }) (events.Start (0x49 ∷ []) []) ≡ Some refusals.DirectoryFull
+pub ninth-file : refusal settings
+    (record ticked { files = map file_called (0x41 ∷ 0x42 ∷ 0x43 ∷ 0x44 ∷ 0x45 ∷ 0x46 ∷ 0x47 ∷ 0x48 ∷ []) })
+    (events.Start (0x49 ∷ []) []) ≡ Some refusals.DirectoryFull
 ninth-file = refl
 
-pub eighth-file : refusal settings (record ticked { files = map file_called (0x41 ∷ 0x42 ∷ 0x43 ∷ 0x44 ∷ 0x45 ∷ 0x46 ∷ 0x47 ∷ []) }) (events.Start (0x49 ∷ []) []) ≡ None
+pub eighth-file : refusal settings (record ticked { files = map file_called (0x41 ∷ 0x42 ∷ 0x43 ∷ 0x44 ∷ 0x45 ∷ 0x46 ∷ 0x47 ∷ []) })
+    (events.Start (0x49 ∷ []) []) ≡ None
 eighth-file = refl
 
-pub stale-cursor : refusal settings (record (read 0 [] stopped) { files = []; generation = 1 }) (events.Advance 0) ≡ Some refusals.Stale
+pub stale-cursor : refusal settings (record (read 0 [] stopped) { files = []; generation = 1 })
+    (events.Advance 0) ≡ Some refusals.Stale
 stale-cursor = refl
 
 -- ---- the modes
@@ -126,7 +132,8 @@ loss-idle = refl
 pub no-time : refusal settings mounted (events.Start [] []) ≡ Some refusals.NoTime
 no-time = refl
 
-pub setup-too-long : (text : List ℕ) → length text ≡ 524261 → refusal settings mounted (events.Start [] text) ≡ Some refusals.TooLong
+pub setup-too-long : (text : List ℕ) → length text ≡ 524261
+    → refusal settings mounted (events.Start [] text) ≡ Some refusals.TooLong
 setup-too-long text long = rw long refl
 
 pub bad-name : refusal settings ticked (events.Start [] []) ≡ Some refusals.BadName
@@ -159,7 +166,10 @@ tick-out-of-range = refl
 
 -- a tick while recording is an entry
 pub tick-recording : Step settings started (events.Tick 2000 leap_day) replies.Done
-    (record started { tick = Some (record { count = 2000; civil = leap_day }); files = record begun { entries = first_time ∷ record first_time { count = 2000 } ∷ [] } ∷ [] })
+    (record started {
+      tick = Some (record { count = 2000; civil = leap_day });
+      files = record begun { entries = first_time ∷ record first_time { count = 2000 } ∷ [] } ∷ [];
+    })
 tick-recording = (lit≤ tt, (refl, (refl, refl)))
 
 -- ---- offers and pumps
@@ -173,12 +183,23 @@ pump-no-channel = refl
 pub time-offered : refusal settings started (events.Offer 5 1001 (messages.Time leap_day)) ≡ Some refusals.WrongKind
 time-offered = refl
 
-pub sub-too-large : refusal settings started (events.Offer 5 281474976710656 (uart_message false 16384 [])) ≡ Some refusals.BadMessage
+pub sub-too-large : refusal settings started (events.Offer 5 281474976710656 (uart_message false 16384 []))
+    ≡ Some refusals.BadMessage
 sub-too-large = refl
 
 -- a packet of 128 bytes has room for a message of 88 without a checksum, and of 86 with one
 abbrev pub short : ℕ → Machine
-short check = record new { lanes = record { spec = record (channel 5 2) { check = check; bytes = 128 }; waiting = []; last = None; missed = 0; lost = 0; erased = 0 } ∷ [] }
+short check =
+    record new {
+      lanes = record {
+        spec = record (channel 5 2) { check = check; bytes = 128 };
+        waiting = [];
+        last = None;
+        missed = 0;
+        lost = 0;
+        erased = 0;
+      } ∷ [];
+    }
 
 pub longest : refusal settings (short 0) (events.Offer 5 1000 (text (replicate 88 0))) ≡ None
 longest = refl
@@ -221,7 +242,8 @@ loss-of-none = (lit≤ tt, (refl, refl))
 pub loss-outside : Step settings lost (events.Lose 5 41) replies.Done (record lost {
   lanes = record {
     spec = channel 5 2;
-    waiting = record { count = 1001; message = text (0x41 ∷ []); gap = Whole } ∷ record { count = 1002; message = text (0x42 ∷ []); gap = Whole } ∷ [];
+    waiting = record { count = 1001; message = text (0x41 ∷ []); gap = Whole }
+        ∷ record { count = 1002; message = text (0x42 ∷ []); gap = Whole } ∷ [];
     last = Some 1002;
     missed = 42;
     lost = 42;
@@ -264,7 +286,8 @@ next-failed = refl
 pub not-read-out : refusal settings (read 0 (first_time ∷ []) stopped) (events.Advance 0) ≡ Some refusals.Unread
 not-read-out = refl
 
-pub stale-before-unread : refusal settings (record (read 0 (first_time ∷ []) stopped) { generation = 1 }) (events.Advance 0) ≡ Some refusals.Stale
+pub stale-before-unread : refusal settings (record (read 0 (first_time ∷ []) stopped) { generation = 1 })
+    (events.Advance 0) ≡ Some refusals.Stale
 stale-before-unread = refl
 
 -- ---- room: a medium of three blocks, and a file with a setup of 100 bytes
@@ -288,7 +311,8 @@ pub full-tick : Step narrow full (events.Tick 2000 leap_day) (replies.Refused re
 full-tick = (lit≤ tt, (refl, refl))
 
 -- a start whose setup and time have no room
-pub no-room-to-start : Step narrow (record ticked { lanes = full.lanes }) (events.Start name (replicate 249 0)) (replies.Refused refusals.MediumFull) (record ticked { lanes = full.lanes })
+pub no-room-to-start : Step narrow (record ticked { lanes = full.lanes }) (events.Start name (replicate 249 0))
+    (replies.Refused refusals.MediumFull) (record ticked { lanes = full.lanes })
 no-room-to-start = (lit≤ tt, (refl, refl))
 
 pub room-to-start : has_room narrow ticked (events.Start name (replicate 248 0)) ≡ true
@@ -309,11 +333,27 @@ pub uncounted : Step settings new events.Mount (replies.Refused refusals.Medium)
 uncounted (more, (uses, room, rose, fails)) = omega (arith, rose (lit< tt))
 
 -- a pump that fails may lose what it was to take, and no more
-pub pump-fails : Step settings lost (events.Pump 5 1) (replies.Refused refusals.Medium) (record (with_lane 5 (without 1) lost) { mode = Failed; failures = 1 })
-pump-fails = (lit≤ tt, (refl, refl, λ less. lit< tt, record { end = record lost { failures = 1 }; either = inl refl; files = refl; lanes = ((1, lit≤ tt, refl), ((0, lit≤ tt, refl), tt)); rest = refl }))
+pub pump-fails : Step settings lost (events.Pump 5 1) (replies.Refused refusals.Medium)
+    (record (with_lane 5 (without 1) lost) { mode = Failed; failures = 1 })
+pump-fails = (
+  lit≤ tt,
+  (
+    refl,
+    refl,
+    λ less. lit< tt,
+    record {
+      end = record lost { failures = 1 };
+      either = inl refl;
+      files = refl;
+      lanes = ((1, lit≤ tt, refl), ((0, lit≤ tt, refl), tt));
+      rest = refl;
+    },
+  ),
+)
 
 -- an offer doesn't fail, and nor does a loss that is reported
-pub offer-fails : (next : Machine) → Step settings started (events.Offer 5 1001 (text [])) (replies.Refused refusals.Medium) next → ⊥
+pub offer-fails : (next : Machine) → Step settings started (events.Offer 5 1001 (text [])) (replies.Refused refusals.Medium) next
+    → ⊥
 offer-fails next (more, (uses, room, rose, fails)) = cc
 
 pub loss-fails : (next : Machine) → Step settings started (events.Lose 5 1) (replies.Refused refusals.Medium) next → ⊥
@@ -327,10 +367,16 @@ loss-lacks-memory next (more, (asks, room, is)) = cc
 pub first-event : (event_entry settings 3 1000 begun).message ≡ messages.Event 3 0
 first-event = refl
 
-pub second-event : (event_entry settings 3 1000 (record begun { entries = first_time ∷ event_entry settings 3 1000 begun ∷ [] })).message ≡ messages.Event 3 1
+pub second-event : (event_entry settings 3 1000 (record begun {
+  entries = first_time ∷ event_entry settings 3 1000 begun
+      ∷ [];
+})).message ≡ messages.Event 3 1
 second-event = refl
 
-pub other-event : (event_entry settings 4 1000 (record begun { entries = first_time ∷ event_entry settings 3 1000 begun ∷ [] })).message ≡ messages.Event 4 0
+pub other-event : (event_entry settings 4 1000 (record begun {
+  entries = first_time ∷ event_entry settings 3 1000 begun
+      ∷ [];
+})).message ≡ messages.Event 4 0
 other-event = refl
 
 -- ---- finding: messages at 1000 and 2000
@@ -359,7 +405,11 @@ pub count-before : count_at begun (record leap_day { centi = 77 }) ≡ None
 count-before = refl
 
 -- the last time alone decides, though an earlier one would be in range
-pub count-past-the-end : count_at (record begun { entries = first_time ∷ entry 1 281474976710655 (messages.Time leap_day) Whole ∷ []; shown = 2 }) (record leap_day { centi = 79 }) ≡ None
+pub count-past-the-end : count_at (record begun {
+  entries = first_time ∷ entry 1 281474976710655 (messages.Time leap_day) Whole
+      ∷ [];
+  shown = 2;
+}) (record leap_day { centi = 79 }) ≡ None
 count-past-the-end = refl
 
 -- ---- status: a full lane and one message lost
@@ -372,7 +422,8 @@ pub told-of-a-loss : status_of settings (with_lane 5 overflowed filled_lane) ≡
   tick = Some 1000;
   files = 1;
   free = 30964;
-  channels = record { channel = 5; waiting = 2; lost = 1; erased = 0 } ∷ record { channel = 6; waiting = 0; lost = 0; erased = 0 } ∷ [];
+  channels = record { channel = 5; waiting = 2; lost = 1; erased = 0 } ∷ record { channel = 6; waiting = 0; lost = 0; erased = 0 }
+      ∷ [];
 }
 told-of-a-loss = refl
 

@@ -17,4 +17,12 @@ pub record Config : Type 0 where
 
 abbrev pub config : ℕ → ℕ → List ℕ → ℕ → ℕ → ℕ → List ChannelSpec → Config
 config blocks directory volume nodes time event channels =
-    record { blocks = blocks; directory = directory; volume = volume; nodes = nodes; time = time; event = event; channels = channels }
+    record {
+      blocks = blocks;
+      directory = directory;
+      volume = volume;
+      nodes = nodes;
+      time = time;
+      event = event;
+      channels = channels;
+    }

@@ -8,7 +8,11 @@ use Rattle.r10_machine.specs.declared.mode.Mode.TheVariants.{Idle}
 use Rattle.r10_machine.specs.Config.{Config}
 use Rattle.r10_machine.specs.Machine.{Machine, Cursor, File, Lane, Sets, fresh, with_lane}
 use Rattle.r10_machine.specs.Calls.{accepted, losing, overflowed, without}
-use Rattle.r10_machine.specs.Vectors.{settings, new, mounted, ticked, started, begun, first_time, name, setup_text, leap_day, text, entry, read, small, small_started, two, two-in-order, abc_offered, both_offered, both_pumped, small_stopped, filled_lane, lost, pumped, resumed, stopped, replayed, replayed-in-order, lost_three, filled_stopped, ticked_again, second_name, started_again, offered_again, after_losses, pumped_again, committed_again, read_second, alone-in-order}
+use Rattle.r10_machine.specs.Vectors.{settings, new, mounted, ticked, started, begun, first_time, name, setup_text, leap_day, text}
+use Rattle.r10_machine.specs.Vectors.{entry, read, small, small_started, two, two-in-order, abc_offered, both_offered, both_pumped}
+use Rattle.r10_machine.specs.Vectors.{small_stopped, filled_lane, lost, pumped, resumed, stopped, replayed, replayed-in-order}
+use Rattle.r10_machine.specs.Vectors.{lost_three, filled_stopped, ticked_again, second_name, started_again, offered_again}
+use Rattle.r10_machine.specs.Vectors.{after_losses, pumped_again, committed_again, read_second, alone-in-order}
 use Rattle.r10_machine.specs.declared.event.Event.{Event}
 use Rattle.r10_machine.specs.declared.event.Event.TheVariants as ask
 use Rattle.r10_machine.specs.declared.reply.Reply.{Reply}
@@ -47,7 +51,8 @@ pub first-recording : Goes small (fresh small.channels [] 0)
     (say.Done ∷ say.Done ∷ say.Done
     ∷ say.Done ∷ say.Done ∷ say.Moved 2 ∷ say.Stopped (record { taken = 0; left = 0 })
     ∷ say.Cursor 0 ∷ say.Advanced 2
-    ∷ say.Next (Some (entry 5 1000 (text (0x41 ∷ 0x42 ∷ 0x43 ∷ [])) Whole)) ∷ say.Next (Some (entry 5 1010 (text []) Whole)) ∷ say.Next None ∷ [])
+    ∷ say.Next (Some (entry 5 1000 (text (0x41 ∷ 0x42 ∷ 0x43 ∷ [])) Whole)) ∷ say.Next (Some (entry 5 1010 (text []) Whole))
+    ∷ say.Next None ∷ [])
     (read 3 [] small_stopped)
 first-recording = (
   record (fresh small.channels [] 0) { mode = Idle },
@@ -185,7 +190,8 @@ pub three-lost-messages : Goes settings new
     ∷ ask.Cursor 1 (5 ∷ []) 0 281474976710655 ∷ ask.Advance 0 ∷ ask.Next 0 ∷ ask.Next 0 ∷ [])
     (say.Done ∷ say.Done ∷ say.Done
     ∷ say.Done ∷ say.Done
-    ∷ say.Refused refusals.Overflow ∷ say.Refused refusals.Overflow ∷ say.Refused refusals.Overflow ∷ say.Stopped (record { taken = 2; left = 0 })
+    ∷ say.Refused refusals.Overflow ∷ say.Refused refusals.Overflow ∷ say.Refused refusals.Overflow
+    ∷ say.Stopped (record { taken = 2; left = 0 })
     ∷ say.Done ∷ say.Done ∷ say.Done ∷ say.Moved 1 ∷ say.Done
     ∷ say.Cursor 0 ∷ say.Advanced 1 ∷ say.Next (Some (entry 5 2000 (text (0x44 ∷ [])) (Lost 3))) ∷ say.Next None ∷ [])
     (read_second 2 [] committed_again)
@@ -288,16 +294,25 @@ told_resumed = with_lane 5 (accepted 1004 (text (0x44 ∷ []))) told_pumped
 
 -- the steps leave its size to the packing
 abbrev told_file : File
-told_file = record begun { entries = first_time ∷ told_entries ++ entry 5 1004 (text (0x44 ∷ [])) (Lost 4) ∷ []; shown = 4; closed = true; size = 332 }
+told_file = record begun {
+  entries = first_time ∷ told_entries ++ entry 5 1004 (text (0x44 ∷ [])) (Lost 4)
+      ∷ [];
+  shown = 4;
+  closed = true;
+  size = 332;
+}
 
 abbrev told_stopped : Machine
 told_stopped = record (with_lane 5 (without 1) told_resumed) { mode = Idle; files = told_file ∷ [] }
 
 pub losses-outside : Goes settings started
-    (ask.Lose 5 40 ∷ ask.Lose 5 2 ∷ ask.Offer 5 1001 (text (0x41 ∷ [])) ∷ ask.Lose 5 5 ∷ ask.Lose 99 7 ∷ ask.Offer 5 1002 (text (0x42 ∷ []))
-    ∷ ask.Offer 5 1003 (text (0x43 ∷ [])) ∷ ask.Lose 5 3 ∷ ask.Pump 5 2 ∷ ask.Lose 5 0 ∷ ask.Offer 5 1004 (text (0x44 ∷ [])) ∷ ask.Stop ∷ [])
+    (ask.Lose 5 40 ∷ ask.Lose 5 2 ∷ ask.Offer 5 1001 (text (0x41 ∷ [])) ∷ ask.Lose 5 5 ∷ ask.Lose 99 7
+    ∷ ask.Offer 5 1002 (text (0x42 ∷ []))
+    ∷ ask.Offer 5 1003 (text (0x43 ∷ [])) ∷ ask.Lose 5 3 ∷ ask.Pump 5 2 ∷ ask.Lose 5 0 ∷ ask.Offer 5 1004 (text (0x44 ∷ []))
+    ∷ ask.Stop ∷ [])
     (say.Done ∷ say.Done ∷ say.Done ∷ say.Done ∷ say.Refused refusals.NoSuchChannel ∷ say.Done
-    ∷ say.Refused refusals.Overflow ∷ say.Done ∷ say.Moved 2 ∷ say.Done ∷ say.Done ∷ say.Stopped (record { taken = 1; left = 0 }) ∷ [])
+    ∷ say.Refused refusals.Overflow ∷ say.Done ∷ say.Moved 2 ∷ say.Done ∷ say.Done ∷ say.Stopped (record { taken = 1; left = 0 })
+    ∷ [])
     told_stopped
 losses-outside = (
   with_lane 5 (losing 40) started,

@@ -22,11 +22,13 @@ longest-setup text long = rw long refl
 
 -- ---- what a cursor wants
 
-pub range-of-entries : wanted [] 1000 1002 (entry 1 999 (text []) Whole ∷ entry 5 1000 (text []) Whole ∷ entry 6 1002 (text []) Whole ∷ entry 5 1003 (text []) Whole ∷ [])
+pub range-of-entries : wanted [] 1000 1002 (entry 1 999 (text []) Whole ∷ entry 5 1000 (text []) Whole
+    ∷ entry 6 1002 (text []) Whole ∷ entry 5 1003 (text []) Whole ∷ [])
     ≡ entry 5 1000 (text []) Whole ∷ entry 6 1002 (text []) Whole ∷ []
 range-of-entries = refl
 
-pub channels-of-entries : wanted (6 ∷ 7 ∷ []) 0 5000 (entry 5 1000 (text []) Whole ∷ entry 6 1002 (text []) Whole ∷ []) ≡ entry 6 1002 (text []) Whole ∷ []
+pub channels-of-entries : wanted (6 ∷ 7 ∷ []) 0 5000 (entry 5 1000 (text []) Whole ∷ entry 6 1002 (text []) Whole ∷ [])
+    ≡ entry 6 1002 (text []) Whole ∷ []
 channels-of-entries = refl
 
 -- ---- room: a medium of three blocks, and a file with a setup of 100 bytes
@@ -74,7 +76,8 @@ pub fitting-areas : map (λ area. fitting area 364 three) (363 ∷ 483 ∷ 484 �
 fitting-areas = refl
 
 -- a message of one byte needs 117 bytes, and one after a loss whose number is reported 185
-pub fitting-losses : map (λ area. fitting area 364 (entry 5 1 (text (0x44 ∷ [])) Whole ∷ [])) (480 ∷ 481 ∷ []) ++ map (λ area. fitting area 364 (entry 5 1 (text (0x44 ∷ [])) (Lost 3) ∷ [])) (548 ∷ 549 ∷ []) ≡ 0 ∷ 1 ∷ 0 ∷ 1 ∷ []
+pub fitting-losses : map (λ area. fitting area 364 (entry 5 1 (text (0x44 ∷ [])) Whole ∷ [])) (480 ∷ 481 ∷ [])
+    ++ map (λ area. fitting area 364 (entry 5 1 (text (0x44 ∷ [])) (Lost 3) ∷ [])) (548 ∷ 549 ∷ []) ≡ 0 ∷ 1 ∷ 0 ∷ 1 ∷ []
 fitting-losses = refl
 
 -- so that there is no room for one where an empty one had fit
@@ -86,8 +89,25 @@ loss-has-no-room = refl
 -- lanes in another order than their channels, and one that holds more than its capacity
 abbrev pub lanes : List Lane
 lanes =
-    record { spec = channel 6 4; waiting = record { count = 2000; message = text (0x58 ∷ []); gap = Whole } ∷ []; last = Some 2000; missed = 0; lost = 0; erased = 0 }
-    ∷ record { spec = channel 5 1; waiting = record { count = 2000; message = text (0x59 ∷ []); gap = Whole } ∷ record { count = 2001; message = text (0x5A ∷ []); gap = Whole } ∷ []; last = Some 2001; missed = 0; lost = 0; erased = 0 }
+    record {
+      spec = channel 6 4;
+      waiting = record { count = 2000; message = text (0x58 ∷ []); gap = Whole }
+          ∷ [];
+      last = Some 2000;
+      missed = 0;
+      lost = 0;
+      erased = 0;
+    }
+    ∷ record {
+      spec = channel 5 1;
+      waiting = record { count = 2000; message = text (0x59 ∷ []); gap = Whole }
+          ∷ record { count = 2001; message = text (0x5A ∷ []); gap = Whole } ∷ [];
+      last = Some 2001;
+      missed = 0;
+      lost = 0;
+      erased =
+          0;
+    }
     ∷ []
 
 abbrev pub two_rising : List Entry
@@ -113,26 +133,50 @@ pub one-gap : map (λ x. x.gap) (accepted 2 (text []) (accepted 1 (text []) loss
 one-gap = refl
 
 -- numbers stay at the greatest
-pub lost-at-most : overflowed (record { spec = channel 5 1; waiting = []; last = None; missed = 2 ^ 64 - 1; lost = 2 ^ 64 - 1; erased = 0 })
+pub lost-at-most : overflowed (record {
+  spec = channel 5 1;
+  waiting = [];
+  last = None;
+  missed = 2 ^ 64 - 1;
+  lost = 2 ^ 64 - 1;
+  erased = 0;
+})
     ≡ record { spec = channel 5 1; waiting = []; last = None; missed = 2 ^ 64 - 1; lost = 2 ^ 64 - 1; erased = 0 }
 lost-at-most = refl
 
 -- what was lost outside counts beside overflows, before them and after them, and marks the next message alone
-pub lost-outside : overflowed (losing 40 lossy) ≡ record { spec = channel 5 2; waiting = []; last = None; missed = 43; lost = 50; erased = 0 }
+pub lost-outside : overflowed (losing 40 lossy) ≡ record {
+  spec = channel 5 2;
+  waiting = [];
+  last = None;
+  missed = 43;
+  lost = 50;
+  erased = 0;
+}
 lost-outside = refl
 
-pub one-gap-of-all : map (λ x. x.gap) (accepted 2 (text []) (accepted 1 (text []) (overflowed (losing 40 lossy)))).waiting ≡ Lost 43 ∷ Whole ∷ []
+pub one-gap-of-all : map (λ x. x.gap) (accepted 2 (text []) (accepted 1 (text []) (overflowed (losing 40 lossy)))).waiting ≡ Lost 43
+    ∷ Whole ∷ []
 one-gap-of-all = refl
 
 -- a loss of none changes nothing, and marks none
 pub none-lost-outside : losing 0 lossy ≡ lossy
 none-lost-outside = refl
 
-pub no-gap : map (λ x. x.gap) (accepted 1 (text []) (losing 0 (record { spec = channel 5 2; waiting = []; last = None; missed = 0; lost = 7; erased = 0 }))).waiting ≡ Whole ∷ []
+pub no-gap : map (λ x. x.gap)
+    (accepted 1 (text [])
+    (losing 0 (record { spec = channel 5 2; waiting = []; last = None; missed = 0; lost = 7; erased = 0 }))).waiting ≡ Whole ∷ []
 no-gap = refl
 
 -- each number stays at the greatest by itself
-pub lost-outside-at-most : losing 3 (record { spec = channel 5 1; waiting = []; last = None; missed = 2 ^ 64 - 4; lost = 2 ^ 64 - 3; erased = 0 })
+pub lost-outside-at-most : losing 3 (record {
+  spec = channel 5 1;
+  waiting = [];
+  last = None;
+  missed = 2 ^ 64 - 4;
+  lost = 2 ^ 64 - 3;
+  erased = 0;
+})
     ≡ record { spec = channel 5 1; waiting = []; last = None; missed = 2 ^ 64 - 1; lost = 2 ^ 64 - 1; erased = 0 }
 lost-outside-at-most = refl
 
@@ -141,10 +185,19 @@ lost-outside-at-most = refl
 pub settings-fine : first_broken (settings_rules settings) ≡ None
 settings-fine = refl
 
-pub least-settings : first_broken (settings_rules (record settings { blocks = 4; volume = 0x41 ∷ []; nodes = 1; channels = record (channel 5 1) { check = 32; bytes = 128; number = 1 } ∷ [] })) ≡ None
+pub least-settings : first_broken
+    (settings_rules
+    (record settings {
+      blocks = 4;
+      volume = 0x41 ∷ [];
+      nodes = 1;
+      channels = record (channel 5 1) { check = 32; bytes = 128; number = 1 } ∷ [];
+    })) ≡ None
 least-settings = refl
 
-pub greatest-settings : first_broken (settings_rules (record settings { blocks = 16777216; directory = 64; nodes = 32765; channels = channel 65535 65536 ∷ [] })) ≡ None
+pub greatest-settings : first_broken
+    (settings_rules (record settings { blocks = 16777216; directory = 64; nodes = 32765; channels = channel 65535 65536 ∷ [] }))
+    ≡ None
 greatest-settings = refl
 
 pub too-few-blocks : first_broken (settings_rules (record settings { blocks = 3; directory = 2 })) ≡ Some settings_faults.Blocks
@@ -165,41 +218,62 @@ time-is-zero = refl
 pub repeated : first_broken (settings_rules (record settings { event = 5; nodes = 0 })) ≡ Some (settings_faults.Channel 5)
 repeated = refl
 
-pub repeated-later : first_broken (settings_rules (record settings { channels = channel 5 0 ∷ channel 6 4 ∷ channel 5 2 ∷ [] })) ≡ Some (settings_faults.Channel 5)
+pub repeated-later : first_broken (settings_rules (record settings { channels = channel 5 0 ∷ channel 6 4 ∷ channel 5 2 ∷ [] }))
+    ≡ Some (settings_faults.Channel 5)
 repeated-later = refl
 
 pub time-is-event : first_broken (settings_rules (record settings { time = 2 })) ≡ Some (settings_faults.Channel 2)
 time-is-event = refl
 
-pub channel-is-time : first_broken (settings_rules (record settings { channels = channel 5 2 ∷ channel 1 2 ∷ channel 5 2 ∷ [] })) ≡ Some (settings_faults.Channel 1)
+pub channel-is-time : first_broken (settings_rules (record settings { channels = channel 5 2 ∷ channel 1 2 ∷ channel 5 2 ∷ [] }))
+    ≡ Some (settings_faults.Channel 1)
 channel-is-time = refl
 
-pub channel-is-zero : first_broken (settings_rules (record settings { nodes = 0; channels = channel 5 2 ∷ channel 0 2 ∷ [] })) ≡ Some (settings_faults.Channel 0)
+pub channel-is-zero : first_broken (settings_rules (record settings { nodes = 0; channels = channel 5 2 ∷ channel 0 2 ∷ [] }))
+    ≡ Some (settings_faults.Channel 0)
 channel-is-zero = refl
 
 pub no-channels : first_broken (settings_rules (record settings { channels = []; time = 2 })) ≡ Some (settings_faults.Channel 0)
 no-channels = refl
 
-pub too-many-channels : first_broken (settings_rules (record settings { channels = replicate 65 (channel 5 0); time = 2 })) ≡ Some (settings_faults.Channel 0)
+pub too-many-channels : first_broken (settings_rules (record settings { channels = replicate 65 (channel 5 0); time = 2 })) ≡ Some
+    (settings_faults.Channel 0)
 too-many-channels = refl
 
-pub capacity-before-check : first_broken (settings_rules (record settings { channels = record (channel 5 2) { check = 7 } ∷ channel 6 0 ∷ [] })) ≡ Some (settings_faults.Capacity 6)
+pub capacity-before-check : first_broken (settings_rules
+    (record settings { channels = record (channel 5 2) { check = 7 } ∷ channel 6 0 ∷ [] })) ≡ Some (settings_faults.Capacity 6)
 capacity-before-check = refl
 
-pub check-before-bytes : first_broken (settings_rules (record settings { channels = record (channel 5 2) { bytes = 127 } ∷ record (channel 6 4) { check = 24 } ∷ [] })) ≡ Some (settings_faults.Check 6)
+pub check-before-bytes : first_broken
+    (settings_rules (record settings {
+      channels = record (channel 5 2) { bytes = 127 } ∷ record (channel 6 4) { check = 24 }
+          ∷ [];
+    })) ≡ Some (settings_faults.Check 6)
 check-before-bytes = refl
 
-pub odd-bytes : first_broken (settings_rules (record settings { channels = record (channel 5 2) { bytes = 130; number = 0 } ∷ [] })) ≡ Some (settings_faults.Bytes 5)
+pub odd-bytes : first_broken (settings_rules (record settings { channels = record (channel 5 2) { bytes = 130; number = 0 } ∷ [] }))
+    ≡ Some (settings_faults.Bytes 5)
 odd-bytes = refl
 
-pub number-before-nodes : first_broken (settings_rules (record settings { nodes = 0; channels = record (channel 5 2) { number = 65536 } ∷ [] })) ≡ Some (settings_faults.Number 5)
+pub number-before-nodes : first_broken
+    (settings_rules (record settings { nodes = 0; channels = record (channel 5 2) { number = 65536 } ∷ [] })) ≡ Some
+    (settings_faults.Number 5)
 number-before-nodes = refl
 
 -- 1 to 31 discretes, and no number of them is asked of another kind
-pub too-many-discretes : first_broken (settings_rules (record settings { nodes = 0; channels = record (channel 5 2) { kind = kinds.Discrete; bits = 31 } ∷ record (channel 6 2) { kind = kinds.Discrete; bits = 32 } ∷ [] })) ≡ Some (settings_faults.Bits 6)
+pub too-many-discretes : first_broken
+    (settings_rules (record settings {
+      nodes = 0;
+      channels = record (channel 5 2) { kind = kinds.Discrete; bits = 31 }
+          ∷ record (channel 6 2) { kind = kinds.Discrete; bits = 32 } ∷ [];
+    })) ≡ Some (settings_faults.Bits 6)
 too-many-discretes = refl
 
-pub no-discretes : first_broken (settings_rules (record settings { channels = record (channel 5 2) { kind = kinds.Message } ∷ record (channel 6 2) { kind = kinds.Discrete } ∷ [] })) ≡ Some (settings_faults.Bits 6)
+pub no-discretes : first_broken
+    (settings_rules (record settings {
+      channels = record (channel 5 2) { kind = kinds.Message }
+          ∷ record (channel 6 2) { kind = kinds.Discrete } ∷ [];
+    })) ≡ Some (settings_faults.Bits 6)
 no-discretes = refl
 
 pub no-nodes : first_broken (settings_rules (record settings { nodes = 32766; volume = [] })) ≡ Some settings_faults.Nodes
@@ -208,5 +282,6 @@ no-nodes = refl
 pub no-volume : first_broken (settings_rules (record settings { volume = [] })) ≡ Some settings_faults.Volume
 no-volume = refl
 
-pub volume-with-blank : first_broken (settings_rules (record settings { volume = 0x41 ∷ 0x20 ∷ 0x42 ∷ [] })) ≡ Some settings_faults.Volume
+pub volume-with-blank : first_broken (settings_rules (record settings { volume = 0x41 ∷ 0x20 ∷ 0x42 ∷ [] }))
+    ≡ Some settings_faults.Volume
 volume-with-blank = refl

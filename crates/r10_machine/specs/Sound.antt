@@ -12,7 +12,8 @@ use Rattle.r10_machine.specs.Config.{Config}
 use Rattle.r10_machine.specs.Machine.{Machine, File, cursor_of}
 use Rattle.r10_machine.specs.Room.{cost_of, area}
 use Rattle.r10_machine.specs.Checks.{is_recording, last_tick}
-use Rattle.r10_machine.specs.SoundParts.{Climbs, count_or_0, own_files, counts_on, IsSoundLane, LaneClimbs, has_open, IsSoundCursor, IsTimeOrMessage}
+use Rattle.r10_machine.specs.SoundParts.{Climbs, count_or_0, own_files, counts_on, IsSoundLane, LaneClimbs, has_open}
+use Rattle.r10_machine.specs.SoundParts.{IsSoundCursor, IsTimeOrMessage}
 use Rattle.r10_machine.specs.EventChecks.{most_files}
 
 -- ---- files

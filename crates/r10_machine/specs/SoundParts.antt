@@ -1,5 +1,6 @@
 -- What is true of the lanes, entries and cursors of every state that a recorder comes to.
-use Rattle.std.specs.Prelude.{◌≡◌, ℕ, ◌^◌, ◌<◌, ◌≤◌, Bool, false, not, ◌&&◌, List, [], ◌∷◌, ◌++◌, length, map, filter, Option, Some, None, IsSomeAnd, slice_get}
+use Rattle.std.specs.Prelude.{◌≡◌, ℕ, ◌^◌, ◌<◌, ◌≤◌, Bool, false, not, ◌&&◌, List, [], ◌∷◌, ◌++◌, length, map, filter, Option}
+use Rattle.std.specs.Prelude.{Some, None, IsSomeAnd, slice_get}
 use Rattle.std.specs.List.{AllByRecursion, flat_map}
 use Rattle.r10_count.specs.Count.{IsCount}
 use Rattle.r10_count.specs.Civil.{IsCivil}
@@ -64,4 +65,5 @@ has_open m = elim (last_file m) [ None ↦ false | Some f ↦ is_open f ]
 
 -- a cursor isn't of a later generation, and one of this generation has its file and covers no more than is shown
 abbrev pub IsSoundCursor : Machine → Cursor → Type 0
-IsSoundCursor m c = (c.generation ≤ m.generation) × (c.generation ≡ m.generation → IsSomeAnd (slice_get m.files c.file) (λ f. c.covered ≤ f.shown))
+IsSoundCursor m c = (c.generation ≤ m.generation) × (c.generation ≡ m.generation
+    → IsSomeAnd (slice_get m.files c.file) (λ f. c.covered ≤ f.shown))

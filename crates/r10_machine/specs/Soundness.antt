@@ -17,7 +17,11 @@ event_at count = event_entry settings 3 count begun
 
 -- the event was recorded at 1001, and is not shown yet
 abbrev pub marked : Machine
-marked = record started { last_event = Some 1001; files = found_file ∷ record begun { first_block = 4; entries = first_time ∷ event_at 1001 ∷ [] } ∷ [] }
+marked = record started {
+  last_event = Some 1001;
+  files = found_file
+      ∷ record begun { first_block = 4; entries = first_time ∷ event_at 1001 ∷ [] } ∷ [];
+}
 
 none-open : (m : Machine) → m.cursors ≡ [] → (id : ℕ) → IfSome (cursor_of id m) (IsSoundCursor m)
 none-open m is id = rw is (nothing id)
@@ -35,7 +39,10 @@ unclosed is = cc
 pub new-sound : IsSound settings new
 new-sound = record {
   channels = refl;
-  lanes = (record { held = lit≤ tt; messages = tt; counts = tt; gaps = tt; missed = lit< tt }, (record { held = lit≤ tt; messages = tt; counts = tt; gaps = tt; missed = lit< tt }, tt));
+  lanes = (
+    record { held = lit≤ tt; messages = tt; counts = tt; gaps = tt; missed = lit< tt },
+    (record { held = lit≤ tt; messages = tt; counts = tt; gaps = tt; missed = lit< tt }, tt),
+  );
   tick = tt;
   event = tt;
   most = lit≤ tt;
@@ -48,7 +55,10 @@ new-sound = record {
 pub started-sound : IsSound settings started
 started-sound = record {
   channels = refl;
-  lanes = (record { held = lit≤ tt; messages = tt; counts = tt; gaps = tt; missed = lit< tt }, (record { held = lit≤ tt; messages = tt; counts = tt; gaps = tt; missed = lit< tt }, tt));
+  lanes = (
+    record { held = lit≤ tt; messages = tt; counts = tt; gaps = tt; missed = lit< tt },
+    (record { held = lit≤ tt; messages = tt; counts = tt; gaps = tt; missed = lit< tt }, tt),
+  );
   tick = (lit< tt, refl);
   event = tt;
   most = lit≤ tt;
@@ -57,7 +67,16 @@ started-sound = record {
   cursors = none-open started refl;
   work = record {
     recording = refl;
-    own = (record { first = refl; begun = lit< tt; entries = ((lit< tt, tt, (refl, refl, refl)), tt); room = lit≤ tt; whole = λ is. absurd (unclosed is) }, tt);
+    own = (
+      record {
+        first = refl;
+        begun = lit< tt;
+        entries = ((lit< tt, tt, (refl, refl, refl)), tt);
+        room = lit≤ tt;
+        whole = λ is. absurd (unclosed is);
+      },
+      tt,
+    );
     others = (λ foreign. absurd (differ foreign), tt);
     lanes = (lit≤ tt, (lit≤ tt, tt));
     times = (lit≤ tt, lit≤ tt);
@@ -79,7 +98,10 @@ found-as-it-is = (refl, refl)
 pub marked-sound : IsSound settings marked
 marked-sound = record {
   channels = refl;
-  lanes = (record { held = lit≤ tt; messages = tt; counts = tt; gaps = tt; missed = lit< tt }, (record { held = lit≤ tt; messages = tt; counts = tt; gaps = tt; missed = lit< tt }, tt));
+  lanes = (
+    record { held = lit≤ tt; messages = tt; counts = tt; gaps = tt; missed = lit< tt },
+    (record { held = lit≤ tt; messages = tt; counts = tt; gaps = tt; missed = lit< tt }, tt),
+  );
   tick = (lit< tt, refl);
   event = lit< tt;
   most = lit≤ tt;
@@ -88,7 +110,19 @@ marked-sound = record {
   cursors = none-open marked refl;
   work = record {
     recording = refl;
-    own = (record { first = refl; begun = lit< tt; entries = ((lit< tt, tt, (refl, refl, refl)), ((lit< tt, refl, lit≤ tt, lit< tt, refl), tt)); room = lit≤ tt; whole = λ is. absurd (unclosed is) }, tt);
+    own = (
+      record {
+        first = refl;
+        begun = lit< tt;
+        entries = (
+          (lit< tt, tt, (refl, refl, refl)),
+          ((lit< tt, refl, lit≤ tt, lit< tt, refl), tt),
+        );
+        room = lit≤ tt;
+        whole = λ is. absurd (unclosed is);
+      },
+      tt,
+    );
     others = (λ foreign. refl, (λ foreign. absurd (differ foreign), tt));
     lanes = (lit≤ tt, (lit≤ tt, tt));
     times = (lit≤ tt, lit≤ tt);
@@ -123,7 +157,10 @@ pub found-open : IsSound settings (record started { files = found_file ∷ [] })
 found-open sound = differ sound.work.recording
 
 -- two directory blocks list eight files
-pub nine-files : IsSound settings (record mounted { files = found_file ∷ found_file ∷ found_file ∷ found_file ∷ found_file ∷ found_file ∷ found_file ∷ found_file ∷ found_file ∷ [] }) → ⊥
+pub nine-files : IsSound settings (record mounted {
+  files = found_file ∷ found_file ∷ found_file ∷ found_file ∷ found_file
+      ∷ found_file ∷ found_file ∷ found_file ∷ found_file ∷ [];
+}) → ⊥
 nine-files sound = omega (arith, sound.most)
 
 pub past-all-generations : IsSound settings (record mounted { generation = 2 ^ 64 }) → ⊥
@@ -133,5 +170,6 @@ past-all-generations sound = omega (arith, sound.generation)
 pub file-gone : IsSound settings (read 0 [] mounted) → ⊥
 file-gone sound = (sound.cursors 0).1 refl
 
-pub file-gone-before : IsSoundCursor (record mounted { generation = 1 }) (record { file = 0; channels = []; from = 0; to = 0; generation = 0; covered = 0; queue = [] })
+pub file-gone-before : IsSoundCursor (record mounted { generation = 1 })
+    (record { file = 0; channels = []; from = 0; to = 0; generation = 0; covered = 0; queue = [] })
 file-gone-before = (lit≤ tt, λ same. absurd (omega (arith, same)))

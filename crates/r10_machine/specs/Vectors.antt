@@ -24,10 +24,26 @@ abbrev pub leap_day : Parts
 leap_day = record { year = 2024; month = 2; day = 29; hour = 12; minute = 34; second = 56; centi = 78 }
 
 abbrev pub channel : ℕ → ℕ → ChannelSpec
-channel id capacity = record { id = id; kind = kinds.Uart; capacity = capacity; check = 0; bytes = 524288; number = 65535; bits = 0 }
+channel id capacity = record {
+  id = id;
+  kind = kinds.Uart;
+  capacity = capacity;
+  check = 0;
+  bytes = 524288;
+  number = 65535;
+  bits = 0;
+}
 
 abbrev pub settings : Config
-settings = record { blocks = 64; directory = 2; volume = 0x56 ∷ 0x4F ∷ 0x4C ∷ []; nodes = 100; time = 1; event = 2; channels = channel 5 2 ∷ channel 6 4 ∷ [] }
+settings = record {
+  blocks = 64;
+  directory = 2;
+  volume = 0x56 ∷ 0x4F ∷ 0x4C ∷ [];
+  nodes = 100;
+  time = 1;
+  event = 2;
+  channels = channel 5 2 ∷ channel 6 4 ∷ [];
+}
 
 abbrev pub new : Machine
 new = fresh settings.channels [] 0
@@ -49,7 +65,16 @@ setup_text = 0x41 ∷ 0x42 ∷ 0x43 ∷ 0x44 ∷ []
 
 -- a file as it was begun, and one that is closed with these entries
 abbrev pub begun : File
-begun = record { name = name; setup = setup_text; entries = first_time ∷ []; shown = 1; closed = false; own = true; first_block = 3; size = 68 }
+begun = record {
+  name = name;
+  setup = setup_text;
+  entries = first_time ∷ [];
+  shown = 1;
+  closed = false;
+  own = true;
+  first_block = 3;
+  size = 68;
+}
 
 -- ---- entries in order
 
@@ -66,10 +91,12 @@ rising-sorted : (entries : List Entry) → rises entries ≡ true → IsSortedBy
 unfolding rises
 rising-sorted [] rising k d low high = absurd (omega (arith, high))
 rising-sorted (x ∷ []) rising k d low high = absurd (omega (arith, high))
-rising-sorted (x ∷ y ∷ ys) rising zero d low high = not-true (is_before y x) (and_parts (not (is_before y x)) (rises (y ∷ ys)) rising).0
+rising-sorted (x ∷ y ∷ ys) rising zero d low high = not-true (is_before y x)
+    (and_parts (not (is_before y x)) (rises (y ∷ ys)) rising).0
 rising-sorted (x ∷ y ∷ ys) rising (suc k) d low high =
     let here : suc (k + 1) ≡ suc k + 1 = omega arith in
-    subst (λ n. is_before (slice_index_or (x ∷ y ∷ ys) n d) (slice_index_or (y ∷ ys) k d) ≡ false) here (rising-sorted (y ∷ ys) (and_parts (not (is_before y x)) (rises (y ∷ ys)) rising).1 k d (omega arith) (omega (arith, high)))
+    subst (λ n. is_before (slice_index_or (x ∷ y ∷ ys) n d) (slice_index_or (y ∷ ys) k d) ≡ false) here
+    (rising-sorted (y ∷ ys) (and_parts (not (is_before y x)) (rises (y ∷ ys)) rising).1 k d (omega arith) (omega (arith, high)))
 
 stands : (entries : List Entry) → rises entries ≡ true → Ordered entries entries
 stands entries rising = record { same = IsPermutation-refl entries; sorted = rising-sorted entries rising; stable = λ x. refl }
@@ -98,7 +125,11 @@ abbrev pub small : Config
 small = record settings { blocks = 16; channels = channel 5 2 ∷ [] }
 
 abbrev pub small_started : Machine
-small_started = record (fresh small.channels [] 0) { mode = Recording; tick = Some (record { count = 1000; civil = leap_day }); files = begun ∷ [] }
+small_started = record (fresh small.channels [] 0) {
+  mode = Recording;
+  tick = Some (record { count = 1000; civil = leap_day });
+  files = begun ∷ [];
+}
 
 abbrev pub two : List Entry
 two = entry 5 1000 (text (0x41 ∷ 0x42 ∷ 0x43 ∷ [])) Whole ∷ entry 5 1010 (text []) Whole ∷ []
@@ -114,7 +145,12 @@ both_pumped = record (with_lane 5 (without 2) both_offered) { files = record beg
 
 -- the file in 272 bytes, which r10_body's vectors write out
 abbrev pub small_stopped : Machine
-small_stopped = record both_pumped { mode = Idle; files = record begun { entries = first_time ∷ two; shown = 3; closed = true; size = 272 } ∷ [] }
+small_stopped =
+    record both_pumped {
+      mode = Idle;
+      files = record begun { entries = first_time ∷ two; shown = 3; closed = true; size = 272 }
+          ∷ [];
+    }
 
 two-in-turn : rises two ≡ true
 unfolding rises
@@ -218,7 +254,8 @@ alone-in-order = stands (after_losses ∷ []) alone-in-turn
 -- ---- the order of a replay
 
 abbrev pub mixed : List Entry
-mixed = entry 6 1000 (text []) Whole ∷ entry 5 2000 (text []) Whole ∷ entry 6 2000 (text (0x41 ∷ [])) Whole ∷ entry 6 2000 (text []) Whole ∷ []
+mixed = entry 6 1000 (text []) Whole ∷ entry 5 2000 (text []) Whole ∷ entry 6 2000 (text (0x41 ∷ [])) Whole
+    ∷ entry 6 2000 (text []) Whole ∷ []
 
 mixed-in-turn : rises mixed ≡ true
 unfolding rises

@@ -1,4 +1,4 @@
--- What a medium that is stopped after some calls is made of, and what each choice of a stop gives.
+-- What a medium that is stopped after some calls is made of, and what each choice of a power loss gives.
 use Rattle.std.specs.Prelude.{◌≡◌, ℕ, ◌+◌, ◌<◌, Result, IsOk, IsErr}
 use Rattle.r10_medium.specs.Disk.{Disk, Image}
 use Rattle.r10_medium.specs.Crashing.{crashing, with_block_of}
@@ -13,7 +13,7 @@ crashing_disk c = crashing c.reads c.synced.items c.whole c.whole_synced c.same 
 abbrev pub synced_blocks : Crashing → Image
 synced_blocks c = c.synced.items
 
--- the calls before the stop
+-- the calls before the power loss
 abbrev pub calls_left : Crashing → ℕ
 calls_left c = c.left
 
@@ -21,7 +21,7 @@ calls_left c = c.left
 abbrev pub lowest_written : Crashing → ℕ
 lowest_written c = c.lowest
 
--- the blocks are the same, and what a stop leaves of them
+-- the blocks are the same, and what a power loss leaves of them
 pub record IsSameButCalls (old new : Crashing) : Type 0 where
   pub reads : new.reads ≡ old.reads
   pub synced : new.synced ≡ old.synced
@@ -32,7 +32,7 @@ pub record CallsCrashing {T E : Type 0} (old new : Crashing) (result : Result T 
   pub taken : 0 < calls_left old → IsOk result × (calls_left new + 1 ≡ calls_left old)
   pub stopped : calls_left old ≡ 0 → IsErr result × (calls_left new ≡ 0) × IsSameButCalls old new
 
--- what a stop now leaves by each choice
+-- what a power loss now leaves by each choice
 abbrev pub left_by : Choice → Crashing → Image
 left_by Synced c = synced_blocks c
 left_by Read c = (crashing_disk c).blocks

@@ -1,12 +1,12 @@
-// A block that is published, and what a stop at any moment of that leaves.
+// A block that is published, and what a power loss at any moment of that leaves.
 ghost use Rattle.std.specs.Prelude.{◌≡◌, ◌⊎◌, ◌<◌, length, slice_set, OnOk};
 ghost use Rattle.r10_medium.specs.Disk.{Counts, IsSynced, MayLeave, MayPut};
 ghost use Rattle.r10_medium.specs.Stop.{Leaves};
 
 use crate::{BlockMedium, MediumFault};
 
-/// Syncs what was written, and then writes block `n`, which is synced at `Ok`. A stop leaves
-/// what it could leave before, or what is read with this block in its place.
+/// Syncs what was written, and then writes block `n`, which is synced at `Ok`. A power loss leaves what it could leave before, or
+/// what is read with this block in its place.
 pub fn publish<M: BlockMedium>(
     medium: &mut M,
     n: usize,
@@ -18,7 +18,7 @@ pub fn publish<M: BlockMedium>(
         (M.disk medium.old) (M.disk medium.new) }
     ensures reads { MayPut n block.now (M.disk medium.old).blocks (M.disk medium.new).blocks }
     ensures written { OnOk result ((M.disk medium.new).blocks ≡ slice_set (M.disk medium.old).blocks n block.now) }
-    ensures sure { OnOk result (IsSynced (M.disk medium.new)) }
+    ensures durable { OnOk result (IsSynced (M.disk medium.new)) }
     ensures counts { Counts (M.disk medium.old) (M.disk medium.new) result }
 {
     medium.sync()?;

@@ -50,7 +50,7 @@ body_is es body is =
 
 pub is_body : (es : List MessageEntry) (body : List ℕ) → IsBody message_form 0 0 es body → IsMessage es body
 is_body es body is =
-    let told = eqb-true (length es % 65536 % 65536) (length es) is.agrees in
+    let reported = eqb-true (length es % 65536 % 65536) (length es) is.agrees in
     let lt : length es < 2 ^ 16 = omega arith in
     (record { some = opens_some es is.opens; counted = lt; fields = are_fits 0 es is.fits }, is.spelled ∙ bytes_are es lt)
 

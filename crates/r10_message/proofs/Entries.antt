@@ -3,7 +3,7 @@ use Rattle.std.proofs.Common.{◌≡◌, ℕ, zero, suc, ◌+◌, ◌*◌, ◌/�
 use Rattle.r10_count.specs.Bytes.{le_bytes, flag_at}
 use Rattle.r10_count.specs.Count.{stamp, IsCount}
 use Rattle.r10_count.specs.Padding.{padded}
-use Rattle.r10_message.specs.Message.{FitsHeader, FitsMessage, header_bits, message_header, message_entry, message_of}
+use Rattle.r10_message.specs.Message.{FitsMessageHeader, FitsMessage, message_header_bits, message_header, message_entry, message_of}
 use Rattle.r10_message.specs.declared.entry.MessageEntry.{MessageEntry}
 use Rattle.r10_message.specs.declared.header.MessageHeader.{MessageHeader}
 use Rattle.r10_count.proofs.Fronts.{high_bit}
@@ -22,11 +22,11 @@ parts_of header lt = omega (arith, high_bit (header / 2147483648) (omega arith),
 abbrev pub entry_of : ℕ → MessageHeader → List ℕ → MessageEntry
 entry_of count h text = message_of count h.data_error h.format h.sub text
 
-pub entry_read : (bytes rest behind text : List ℕ) (count header : ℕ) (h : MessageHeader) → IsCount count → FitsHeader h → header ≡ header_bits h
+pub entry_read : (bytes rest behind text : List ℕ) (count header : ℕ) (h : MessageHeader) → IsCount count → FitsMessageHeader h → header ≡ message_header_bits h
     → bytes ≡ stamp count ++ rest → rest ≡ le_bytes 4 header ++ behind → behind ≡ padded text → length text ≡ h.length
     → FitsMessage (entry_of count h text) × (bytes ≡ message_entry (entry_of count h text))
-entry_read bytes rest behind text count header h lc fits told e1 e2 e3 n =
-    let is : message_header (entry_of count h text) ≡ header = omega (arith, n, told) in
+entry_read bytes rest behind text count header h lc fits reported e1 e2 e3 n =
+    let is : message_header (entry_of count h text) ≡ header = omega (arith, n, reported) in
     let low = fits.length in (
       record { count = lc; sub = fits.sub; bytes = omega (arith, n) },
       e1 ∙ ap (λ t. stamp count ++ t) (e2 ∙ ap (λ t. le_bytes 4 header ++ t) e3) ∙ ap (λ n. stamp count ++ le_bytes 4 n ++ padded text) (sym is),

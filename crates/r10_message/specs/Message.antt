@@ -1,4 +1,5 @@
--- The body of a message data packet: the channel specific data word, then for each message an intra-packet time stamp, an intra-packet data header and the bytes.
+-- The body of a message data packet: the channel specific data word, then for each message an intra-packet time stamp, an
+-- intra-packet data header and the bytes.
 use Rattle.std.specs.Prelude.{◌≡◌, ℕ, ◌+◌, ◌*◌, ◌/◌, ◌%◌, ◌^◌, ◌<◌, ◌==◌, Bool, not, ◌&&◌, nat_le, List, ◌++◌, length}
 use Rattle.std.specs.List.{flat_map, AllByRecursion, concat}
 use Rattle.r10_count.specs.Bytes.{le_bytes, flag_at, u32_at}
@@ -15,21 +16,26 @@ abbrev pub message_word : ℕ → List ℕ
 message_word count = le_bytes 4 count
 
 -- the 32 bits of a header: data error, format error, subchannel and length
-abbrev pub header_bits : MessageHeader → ℕ
-header_bits h = flag_at 31 h.data_error + flag_at 30 h.format + 2 ^ 16 * h.sub + h.length
+abbrev pub message_header_bits : MessageHeader → ℕ
+message_header_bits h = flag_at 31 h.data_error + flag_at 30 h.format + 2 ^ 16 * h.sub + h.length
 
 -- the ranges of its parts
-pub record FitsHeader (h : MessageHeader) : Type 0 where
+pub record FitsMessageHeader (h : MessageHeader) : Type 0 where
   pub sub : h.sub < 2 ^ 14
   pub length : h.length < 2 ^ 16
 
 -- the header of an entry
-abbrev pub header_of : MessageEntry → MessageHeader
-header_of e = record { data_error = e.message.data_error; format = e.message.format; sub = e.message.sub; length = length e.message.bytes }
+abbrev pub header_of_message : MessageEntry → MessageHeader
+header_of_message e = record {
+  data_error = e.message.data_error;
+  format = e.message.format;
+  sub = e.message.sub;
+  length = length e.message.bytes;
+}
 
 -- and its bits
 abbrev pub message_header : MessageEntry → ℕ
-message_header e = header_bits (header_of e)
+message_header e = message_header_bits (header_of_message e)
 
 -- a zero byte stands after an odd number of bytes
 abbrev pub message_entry : MessageEntry → List ℕ

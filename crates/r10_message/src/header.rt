@@ -1,7 +1,7 @@
 //! The intra-packet data header of a message.
 
 ghost use Rattle.std.specs.Prelude.{◌≡◌};
-ghost use Rattle.r10_message.specs.Message.{FitsHeader, header_bits};
+ghost use Rattle.r10_message.specs.Message.{FitsMessageHeader, message_header_bits};
 
 /// The parts of an intra-packet data header of 32 bits: the data error is bit 31, the format error bit 30, the subchannel has
 /// bits 29 to 16, and the length bits 15 to 0.
@@ -22,8 +22,8 @@ impl MessageHeader {
     /// The parts of a header.
     #[inline(always)]
     pub fn of(bits: u32) -> MessageHeader
-        ensures fits { FitsHeader result }
-        ensures told { bits ≡ header_bits result }
+        ensures fits { FitsMessageHeader result }
+        ensures reported { bits ≡ message_header_bits result }
     {
         MessageHeader {
             data_error: bits / 0x8000_0000 == 1,
@@ -36,8 +36,8 @@ impl MessageHeader {
     /// The header with these parts.
     #[inline(always)]
     pub(crate) fn bits(self) -> u32
-        requires { FitsHeader self }
-        ensures { result ≡ header_bits self }
+        requires { FitsMessageHeader self }
+        ensures { result ≡ message_header_bits self }
     {
         let data_flag = if self.data_error { 0x8000_0000 } else { 0 };
         let format_flag = if self.format { 0x4000_0000 } else { 0 };

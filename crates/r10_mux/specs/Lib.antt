@@ -2,5 +2,5 @@ pub mod Writes
 pub mod Room
 pub mod Own
 pub mod Begun
-pub mod Parts
+pub mod OutputSteps
 pub mod Calls

@@ -10,7 +10,7 @@ use Rattle.r10_dirblock.specs.Block.{is_closed}
 use Rattle.r10_dirblock.specs.declared.entry.Entry.{Entry as DirectoryEntry}
 use Rattle.r10_dirchain.specs.Mount.{blocks_in}
 use Rattle.r10_dirchain.specs.OnMedium.{SameButIn}
-use Rattle.r10_dirchain.proofs.Standing.{Stand}
+use Rattle.r10_dirchain.proofs.RulesAsFacts.{Stand}
 use Rattle.r10_machine.specs.Config.{Config}
 use Rattle.r10_machine.specs.Machine.{File}
 use Rattle.r10_machine.specs.Room.{blocks_of}

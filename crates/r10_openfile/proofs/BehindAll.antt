@@ -4,7 +4,7 @@ use Rattle.std.proofs.lemmas.List.Elements.{All-from_get_or}
 use Rattle.r10_count.specs.Checks.{first_broken}
 use Rattle.r10_medium.specs.Disk.{Disk, Image, IsWhole}
 use Rattle.r10_medium.specs.Stop.{ComesBy, Leaves, PutsSome, SameBelow, Settled}
-use Rattle.r10_medium.proofs.Stops.{below_puts, weakened, whole_left}
+use Rattle.r10_medium.proofs.PowerLoss.{below_puts, weakened, whole_left}
 use Rattle.r10_blockout.specs.Blocks.{first_blocks}
 use Rattle.r10_blockout.specs.Output.{Puts}
 use Rattle.r10_blockout.proofs.Showing.{whole_put}
@@ -12,11 +12,11 @@ use Rattle.r10_dirchain.specs.Chain.{HoldsBlock, IsDirectory, at, blank_block, l
 use Rattle.r10_dirchain.specs.Mount.{mount_rules}
 use Rattle.r10_dirchain.specs.declared.chain.ChainBlock.{ChainBlock}
 use Rattle.r10_dirchain.proofs.Directories.{still_holds}
-use Rattle.r10_dirchain.proofs.Standing.{Stand, usable_of}
+use Rattle.r10_dirchain.proofs.RulesAsFacts.{Stand, usable_of}
 use Rattle.r10_dirchain.proofs.Unique.{one_directory}
 use Rattle.r10_dirchain.proofs.Usable.{placed}
 use Rattle.r10_volume.specs.Holding.{HoldsFiles}
-use Rattle.r10_volume.proofs.Found.{found_stays}
+use Rattle.r10_volume.proofs.OtherFilesStay.{found_stays}
 use Rattle.r10_machine.specs.Config.{Config}
 use Rattle.r10_machine.specs.Machine.{File}
 use Rattle.r10_machine.specs.Room.{next_block}

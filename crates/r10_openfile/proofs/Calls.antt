@@ -6,7 +6,7 @@ use Rattle.std.proofs.lemmas.List.{append-nil, take_all}
 use Rattle.std.proofs.lemmas.List.Elements.{All-cons, All-from_get_or, All-tail}
 use Rattle.r10_medium.specs.Disk.{Disk, Image, IsSynced, Unchanged, block_at}
 use Rattle.r10_medium.specs.Stop.{Leaves, Settled}
-use Rattle.r10_medium.proofs.Stops.{below_puts, joined, settled_reads, then_stays, weakened, whole_reads}
+use Rattle.r10_medium.proofs.PowerLoss.{below_puts, joined, settled_reads, then_stays, weakened, whole_reads}
 use Rattle.r10_blockout.specs.Blocks.{Shows, bytes_from, blocks_for, file_blocks, first_blocks}
 use Rattle.r10_blockout.specs.Output.{Puts, first_of}
 use Rattle.r10_blockout.proofs.Joining.{carries_past}
@@ -34,8 +34,8 @@ use Rattle.r10_openfile.proofs.ListedTurning.{begun_held, begun_moments, begun_r
 
 -- ---- whatever the medium has: its directory stays while blocks after it are put
 
-pub directory_stays : (old new sure : Disk) (chain : List ChainBlock) (first : ℕ) (blocks : Image) → IsDirectory old.blocks chain → All (λ (b : ChainBlock). b.number < first) chain → Puts first blocks old new → Unchanged new sure → IsDirectory sure.blocks chain
-directory_stays old new sure chain first blocks there below put same =
+pub directory_stays : (old new durable : Disk) (chain : List ChainBlock) (first : ℕ) (blocks : Image) → IsDirectory old.blocks chain → All (λ (b : ChainBlock). b.number < first) chain → Puts first blocks old new → Unchanged new durable → IsDirectory durable.blocks chain
+directory_stays old new durable chain first blocks there below put same =
     let kept = below_puts first blocks old.blocks new.blocks put.reads in
     subst (λ (l : Image). IsDirectory l chain) (sym same.reads)
     (record {
@@ -86,14 +86,14 @@ past_carries r old mid text entries carried put = record {
 }
 
 -- so it is while a file is listed
-pub listed_carried : {T E : Type 0} (chain : List ChainBlock) (e : DirectoryEntry) (r : Recording) (old mid sure new : Disk) (result : Result T E) (text : List ℕ) (entries : List Entry) (carried : Records r old.blocks text entries) → IsDirectory sure.blocks chain
+pub listed_carried : {T E : Type 0} (chain : List ChainBlock) (e : DirectoryEntry) (r : Recording) (old mid durable new : Disk) (result : Result T E) (text : List ℕ) (entries : List Entry) (carried : Records r old.blocks text entries) → IsDirectory durable.blocks chain
     → All (λ (b : ChainBlock). b.number < first_of r.out.blocks) chain → All (λ (n : ℕ). n < first_of r.out.blocks) (spare chain) → Puts (first_of r.out.blocks) (file_blocks (file_bytes carried.packets)) old mid
-    → Shows mid.blocks (first_of r.out.blocks) (file_bytes carried.packets) → Unchanged mid sure
-    → Turns chain (added e chain) (spare chain) ((last_block chain).number ∷ spare chain) sure new result → OnOk result (IsCarried new.blocks (record { recording = r; shown = length r.out.entries }) text entries)
-listed_carried chain e r old mid sure new result text entries carried there below spares put shows same turns =
+    → Shows mid.blocks (first_of r.out.blocks) (file_bytes carried.packets) → Unchanged mid durable
+    → Turns chain (added e chain) (spare chain) ((last_block chain).number ∷ spare chain) durable new result → OnOk result (IsCarried new.blocks (record { recording = r; shown = length r.out.entries }) text entries)
+listed_carried chain e r old mid durable new result text entries carried there below spares put shows same turns =
     let changed = (last_block chain).number ∷ spare chain in
-    let turned : Image → Type 0 = Turned (added e chain) changed sure.blocks in
-    let less = All-cons (λ (n : ℕ). n < first_of r.out.blocks) (last_block chain).number (spare chain) (below (last_place chain) blank_block (omega (arith, some_block sure.blocks chain there))) spares in
+    let turned : Image → Type 0 = Turned (added e chain) changed durable.blocks in
+    let less = All-cons (λ (n : ℕ). n < first_of r.out.blocks) (last_block chain).number (spare chain) (below (last_place chain) blank_block (omega (arith, some_block durable.blocks chain there))) spares in
     on_ok result (Settled turned new) (IsCarried new.blocks (record { recording = r; shown = length r.out.entries }) text entries)
     (λ settled. carried_behind r changed mid.blocks new.blocks text entries (past_carries r old mid text entries carried put) shows
     (subst (λ (l : Image). SameButIn changed l new.blocks) same.reads (settled_reads turned new settled).others) less)
@@ -104,9 +104,9 @@ pub front_put : (first k : ℕ) (blocks : Image) (old new : Disk) → Puts first
 front_put first k blocks old new put less = (below_puts first blocks old.blocks new.blocks put.reads).blocks k less
 
 -- and so they do while it is listed, but for the directory's
-pub front_listed : {T E : Type 0} (chain made : List ChainBlock) (first k n : ℕ) (unlinked : List ℕ) (blocks : Image) (old mid sure new : Disk) (result : Result T E) → Puts first blocks old mid → Unchanged mid sure
-    → Turns chain made unlinked (n ∷ unlinked) sure new result → k < first → All (λ (i : ℕ). k ≢ i) (n ∷ unlinked) → block_at new.blocks k ≡ block_at old.blocks k
-front_listed chain made first k n unlinked blocks old mid sure new result put same turns less apart =
+pub front_listed : {T E : Type 0} (chain made : List ChainBlock) (first k n : ℕ) (unlinked : List ℕ) (blocks : Image) (old mid durable new : Disk) (result : Result T E) → Puts first blocks old mid → Unchanged mid durable
+    → Turns chain made unlinked (n ∷ unlinked) durable new result → k < first → All (λ (i : ℕ). k ≢ i) (n ∷ unlinked) → block_at new.blocks k ≡ block_at old.blocks k
+front_listed chain made first k n unlinked blocks old mid durable new result put same turns less apart =
     ⊎_elim (λ was. was.others.others k (All-tail (λ (i : ℕ). k ≢ i) n unlinked apart)) (λ is. is.others.others k apart) turns.reads
     ∙ ap (λ (l : Image). block_at l k) same.reads ∙ front_put first k blocks old mid put less
 
@@ -152,26 +152,26 @@ module _ (s : Config) (chain : List ChainBlock) (files : List File) (f : File) (
 
 -- ---- and then the entry
 
-module _ {T E : Type 0} (s : Config) (chain : List ChainBlock) (files : List File) (f : File) (e : DirectoryEntry) (r : Recording) (old mid sure new : Disk) (result : Result T E) (may : MayList s old.blocks chain files r f e)
+module _ {T E : Type 0} (s : Config) (chain : List ChainBlock) (files : List File) (f : File) (e : DirectoryEntry) (r : Recording) (old mid durable new : Disk) (result : Result T E) (may : MayList s old.blocks chain files r f e)
     (put : Puts (first_of r.out.blocks) (file_blocks (file_bytes may.carries.packets)) old mid) (shows : Shows mid.blocks (first_of r.out.blocks) (file_bytes may.carries.packets)) (says : FileSays (file_bytes may.carries.packets) f.setup f.entries false)
-    (same : Unchanged mid sure) (synced : IsSynced sure) (turns : Turns chain (added e chain) (spare chain) ((last_block chain).number ∷ spare chain) sure new result) where
-  held : HoldsFiles s sure.blocks chain None files
+    (same : Unchanged mid durable) (synced : IsSynced durable) (turns : Turns chain (added e chain) (spare chain) ((last_block chain).number ∷ spare chain) durable new result) where
+  held : HoldsFiles s durable.blocks chain None files
   held = subst (λ (l : Image). HoldsFiles s l chain None files) (sym same.reads) (last_holds s chain files f e r old mid may put)
 
-  begun : IsBegun s sure.blocks files r f
+  begun : IsBegun s durable.blocks files r f
   begun = subst (λ (l : Image). IsBegun s l files r f) (sym same.reads) (last_begun s chain files f e r old mid may put shows says)
 
   pub listed_holds : OnOk result (HoldsFiles s new.blocks (added e chain) (Some (record { recording = r; shown = length r.out.entries })) (files ++ f ∷ []))
-  listed_holds = begun_held s chain files r f e sure new result held begun may.sealed may.few may.lists turns
+  listed_holds = begun_held s chain files r f e durable new result held begun may.sealed may.few may.lists turns
 
   pub listed_reads : MediumSays s new.blocks files ⊎ MediumSays s new.blocks (files ++ f ∷ [])
-  listed_reads = begun_reads s chain files r f e sure new result held begun may.sealed may.few may.lists turns
+  listed_reads = begun_reads s chain files r f e durable new result held begun may.sealed may.few may.lists turns
 
   pub listed_settled : OnOk result (Settled (λ image. MediumSays s image (files ++ f ∷ []) × (bytes_from image f.first_block f.size ≡ bytes_from new.blocks f.first_block f.size) × IsDirectory image (added e chain)) new)
-  listed_settled = begun_settled s chain files r f e sure new result held begun may.sealed may.few may.lists turns
+  listed_settled = begun_settled s chain files r f e durable new result held begun may.sealed may.few may.lists turns
 
   pub listed_moments : Settled (λ image. MediumSays s image files) old → Leaves (λ image. MediumSays s image files ⊎ MediumSays s image (files ++ f ∷ [])) old new
   listed_moments settled =
       let left : Image → Type 0 = λ image. MediumSays s image files ⊎ MediumSays s image (files ++ f ∷ []) in
-      joined left old sure new (then_stays left old mid sure (last_moments s chain files f e r old mid may put settled) same)
-      (begun_moments s chain files r f e sure new result held begun may.sealed may.few may.lists turns (sure_says s sure chain files synced held))
+      joined left old durable new (then_stays left old mid durable (last_moments s chain files f e r old mid may put settled) same)
+      (begun_moments s chain files r f e durable new result held begun may.sealed may.few may.lists turns (sure_says s durable chain files synced held))

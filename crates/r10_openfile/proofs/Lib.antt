@@ -1,4 +1,4 @@
-mod Behind
+mod DataAfterData
 mod Moments
 mod Turning
 pub mod Ends
@@ -26,7 +26,7 @@ pub mod BackToBack
 pub mod Listing
 pub mod ListedTurning
 pub mod Calls
-mod Parts
+mod DataThenDirectory
 pub mod SamplesComing
 pub mod Together
 pub mod SoFar

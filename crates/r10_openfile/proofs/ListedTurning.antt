@@ -6,7 +6,7 @@ use Rattle.std.proofs.lemmas.List.Elements.{All-nil, All-cons, All-tail, All-fro
 use Rattle.r10_count.specs.Checks.{first_broken}
 use Rattle.r10_medium.specs.Disk.{Disk, Image, IsSynced, IsWhole}
 use Rattle.r10_medium.specs.Stop.{ComesBy, Leaves, Settled}
-use Rattle.r10_medium.proofs.Stops.{one_image, settled_reads, weakened, whole_left, whole_reads}
+use Rattle.r10_medium.proofs.PowerLoss.{one_image, settled_reads, weakened, whole_left, whole_reads}
 use Rattle.r10_blockout.specs.Blocks.{bytes_from}
 use Rattle.r10_packetout.specs.Carries.{Recording}
 use Rattle.r10_dirblock.specs.declared.entry.Entry.{Entry as DirectoryEntry}
@@ -16,7 +16,7 @@ use Rattle.r10_dirchain.specs.OnMedium.{IsWrittenByteForByte, SameButIn, Turned,
 use Rattle.r10_dirchain.specs.Steps.{added, last_block, last_is_full, next_number, spare}
 use Rattle.r10_dirchain.specs.declared.chain.ChainBlock.{ChainBlock}
 use Rattle.r10_dirchain.proofs.Directories.{still_directory}
-use Rattle.r10_dirchain.proofs.Standing.{usable_of}
+use Rattle.r10_dirchain.proofs.RulesAsFacts.{usable_of}
 use Rattle.r10_dirchain.proofs.Turning.{on_ok}
 use Rattle.r10_dirchain.proofs.Unique.{one_directory}
 use Rattle.r10_dirchain.proofs.Usable.{placed}
@@ -76,7 +76,7 @@ module _ {T E : Type 0} (s : Config) (chain : List ChainBlock) (files : List Fil
   made : (image : Image) → Turned (added e chain) changed mid.blocks image → MediumSays s image (files ++ f ∷ [])
   made image turned = begun_says s mid.blocks chain files r f e whole held begun closed few lists image turned
 
-  -- at every moment the files that there were, or those with this one, where a stop left them before by the same directory
+  -- at every moment the files that there were, or those with this one, where a power loss left them before by the same directory
   pub begun_moments : Settled (λ image. MediumSays s image files × IsDirectory image chain) mid → Leaves (λ image. MediumSays s image files ⊎ MediumSays s image (files ++ f ∷ [])) mid new
   begun_moments settled =
       weakened (λ image. ComesBy (SameButIn (spare chain)) mid image ⊎ Turned (added e chain) changed mid.blocks image) (λ image. MediumSays s image files ⊎ MediumSays s image (files ++ f ∷ [])) mid new
@@ -98,7 +98,7 @@ module _ {T E : Type 0} (s : Config) (chain : List ChainBlock) (files : List Fil
       on_ok result (Settled turned new) (HoldsFiles s new.blocks (added e chain) (Some (record { recording = r; shown = length r.out.entries })) (files ++ f ∷ []))
       (λ settled. begun_holds s mid.blocks chain files r f e whole held begun closed few lists new.blocks (settled_reads turned new settled)) turns.settled
 
-  -- a stop then leaves them with the file's bytes that are read, by the new directory
+  -- a power loss then leaves them with the file's bytes that are read, by the new directory
   pub begun_settled : OnOk result (Settled (λ image. MediumSays s image (files ++ f ∷ []) × (bytes_from image f.first_block f.size ≡ bytes_from new.blocks f.first_block f.size) × IsDirectory image (added e chain)) new)
   begun_settled =
       let turned : Image → Type 0 = Turned (added e chain) changed mid.blocks in
@@ -106,6 +106,6 @@ module _ {T E : Type 0} (s : Config) (chain : List ChainBlock) (files : List Fil
       on_ok result (Settled turned new) (Settled (λ image. MediumSays s image (files ++ f ∷ []) × (bytes_from image f.first_block f.size ≡ bytes_from new.blocks f.first_block f.size) × IsDirectory image (added e chain)) new)
       (λ settled image now. (made image (settled image now), bytes image (settled image now) ∙ sym (bytes new.blocks (settled_reads turned new settled)), (settled image now).directory)) turns.settled
 
--- of a medium that was synced, a stop leaves what is read
+-- of a medium that was synced, a power loss leaves what is read
 pub sure_says : (s : Config) (disk : Disk) (chain : List ChainBlock) (files : List File) → IsSynced disk → HoldsFiles s disk.blocks chain None files → Settled (λ image. MediumSays s image files × IsDirectory image chain) disk
 sure_says s disk chain files synced held image now = subst (λ (l : Image). MediumSays s l files × IsDirectory l chain) (sym (one_image disk synced image now)) (held.says, held.directory)

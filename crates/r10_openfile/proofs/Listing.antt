@@ -24,12 +24,12 @@ use Rattle.r10_dirchain.specs.Steps.{added, extended, with_entry_more, last_bloc
 use Rattle.r10_dirchain.specs.declared.chain.ChainBlock.{ChainBlock}
 use Rattle.r10_dirchain.proofs.Directories.{some_block}
 use Rattle.r10_dirchain.proofs.FileLists.{files-added}
-use Rattle.r10_dirchain.proofs.Standing.{usable_of}
+use Rattle.r10_dirchain.proofs.RulesAsFacts.{usable_of}
 use Rattle.r10_dirchain.proofs.Staying.{usable-added}
 use Rattle.r10_dirchain.proofs.Unique.{one_directory}
 use Rattle.r10_dirchain.proofs.Usable.{placed}
 use Rattle.r10_volume.specs.Holding.{HoldsFiles, IsWritten, OpenState}
-use Rattle.r10_volume.proofs.Found.{found_stays}
+use Rattle.r10_volume.proofs.OtherFilesStay.{found_stays}
 use Rattle.r10_body.proofs.Lengths.{file_some}
 use Rattle.r10_machine.specs.Checks.{is_sealed}
 use Rattle.r10_machine.specs.Config.{Config}

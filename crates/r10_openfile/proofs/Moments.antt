@@ -7,7 +7,7 @@ use Rattle.r10_machine.specs.Config.{Config}
 use Rattle.r10_machine.specs.Machine.{File}
 use Rattle.r10_medium.specs.Disk.{Disk, Image, IsWhole}
 use Rattle.r10_medium.specs.Stop.{ComesBy, Leaves, PutsSome}
-use Rattle.r10_medium.proofs.Stops.{below_puts, reads_now, settled_now, weakened, whole_left}
+use Rattle.r10_medium.proofs.PowerLoss.{below_puts, reads_now, settled_now, weakened, whole_left}
 use Rattle.r10_machine.proofs.Said.{growing_stands}
 use Rattle.r10_openfile.specs.Keeping.{StopKeepsFiles, Keeps, StaysKept}
 
@@ -31,7 +31,7 @@ kept_put s files f bytes n old new within shows put kept =
     weakened (ComesBy (PutsSome f.first_block (first_blocks bytes n)) old) (Keeps s files f old.blocks) old new
     (λ image from. keeps_put s files f bytes n old.blocks from.0 image (whole_left old from.0 from.1) within shows from.2 (kept from.0 from.1)) put.moments
 
--- what a stop leaves then has the bytes that are read then
+-- what a power loss leaves then has the bytes that are read then
 pub kept_now : (s : Config) (files : List File) (f : File) (old new : Disk) → Leaves (Keeps s files f old.blocks) old new → StopKeepsFiles s files f new
 kept_now s files f old new run image now =
     let left = settled_now (Keeps s files f old.blocks) old new run in

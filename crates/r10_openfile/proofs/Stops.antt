@@ -19,7 +19,7 @@ use Rattle.r10_machine.specs.Room.{TakesIn, area}
 use Rattle.r10_mux.specs.declared.fault.Full.{Full}
 use Rattle.r10_machine.specs.Step.{LanesAfter}
 use Rattle.r10_machine.specs.declared.event.Event.TheVariants as events
-use Rattle.r10_openfile.specs.Machines.{AreMoved, HasWaiting}
+use Rattle.r10_openfile.specs.Machines.{StopMovesAll, HasWaiting}
 use Rattle.r10_openfile.specs.Pumping.{PumpEnds, SampleLacks, entries_on}
 use Rattle.r10_openfile.specs.Stopping.{OthersGoOn, GoesThrough, Part, entries_of, most_of, samples_on}
 use Rattle.r10_openfile.proofs.AllLanes.{none_of as none_of_lanes}
@@ -107,7 +107,7 @@ split_parts s f r lanes (p ∷ parts) waits within through =
 
 -- ---- a stop
 
-pub stop_takes_in : (s : Config) (f : File) (lanes : List Lane) (parts : List Part) (n : ℕ) (r : Recording) → AreMoved s f lanes parts n r
+pub stop_takes_in : (s : Config) (f : File) (lanes : List Lane) (parts : List Part) (n : ℕ) (r : Recording) → StopMovesAll s f lanes parts n r
     → TakesIn s f (all_waiting lanes) n × (take n (all_waiting lanes) ≡ entries_of parts)
 stop_takes_in s f lanes parts n r moved =
     let front : List Entry = entries_of parts in

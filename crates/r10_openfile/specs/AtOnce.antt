@@ -19,8 +19,8 @@ pub record HasTurned (first : ℕ) (made : List ChainBlock) (numbers : List ℕ)
   pub directory : IsDirectory new made
   pub front : SameFront first numbers old new
 
--- at a moment: in front of this block is what a stop could leave before, but in blocks that nothing links to; or what was read, with
--- this directory
+-- at a moment: in front of this block is what a power loss could leave before, but in blocks that nothing links to; or what was
+-- read, with this directory
 abbrev pub IsTurning : ℕ → List ChainBlock → List ℕ → List ℕ → Disk → Image → Type 0
 IsTurning first made unlinked changed old image =
     ComesBy (SameFront first unlinked) old image ⊎ HasTurned first made changed old.blocks image

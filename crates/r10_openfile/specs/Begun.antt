@@ -39,8 +39,10 @@ pub record IsBegun (s : Config) (image : Image) (files : List File) (r : Recordi
   pub shows : Shows image f.first_block (file_bytes carries.packets)
   pub says : FileSays (file_bytes carries.packets) f.setup f.entries false
 
--- after these files, which are closed, a file was written whose packets are all carried and nothing of which is open; this entry lists it, and there is a place for it
-pub record MayList (s : Config) (image : Image) (chain : List ChainBlock) (files : List File) (r : Recording) (f : File) (e : DirectoryEntry) : Type 0 where
+-- after these files, which are closed, a file was written whose packets are all carried and nothing of which is open; this
+-- entry lists it, and there is a place for it
+pub record MayList (s : Config) (image : Image) (chain : List ChainBlock) (files : List File) (r : Recording) (f : File)
+    (e : DirectoryEntry) : Type 0 where
   pub held : HoldsFiles s image chain None files
   pub sealed : is_sealed files ≡ true
   pub few : length files < most_files s

@@ -11,9 +11,11 @@ use Rattle.r10_dirchain.specs.declared.chain.ChainBlock.{ChainBlock}
 use Rattle.r10_medium.specs.Disk.{Disk, Image}
 use Rattle.r10_medium.specs.Stop.{ComesBy, Leaves, PutsSome, Settled}
 
--- Blocks of the file with these bytes were put over the old image, and nothing else; what is between shows from the first block on a file that says this text and these entries, closed or not, as long as an entry tells. Over that the
+-- Blocks of the file with these bytes were put over the old image, and nothing else; what is between shows from the first
+-- block on a file that says this text and these entries, closed or not, as long as an entry tells. Over that the
 -- directory lists the last file by the entry.
-pub record ListsPut (first : ℕ) (bytes text : List ℕ) (entries : List Entry) (closed : Bool) (e : DirectoryEntry) (chain : List ChainBlock) (old image : Image) : Type 0 where
+pub record ListsPut (first : ℕ) (bytes text : List ℕ) (entries : List Entry) (closed : Bool) (e : DirectoryEntry)
+    (chain : List ChainBlock) (old image : Image) : Type 0 where
   pub between : Image
   pub puts : PutsSome first (file_blocks bytes) old between
   pub says : FileSays (bytes_from between first e.size) text entries closed
@@ -21,11 +23,15 @@ pub record ListsPut (first : ℕ) (bytes text : List ℕ) (entries : List Entry)
 
 -- at a moment: blocks of the file are put over those that could be left, or it is listed so
 abbrev pub IsRelisting : ℕ → List ℕ → List ℕ → List Entry → Bool → DirectoryEntry → List ChainBlock → Disk → Image → Type 0
-IsRelisting first bytes text entries closed e chain old image = ComesBy (PutsSome first (file_blocks bytes)) old image ⊎ ListsPut first bytes text entries closed e chain old.blocks image
+IsRelisting first bytes text entries closed e chain old image = ComesBy (PutsSome first (file_blocks bytes)) old image
+    ⊎ ListsPut first bytes text entries closed e chain old.blocks image
 
--- More came after the bytes that the file carried. At every moment, and where the medium fails, blocks of the file are put, or it is listed anew after them; after an Ok a stop leaves it listed so.
-pub record RelistsByParts {T E : Type 0} (first : ℕ) (bytes text : List ℕ) (entries : List Entry) (closed : Bool) (e : DirectoryEntry) (chain : List ChainBlock) (old new : Disk) (result : Result T E) : Type 0 where
+-- More came after the bytes that the file carried. At every moment, and where the medium fails, blocks of the file are put, or
+-- it is listed anew after them; after an Ok a power loss leaves it listed so.
+pub record RelistsByParts {T E : Type 0} (first : ℕ) (bytes text : List ℕ) (entries : List Entry) (closed : Bool)
+    (e : DirectoryEntry) (chain : List ChainBlock) (old new : Disk) (result : Result T E) : Type 0 where
   pub more : List ℕ
   pub moments : Leaves (IsRelisting first (bytes ++ more) text entries closed e chain old) old new
-  pub reads : PutsSome first (file_blocks (bytes ++ more)) old.blocks new.blocks ⊎ ListsPut first (bytes ++ more) text entries closed e chain old.blocks new.blocks
-  pub sure : OnOk result (Settled (ListsPut first (bytes ++ more) text entries closed e chain old.blocks) new)
+  pub reads : PutsSome first (file_blocks (bytes ++ more)) old.blocks new.blocks
+      ⊎ ListsPut first (bytes ++ more) text entries closed e chain old.blocks new.blocks
+  pub durable : OnOk result (Settled (ListsPut first (bytes ++ more) text entries closed e chain old.blocks) new)

@@ -24,7 +24,7 @@ use Rattle.r10_machine.specs.declared.mode.Mode.TheVariants.{Idle}
 use Rattle.r10_machine.specs.declared.mode.Stopped.{Stopped}
 use Rattle.r10_mux.specs.declared.fault.Full.{Full}
 use Rattle.r10_openfile.specs.Begun.{IsBegun, IsPut}
-use Rattle.r10_openfile.specs.Machines.{AreMoved, IsPumpedInto, refusal_of_full}
+use Rattle.r10_openfile.specs.Machines.{StopMovesAll, IsPumpedInto, refusal_of_full}
 use Rattle.r10_openfile.specs.Pumping.{EndsBy, PumpEnds, entries_on}
 use Rattle.r10_openfile.specs.Stopping.{ChannelsAreApart, Part, entries_of}
 
@@ -45,11 +45,12 @@ FullPumpsAreRefused =
     (full : Full) (r : Recording) → lane_of channel m ≡ Some lane → last_file m ≡ Some f
     → IsPumpedInto s f lane most 0 samples rest (Some full) r → Lacks s m (Pump channel most) (refusal_of_full full)
 
--- one whose limit was lowered to what waited in its lane ends as one with the higher limit; where it isn't known what waited, there is
--- a rest with which that one ends so
+-- one whose limit was lowered to what waited in its lane ends as one with the higher limit; where it isn't known what waited,
+-- there is a rest with which that one ends so
 abbrev pub PumpsEndAlike : Type 0
 PumpsEndAlike =
-    (waits : Option (List Sample)) (samples rest : List Sample) (r : Recording) (channel area most larger n : ℕ) (full : Option Full)
+    (waits : Option (List Sample)) (samples rest : List Sample) (r : Recording) (channel area most larger n : ℕ)
+    (full : Option Full)
     → IfSome waits (λ waiting. waiting ≡ samples ++ rest) → IfSome waits (λ waiting. most ≡ min larger (length waiting))
     → most ≤ larger → n ≡ length samples → PumpEnds r channel area most n rest full → (later : List Sample)
     × IfSome waits (λ waiting. waiting ≡ samples ++ later) × PumpEnds r channel area larger n later full
@@ -64,7 +65,7 @@ FailedPumpsTakeFew =
 abbrev pub StopsAreWholeSteps : Type 0
 StopsAreWholeSteps =
     (s : Config) (m : Machine) (f : File) (answer : Stopped) (parts : List Part) (r : Recording) (new : Machine)
-    → last_file m ≡ Some f → AreMoved s f m.lanes parts answer.taken r → ChannelsAreApart (map (λ lane. lane.spec) m.lanes)
+    → last_file m ≡ Some f → StopMovesAll s f m.lanes parts answer.taken r → ChannelsAreApart (map (λ lane. lane.spec) m.lanes)
     → answer.left ≡ sum_by (λ p. length p.rest) parts → new ≡ record m {
       mode = Idle;
       lanes = lanes_without (entries_of parts) m.lanes;

@@ -8,7 +8,7 @@ pub mod Carrying
 pub mod Entering
 pub mod Relisting
 pub mod Begins
-pub mod Asking
+pub mod FileRequirements
 pub mod ByParts
 pub mod Pumping
 pub mod Machines

@@ -14,8 +14,10 @@ use Rattle.r10_mux.specs.declared.fault.Full.TheVariants as lacking
 use Rattle.r10_openfile.specs.Pumping.{PumpEnds, entries_on}
 use Rattle.r10_openfile.specs.Stopping.{GoesThrough, Part, entries_of, most_of}
 
--- Of all that waits in a lane, a pump moved the first samples, so many, into a file. After them the file costs what the machine's file with them costs.
-pub record IsPumpedInto (s : Config) (f : File) (lane : Lane) (most n : ℕ) (samples rest : List Sample) (full : Option Full) (r : Recording) : Type 0 where
+-- Of all that waits in a lane, a pump moved the first samples, so many, into a file. After them the file costs what the
+-- machine's file with them costs.
+pub record IsPumpedInto (s : Config) (f : File) (lane : Lane) (most n : ℕ) (samples rest : List Sample) (full : Option Full)
+    (r : Recording) : Type 0 where
   pub waits : lane.waiting ≡ samples ++ rest
   pub number : n ≡ length samples
   pub within : n ≤ most
@@ -31,8 +33,9 @@ refusal_of_full lacking.Medium = MediumFull
 abbrev pub HasWaiting : List Lane → Part → Type 0
 HasWaiting lanes p = AllByRecursion (λ (lane : Lane). lane.spec.id ≡ p.channel → lane.waiting ≡ p.samples ++ p.rest) lanes
 
--- Of all that waits in lanes, a stop moved the first samples of each channel, by the rising order of channels, into a file. After them the file costs what the machine's file with them costs.
-pub record AreMoved (s : Config) (f : File) (lanes : List Lane) (parts : List Part) (n : ℕ) (r : Recording) : Type 0 where
+-- Of all that waits in lanes, a stop moved the first samples of each channel, by the rising order of channels, into a file.
+-- After them the file costs what the machine's file with them costs.
+pub record StopMovesAll (s : Config) (f : File) (lanes : List Lane) (parts : List Part) (n : ℕ) (r : Recording) : Type 0 where
   pub order_is : map (λ p. p.channel) parts ≡ rising (map (λ (lane : Lane). lane.spec.id) lanes)
   pub waits : AllByRecursion (HasWaiting lanes) parts
   pub within : AllByRecursion (λ p. length p.samples ≤ most_of (map (λ (lane : Lane). lane.spec) lanes) p.channel) parts

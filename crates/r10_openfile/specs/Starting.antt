@@ -20,12 +20,14 @@ use Rattle.r10_openfile.specs.declared.fault.BeginFault.TheVariants.{Full, Memor
 
 -- a setup text and a time have room after the files that are listed
 abbrev pub begins_within : Config → List DirectoryEntry → List ℕ → ℕ → Parts → Bool
-begins_within s entries text count civil = nat_le (file_cost text [] + entry_cost (time_entry_at s.time count civil)) (area_from s (block_behind s.directory entries))
+begins_within s entries text count civil = nat_le (file_cost text [] + entry_cost (time_entry_at s.time count civil))
+    (area_from s (block_behind s.directory entries))
 
 -- the file that begins after these: it shows a setup text and a time, a packet each
 abbrev pub begun_file : Config → List File → List ℕ → List ℕ → ℕ → Parts → File
 begun_file s files name text count civil =
-    shown_whole (length (file_bytes (first_packets s.time text count civil))) (with_entries (time_entry_at s.time count civil ∷ []) (empty_file s files name text))
+    shown_whole (length (file_bytes (first_packets s.time text count civil)))
+    (with_entries (time_entry_at s.time count civil ∷ []) (empty_file s files name text))
 
 -- builders of the same channels, which hold what these held
 pub record AreGivenBack (builders back : List BuilderState) : Type 0 where
@@ -34,8 +36,10 @@ pub record AreGivenBack (builders back : List BuilderState) : Type 0 where
 
 -- why no file was begun, where there is room for it or not: it lacks room, or memory, and nothing has changed; or the medium failed
 abbrev pub OpenFileNotBegun : {M : Type 0} → Bool → M → M → List BuilderState → ℕ → ℕ → BeginFault → Type 0
-OpenFileNotBegun room medium medium' builders failures failures' (Full back) = (room ≡ false) × AreGivenBack builders back × (medium' ≡ medium)
-OpenFileNotBegun room medium medium' builders failures failures' (Memory back) = (room ≡ true) × AreGivenBack builders back × (medium' ≡ medium)
+OpenFileNotBegun room medium medium' builders failures failures' (Full back) = (room ≡ false) × AreGivenBack builders back
+    × (medium' ≡ medium)
+OpenFileNotBegun room medium medium' builders failures failures' (Memory back) = (room ≡ true) × AreGivenBack builders back
+    × (medium' ≡ medium)
 OpenFileNotBegun room medium medium' builders failures failures' (Medium fault) = (room ≡ true) × Rose failures failures'
 
 -- after these files one more is listed, from this block on

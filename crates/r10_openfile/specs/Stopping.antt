@@ -1,5 +1,6 @@
 -- What a stop moves from all lanes, channel by channel.
-use Rattle.std.specs.Prelude.{◌≡◌, ℕ, ◌+◌, ◌-◌, ◌*◌, ◌^◌, ◌<◌, ◌≤◌, ◌==◌, cond, List, [], ◌∷◌, ◌++◌, find, length, map, min, Option, None, Some, IfSome}
+use Rattle.std.specs.Prelude.{◌≡◌, ℕ, ◌+◌, ◌-◌, ◌*◌, ◌^◌, ◌<◌, ◌≤◌, ◌==◌, cond, List, [], ◌∷◌, ◌++◌, find, length, map, min}
+use Rattle.std.specs.Prelude.{Option, None, Some, IfSome}
 use Rattle.std.specs.List.{AllByRecursion, flat_map, sum_by}
 use Rattle.r10_medium.specs.Disk.{Disk, Image, Rose}
 use Rattle.r10_blockout.specs.Output.{first_of}
@@ -32,8 +33,10 @@ ChannelsAreApart (spec ∷ specs) = AllByRecursion (λ (other : ChannelSpec). ot
 abbrev pub AllEnd : {Lane : Type 0} → (Lane → ChannelSpec) → (Lane → ℕ) → List Lane → List Entry → Type 0
 AllEnd spec_of reached lanes entries = AllByRecursion (λ lane. EndsBy (spec_of lane).id (reached lane) entries) lanes
 
--- the file goes on with samples of all lanes, each of a channel of its own, in an area that lies on the medium after the file's first block
-pub record IsOpenToAll {Lane : Type 0} (spec_of : Lane → ChannelSpec) (reached : Lane → ℕ) (r : Recording) (image : Image) (lanes : List Lane) (area : ℕ) : Type 0 where
+-- the file goes on with samples of all lanes, each of a channel of its own, in an area that lies on the medium after the
+-- file's first block
+pub record IsOpenToAll {Lane : Type 0} (spec_of : Lane → ChannelSpec) (reached : Lane → ℕ) (r : Recording) (image : Image)
+    (lanes : List Lane) (area : ℕ) : Type 0 where
   pub text : List ℕ
   pub entries : List Entry
   pub carries : Records r image text entries
@@ -59,14 +62,17 @@ abbrev pub samples_on : ℕ → List Part → List Sample
 samples_on channel parts = flat_map (λ p. cond (channel == p.channel) p.samples []) parts
 
 -- each lane gave the samples of its channel, and no others
-abbrev pub TookAll : {Lane : Type 0} → (Lane → List Sample → Lane → Type 0) → (Lane → ChannelSpec) → List Part → List Lane → List Lane → Type 0
+abbrev pub TookAll : {Lane : Type 0} → (Lane → List Sample → Lane → Type 0) → (Lane → ChannelSpec) → List Part → List Lane
+    → List Lane → Type 0
 TookAll took spec_of parts [] [] = Unit {0}
-TookAll took spec_of parts (a ∷ lanes) (b ∷ lanes') = took a (samples_on (spec_of a).id parts) b × TookAll took spec_of parts lanes lanes'
+TookAll took spec_of parts (a ∷ lanes) (b ∷ lanes') = took a (samples_on (spec_of a).id parts) b
+    × TookAll took spec_of parts lanes lanes'
 TookAll took spec_of parts lanes lanes' = ⊥
 
 -- the samples and the rest of a part are all that waited in its channel's lane, where that is quiet
 abbrev pub TellsWaiting : {Lane : Type 0} → (Lane → Option (List Sample)) → (Lane → ChannelSpec) → List Lane → Part → Type 0
-TellsWaiting quiet spec_of lanes p = AllByRecursion (λ lane. (spec_of lane).id ≡ p.channel → IfSome (quiet lane) (λ waiting. waiting ≡ p.samples ++ p.rest)) lanes
+TellsWaiting quiet spec_of lanes p = AllByRecursion (λ lane. (spec_of lane).id ≡ p.channel
+    → IfSome (quiet lane) (λ waiting. waiting ≡ p.samples ++ p.rest)) lanes
 
 -- the others go on, or nothing was taken of them where a sample had no room
 abbrev pub OthersGoOn : Option Full → Type 0 → List Part → Type 0
@@ -76,10 +82,13 @@ OthersGoOn (Some full) others parts = AllByRecursion (λ q. q.samples ≡ []) pa
 -- channel by channel all went in that may, up to the first sample that has no room; after it none did
 abbrev pub GoesThrough : (ℕ → ℕ) → Recording → ℕ → List Part → Type 0
 GoesThrough most r area [] = Unit {0}
-GoesThrough most r area (p ∷ parts) = PumpEnds r p.channel area (most p.channel) (length p.samples) p.rest p.full × OthersGoOn p.full (GoesThrough most r area parts) parts
+GoesThrough most r area (p ∷ parts) = PumpEnds r p.channel area (most p.channel) (length p.samples) p.rest p.full
+    × OthersGoOn p.full (GoesThrough most r area parts) parts
 
--- From all lanes, in the order of these channels, so many samples of each were taken, no more of a channel than may be, so many in all, and so many are left. They were taken into the file, which has room for them.
-pub record PumpsAll {Lane : Type 0} (took : Lane → List Sample → Lane → Type 0) (quiet : Lane → Option (List Sample)) (reached : Lane → ℕ) (spec_of : Lane → ChannelSpec) (order shares : List ℕ) (area : ℕ)
+-- From all lanes, in the order of these channels, so many samples of each were taken, no more of a channel than may be, so
+-- many in all, and so many are left. They were taken into the file, which has room for them.
+pub record PumpsAll {Lane : Type 0} (took : Lane → List Sample → Lane → Type 0) (quiet : Lane → Option (List Sample))
+    (reached : Lane → ℕ) (spec_of : Lane → ChannelSpec) (order shares : List ℕ) (area : ℕ)
     (lanes lanes' : List Lane) (old : Recording) (before : Disk) (new : Recording) (after : Disk) (stopped : Stopped) : Type 0 where
   pub parts : List Part
   pub order_is : map (λ p. p.channel) parts ≡ order
@@ -93,32 +102,40 @@ pub record PumpsAll {Lane : Type 0} (took : Lane → List Sample → Lane → Ty
   pub taken_in : TakenIn (AllEnd spec_of reached lanes) (AllEnd spec_of reached lanes') (entries_of parts) old before new after
   pub through : GoesThrough (most_of (map spec_of lanes)) new area parts
 
--- The medium failed, and these samples had been taken from the lanes, no more of a channel than may be: what was shown of the file stays shown.
-pub record FailsAll {Lane : Type 0} (took : Lane → List Sample → Lane → Type 0) (reached : Lane → ℕ) (spec_of : Lane → ChannelSpec) (order : List ℕ) (lanes lanes' : List Lane) (old : Recording) (before after : Disk) : Type 0 where
+-- The medium failed, and these samples had been taken from the lanes, no more of a channel than may be: what was shown of the
+-- file stays shown.
+pub record FailsAll {Lane : Type 0} (took : Lane → List Sample → Lane → Type 0) (reached : Lane → ℕ) (spec_of : Lane → ChannelSpec)
+    (order : List ℕ) (lanes lanes' : List Lane) (old : Recording) (before after : Disk) : Type 0 where
   pub parts : List Part
   pub taken : TookAll took spec_of parts lanes lanes'
   pub within : AllByRecursion (λ p. length p.samples ≤ most_of (map spec_of lanes) p.channel) parts
   pub later : List ℕ
   pub order_is : map (λ p. p.channel) parts ++ later ≡ order
-  pub writes : (text : List ℕ) (entries : List Entry) (carried : Records old before.blocks text entries) → AllEnd spec_of reached lanes entries → Writes (first_of old.out.blocks) (file_bytes carried.packets) before after
+  pub writes : (text : List ℕ) (entries : List Entry) (carried : Records old before.blocks text entries)
+      → AllEnd spec_of reached lanes entries → Writes (first_of old.out.blocks) (file_bytes carried.packets) before after
   pub rose : Rose before.failures after.failures
 
 -- ---- one channel of them
 
 -- samples were moved, and so many are left
-abbrev pub MovesLeaving : {Lane : Type 0} → (Lane → List Sample → Lane → Type 0) → (Lane → Option (List Sample)) → (Lane → ℕ) → ℕ → ℕ → ℕ → Lane → Lane → Recording → Disk → Recording → Disk → ℕ → Option Full → ℕ → Type 0
+abbrev pub MovesLeaving : {Lane : Type 0} → (Lane → List Sample → Lane → Type 0) → (Lane → Option (List Sample)) → (Lane → ℕ) → ℕ
+    → ℕ → ℕ → Lane → Lane → Recording → Disk → Recording → Disk → ℕ → Option Full → ℕ → Type 0
 MovesLeaving took quiet reached channel most area lane lane' old before new after n full left =
     (moves : MovesSamples took quiet reached channel most area lane lane' old before new after n full) × (left ≡ length moves.rest)
 
 -- the lanes of a channel gave these samples, and the others none
-abbrev pub OneTook : {Lane : Type 0} → (Lane → List Sample → Lane → Type 0) → (Lane → ChannelSpec) → ℕ → List Sample → List Lane → List Lane → Type 0
+abbrev pub OneTook : {Lane : Type 0} → (Lane → List Sample → Lane → Type 0) → (Lane → ChannelSpec) → ℕ → List Sample → List Lane
+    → List Lane → Type 0
 OneTook took spec_of channel samples [] [] = Unit {0}
-OneTook took spec_of channel samples (a ∷ lanes) (b ∷ lanes') = took a (cond ((spec_of a).id == channel) samples []) b × OneTook took spec_of channel samples lanes lanes'
+OneTook took spec_of channel samples (a ∷ lanes) (b ∷ lanes') = took a (cond ((spec_of a).id == channel) samples []) b
+    × OneTook took spec_of channel samples lanes lanes'
 OneTook took spec_of channel samples lanes lanes' = ⊥
 
 -- from a channel's lane these samples were taken, at most so many, and so many are left
-pub record PumpsOne {Lane : Type 0} (took : Lane → List Sample → Lane → Type 0) (quiet : Lane → Option (List Sample)) (reached : Lane → ℕ) (spec_of : Lane → ChannelSpec) (channel most area : ℕ)
-    (lanes lanes' : List Lane) (old : Recording) (before : Disk) (new : Recording) (after : Disk) (n left : ℕ) (full : Option Full) : Type 0 where
+pub record PumpsOne {Lane : Type 0} (took : Lane → List Sample → Lane → Type 0) (quiet : Lane → Option (List Sample))
+    (reached : Lane → ℕ) (spec_of : Lane → ChannelSpec) (channel most area : ℕ)
+    (lanes lanes' : List Lane) (old : Recording) (before : Disk) (new : Recording) (after : Disk) (n left : ℕ)
+    (full : Option Full) : Type 0 where
   pub samples : List Sample
   pub rest : List Sample
   pub taken : OneTook took spec_of channel samples lanes lanes'
@@ -127,12 +144,15 @@ pub record PumpsOne {Lane : Type 0} (took : Lane → List Sample → Lane → Ty
   pub left_is : left ≡ length rest
   pub within : n ≤ most
   pub fits : 0 < n → new.cost ≤ area
-  pub taken_in : TakenIn (AllEnd spec_of reached lanes) (AllEnd spec_of reached lanes') (entries_on channel samples) old before new after
+  pub taken_in : TakenIn (AllEnd spec_of reached lanes) (AllEnd spec_of reached lanes')
+      (entries_on channel samples) old before new after
   pub ends : PumpEnds new channel area most n rest full
 
-pub record FailsOne {Lane : Type 0} (took : Lane → List Sample → Lane → Type 0) (reached : Lane → ℕ) (spec_of : Lane → ChannelSpec) (channel most : ℕ) (lanes lanes' : List Lane) (old : Recording) (before after : Disk) : Type 0 where
+pub record FailsOne {Lane : Type 0} (took : Lane → List Sample → Lane → Type 0) (reached : Lane → ℕ) (spec_of : Lane → ChannelSpec)
+    (channel most : ℕ) (lanes lanes' : List Lane) (old : Recording) (before after : Disk) : Type 0 where
   pub samples : List Sample
   pub taken : OneTook took spec_of channel samples lanes lanes'
   pub within : length samples ≤ most
-  pub writes : (text : List ℕ) (entries : List Entry) (carried : Records old before.blocks text entries) → AllEnd spec_of reached lanes entries → Writes (first_of old.out.blocks) (file_bytes carried.packets) before after
+  pub writes : (text : List ℕ) (entries : List Entry) (carried : Records old before.blocks text entries)
+      → AllEnd spec_of reached lanes entries → Writes (first_of old.out.blocks) (file_bytes carried.packets) before after
   pub rose : Rose before.failures after.failures

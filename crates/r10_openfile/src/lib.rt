@@ -1,6 +1,6 @@
 //! The file that is recorded, over any medium and its directory, from its begin to its close, and what waits in lanes goes into it:
 //! the first of a lane, in order, up to one that has no room. Each call puts the file's data first, and then at most one entry of
-//! the directory, so that a stop at any moment leaves the files that there were or those that the call makes.
+//! the directory, so that a power loss at any moment leaves the files that there were or those that the call makes.
 #![tactic(auto)]
 
 mod channels;

@@ -6,7 +6,7 @@ use Rattle.r10_packet.specs.Framing.{header_at, has_lengths, header_fault}
 use Rattle.r10_packet.specs.declared.header.Header.{Header}
 use Rattle.r10_packet.specs.declared.fault.PacketFault.{PacketFault}
 use Rattle.r10_packet.proofs.Fields.{AreBytes, header_back, fields_fit, header_again, sync_again, total_again}
-use Rattle.r10_packet.proofs.Kept.{sound_of, no_header_fault}
+use Rattle.r10_packet.proofs.NoRuleBroken.{sound_of, no_header_fault}
 
 -- what reading a header found
 abbrev pub IsReadAs : List ℕ → Header → Type 0

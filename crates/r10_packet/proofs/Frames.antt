@@ -3,7 +3,7 @@ use Rattle.std.proofs.Common.{◌≡◌, ℕ, ◌+◌, ◌-◌, ◌*◌, ◌/◌
 use Rattle.std.proofs.lemmas.List.{length-append, length-drop, drop_at}
 use Rattle.r10_packet.specs.Sums.{data_checksum}
 use Rattle.r10_packet.specs.Header.{FitsHeader, checksum_bits}
-use Rattle.r10_packet.specs.Packet.{filled, least_filler, framed, framed_bytes, IsPacket}
+use Rattle.r10_packet.specs.Packet.{with_trailer, least_filler, framed, framed_bytes, IsPacket}
 use Rattle.r10_packet.specs.declared.header.Header.{Header}
 use Rattle.r10_packet.proofs.Lengths.{least_length, framed_length}
 
@@ -17,7 +17,7 @@ packet_len_is h body = omega (arith, least_length h.flags body)
 
 pub framed_is : (bits w : ℕ) (hd body x0 x1 x2 x3 x4 : List ℕ) (n : ℕ) → w ≡ bits / 8 → length hd ≡ 24 → x0 ≡ [] → x1 ≡ x0 ++ hd → x2 ≡ x1 ++ body
     → n ≡ (length body + w + 27) / 4 * 4 - w → x3 ≡ take n x2 ++ replicate (n - length x2) 0 → x4 ≡ x3 ++ data_checksum bits (drop 24 x3)
-    → w ≤ 4 → x4 ≡ hd ++ filled bits body (least_filler bits body)
+    → w ≤ 4 → x4 ≡ hd ++ with_trailer bits body (least_filler bits body)
 framed_is bits w hd body x0 x1 x2 x3 x4 n ew len e0 e1 e2 en e3 e4 small =
     let start : x2 ≡ hd ++ body = e2 ∙ ap (λ t. t ++ body) (e1 ∙ ap (λ t. t ++ hd) e0) in
     let long : length x2 ≡ 24 + length body = ap (λ t. length t) start ∙ length-append hd body ∙ ap (λ m. m + length body) len in

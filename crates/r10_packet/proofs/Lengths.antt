@@ -4,7 +4,7 @@ use Rattle.std.specs.Prelude.{slice_index}
 use Rattle.std.proofs.lemmas.List.{length-replicate}
 use Rattle.r10_packet.specs.Sums.{data_checksum}
 use Rattle.r10_packet.specs.Header.{header_bytes, checksum_bits, check_bits_of, flags_of}
-use Rattle.r10_packet.specs.Packet.{filled, least_filler, framed_bytes, framed}
+use Rattle.r10_packet.specs.Packet.{with_trailer, least_filler, framed_bytes, framed}
 use Rattle.r10_packet.specs.declared.header.Header.{Header}
 use Rattle.r10_packet.specs.declared.check.Check.{Check}
 use Rattle.r10_packet.specs.declared.check.Check.TheVariants.{Nothing, Sum8, Sum16, Sum32}
@@ -35,7 +35,7 @@ pub checksum_width : (flags : ℕ) → checksum_bits flags / 8 ≤ 4
 checksum_width flags = width_at (flags % 4) (omega arith)
 
 -- body, filler and checksum, whatever the filler
-pub filled_length : (flags : ℕ) (body filler : List ℕ) → length (filled (checksum_bits flags) body filler) ≡ length body + length filler + checksum_bits flags / 8
+pub filled_length : (flags : ℕ) (body filler : List ℕ) → length (with_trailer (checksum_bits flags) body filler) ≡ length body + length filler + checksum_bits flags / 8
 filled_length flags body filler =
     let bits = checksum_bits flags in
     let front : length (body ++ filler) ≡ length body + length filler = length-append body filler in
@@ -44,7 +44,7 @@ filled_length flags body filler =
     omega arith
 
 -- with the least filler they are whole words
-pub least_length : (flags : ℕ) (body : List ℕ) → length (filled (checksum_bits flags) body (least_filler (checksum_bits flags) body)) ≡ (length body + checksum_bits flags / 8 + 3) / 4 * 4
+pub least_length : (flags : ℕ) (body : List ℕ) → length (with_trailer (checksum_bits flags) body (least_filler (checksum_bits flags) body)) ≡ (length body + checksum_bits flags / 8 + 3) / 4 * 4
 least_length flags body =
     let n : ℕ = checksum_bits flags / 8 in
     let fill : length (least_filler (checksum_bits flags) body) ≡ (4 - (length body + n) % 4) % 4 = length-replicate {A = ℕ} ((4 - (length body + n) % 4) % 4) 0 in
@@ -54,8 +54,8 @@ least_length flags body =
 pub framed_length : (h : Header) (body : List ℕ) → length (framed_bytes h body) ≡ (framed h body).packet_len
 framed_length h body =
     let bits = checksum_bits h.flags in
-    length-append (header_bytes (framed h body)) (filled bits body (least_filler bits body))
-    ∙ ap (λ n. n + length (filled bits body (least_filler bits body))) (header_length (framed h body))
+    length-append (header_bytes (framed h body)) (with_trailer bits body (least_filler bits body))
+    ∙ ap (λ n. n + length (with_trailer bits body (least_filler bits body))) (header_length (framed h body))
 
 -- the flags of a checksum tell it
 pub flags_tell : (check : Check) → checksum_bits (flags_of check) ≡ check_bits_of check

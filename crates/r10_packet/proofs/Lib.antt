@@ -1,6 +1,6 @@
 pub mod Words
 pub mod Lengths
-pub mod Kept
+pub mod NoRuleBroken
 pub mod Fields
 pub mod Again
 pub mod Frames

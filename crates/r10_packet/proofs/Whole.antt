@@ -7,12 +7,12 @@ use Rattle.std.proofs.lemmas.List.{length-append, length-take-le, length-drop, d
 use Rattle.std.proofs.lemmas.Slice.Eq.{bytes_eq-Decides}
 use Rattle.r10_packet.specs.Sums.{data_checksum}
 use Rattle.r10_packet.specs.Header.{header_bytes, checksum_bits}
-use Rattle.r10_packet.specs.Packet.{filled, IsPacketWith}
+use Rattle.r10_packet.specs.Packet.{with_trailer, IsPacketWith}
 use Rattle.r10_packet.specs.Framing.{header_at, body_at, has_lengths, has_room_for_checksum, is_right, has_data_checksum, data_sum_of, checksum_start, header_fault, framing_fault}
 use Rattle.r10_packet.specs.declared.header.Header.{Header}
 use Rattle.r10_packet.specs.declared.view.DataSum.TheVariants.{NoRoom, Wrong, Right}
 use Rattle.r10_packet.proofs.Fields.{AreBytes, header_back, fields_fit, header_again}
-use Rattle.r10_packet.proofs.Kept.{lengths_of, whole_of, no_fault}
+use Rattle.r10_packet.proofs.NoRuleBroken.{lengths_of, whole_of, no_fault}
 use Rattle.r10_packet.proofs.Lengths.{header_length, checksum_length, filled_length}
 use Rattle.r10_packet.proofs.Again.{sound_again}
 
@@ -65,7 +65,7 @@ read_whole filler packet rest h body is lengths =
     let head = header_bytes h in
     let bits = checksum_bits h.flags in
     let sum = data_checksum bits (body ++ filler) in
-    let inside = filled bits body filler in
+    let inside = with_trailer bits body filler in
     let all = packet ++ rest in
     let head_length : length head ≡ 24 = header_length h in
     let sum_length : length sum ≡ bits / 8 = checksum_length h.flags (body ++ filler) in
@@ -87,12 +87,12 @@ read_whole filler packet rest h body is lengths =
     let covered : slice_range all 24 start ≡ body ++ filler =
     ap (λ t. slice_range t 24 start) apart ∙ behind head (inside ++ rest) 24 start head_length (omega arith)
     ∙ ap (λ t. slice_range t 0 (start - 24)) spread ∙ front_part (body ++ filler) (sum ++ rest) (start - 24) (omega arith) in
-    let told : slice_range all start h.packet_len ≡ sum =
+    let reported : slice_range all start h.packet_len ≡ sum =
     ap (λ t. slice_range t start h.packet_len) apart ∙ behind head (inside ++ rest) start h.packet_len head_length (omega arith)
     ∙ ap (λ t. slice_range t (start - 24) (h.packet_len - 24)) spread
     ∙ next_part (body ++ filler) sum rest (start - 24) (h.packet_len - 24) (omega arith) (omega arith) in
     let room : has_room_for_checksum h ≡ true = le-leb (24 + h.data_len + bits / 8) h.packet_len (omega (arith, is.data_len)) in
-    let right : is_right h all ≡ true = (bytes_eq-Decides _ _).1 (told ∙ ap (data_checksum bits) (sym covered)) in
+    let right : is_right h all ≡ true = (bytes_eq-Decides _ _).1 (reported ∙ ap (data_checksum bits) (sym covered)) in
     let checked : (has_room_for_checksum h && is_right h all) ≡ true = rw (room, right) refl in
     record {
       sound = no_fault all (omega arith) sound (omega arith);
@@ -123,9 +123,9 @@ found_whole bytes fits sound checked =
     let split : n ≡ 24 + (n - 24) = omega (arith, lengths.least) in
     let first : take n bytes ≡ header_bytes h ++ slice_range bytes 24 n = ap (λ m. take m bytes) split ∙ take-add 24 (n - 24) bytes ∙ ap (λ t. t ++ slice_range bytes 24 n) front in
     let inner : slice_range bytes 24 start ≡ body_at bytes ++ filler_at bytes = range_split bytes 24 (24 + h.data_len) start (omega arith) (omega arith) in
-    let told : slice_range bytes start n ≡ data_checksum bits (slice_range bytes 24 start) = (bytes_eq-Decides _ _).0 has.1 in
-    let rest : slice_range bytes 24 n ≡ filled bits (body_at bytes) (filler_at bytes) =
-    range_split bytes 24 start n (omega arith) (omega arith) ∙ ap (λ t. slice_range bytes 24 start ++ t) told ∙ ap (λ t. t ++ data_checksum bits t) inner in
+    let reported : slice_range bytes start n ≡ data_checksum bits (slice_range bytes 24 start) = (bytes_eq-Decides _ _).0 has.1 in
+    let rest : slice_range bytes 24 n ≡ with_trailer bits (body_at bytes) (filler_at bytes) =
+    range_split bytes 24 start n (omega arith) (omega arith) ∙ ap (λ t. slice_range bytes 24 start ++ t) reported ∙ ap (λ t. t ++ data_checksum bits t) inner in
     let body_length : length (body_at bytes) ≡ 24 + h.data_len - 24 = length-take-le (24 + h.data_len - 24) (drop 24 bytes) (omega (arith, length-drop 24 bytes, whole.whole)) in
     record {
       fits = fields_fit bytes fits;

@@ -1,5 +1,6 @@
 -- Reading the packet that stands first in bytes, whatever its filler, and the first fault in it.
-use Rattle.std.specs.Prelude.{ℕ, ◌+◌, ◌-◌, ◌/◌, ◌%◌, Bool, ◌&&◌, ◌||◌, List, [], ◌∷◌, ◌++◌, length, take, slice_index, slice_range, Option, nat_le, ◌==◌, if◌then◌else◌}
+use Rattle.std.specs.Prelude.{ℕ, ◌+◌, ◌-◌, ◌/◌, ◌%◌, Bool, ◌&&◌, ◌||◌, List, [], ◌∷◌, ◌++◌, length, take, slice_index, slice_range}
+use Rattle.std.specs.Prelude.{Option, nat_le, ◌==◌, if◌then◌else◌}
 use Rattle.std.specs.Str.{bytes_eq}
 use Rattle.r10_count.specs.Checks.{first_broken}
 use Rattle.r10_count.specs.Bytes.{u16_at, u32_at, u64_at}
@@ -70,7 +71,8 @@ has_room_for_checksum h = nat_le (24 + h.data_len + checksum_bits h.flags / 8) h
 -- the data checksum is right
 abbrev pub is_right : Header → List ℕ → Bool
 is_right h bytes =
-    bytes_eq (slice_range bytes (checksum_start h) h.packet_len) (data_checksum (checksum_bits h.flags) (slice_range bytes 24 (checksum_start h)))
+    bytes_eq (slice_range bytes (checksum_start h) h.packet_len)
+    (data_checksum (checksum_bits h.flags) (slice_range bytes 24 (checksum_start h)))
 
 abbrev pub has_data_checksum : List ℕ → Bool
 has_data_checksum bytes = has_room_for_checksum (header_at bytes) && is_right (header_at bytes) bytes

@@ -5,8 +5,8 @@ use Rattle.r10_packet.specs.Header.{FitsHeader, header_bytes, checksum_bits}
 use Rattle.r10_packet.specs.declared.header.Header.{Header}
 
 -- body, filler and data checksum
-abbrev pub filled : ℕ → List ℕ → List ℕ → List ℕ
-filled bits body filler = body ++ filler ++ data_checksum bits (body ++ filler)
+abbrev pub with_trailer : ℕ → List ℕ → List ℕ → List ℕ
+with_trailer bits body filler = body ++ filler ++ data_checksum bits (body ++ filler)
 
 -- the least filler that makes the packet a multiple of 4 bytes, all zero
 abbrev pub least_filler : ℕ → List ℕ → List ℕ
@@ -15,7 +15,7 @@ least_filler bits body = replicate ((4 - (length body + bits / 8) % 4) % 4) 0
 -- a packet with some filler
 pub record IsPacketWith (filler bytes : List ℕ) (h : Header) (body : List ℕ) : Type 0 where
   pub fits : FitsHeader h
-  pub spelled : bytes ≡ header_bytes h ++ filled (checksum_bits h.flags) body filler
+  pub spelled : bytes ≡ header_bytes h ++ with_trailer (checksum_bits h.flags) body filler
   pub packet_len : h.packet_len ≡ length bytes
   pub data_len : h.data_len ≡ length body
 
@@ -30,10 +30,10 @@ IsForeignFrame bytes h body = (filler : List ℕ) × IsPacketWith filler bytes h
 abbrev pub framed : Header → List ℕ → Header
 framed h body =
     let bits = checksum_bits h.flags in
-    record h { packet_len = 24 + length (filled bits body (least_filler bits body)); data_len = length body }
+    record h { packet_len = 24 + length (with_trailer bits body (least_filler bits body)); data_len = length body }
 
 -- the one packet of a body that the recorder writes
 abbrev pub framed_bytes : Header → List ℕ → List ℕ
 framed_bytes h body =
     let bits = checksum_bits h.flags in
-    header_bytes (framed h body) ++ filled bits body (least_filler bits body)
+    header_bytes (framed h body) ++ with_trailer bits body (least_filler bits body)

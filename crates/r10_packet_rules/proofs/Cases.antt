@@ -10,7 +10,7 @@ use Rattle.r10_body.specs.Vectors.{a_recording, recorded, other, other-is, other
 use Rattle.r10_body.specs.declared.fault.FileFault.TheVariants.{Truncated}
 use Rattle.r10_packet_rules.specs.Tracks.{IsFirst, TracksForeign}
 use Rattle.r10_packet_rules.specs.declared.file.ForeignTrack.{ForeignTrack}
-use Rattle.r10_packet_rules.proofs.Standing.{stands_more, stands_faulty, stands_file}
+use Rattle.r10_packet_rules.proofs.TrackSoFar.{stands_more, stands_faulty, stands_file}
 use Rattle.r10_packet_rules.proofs.Written.{strict_foreign}
 
 -- it is a file of any recorder, and none of its packets is opaque
@@ -25,7 +25,7 @@ unfolding packet_bytes header_bytes
 at-end = record { packets = alone.0; bytes_are = alone.1; foreign = alone.3; offset = refl; opaque = alone.4 }
 
 first : IsFirst other (record { opaque = true; length = 44 })
-first = record { least = lit≤ tt; inside = lit≤ tt; told = refl; foreign = other-is; opaque = refl }
+first = record { least = lit≤ tt; inside = lit≤ tt; reported = refl; foreign = other-is; opaque = refl }
 
 -- with a packet of a secondary header after it, one is
 pub with-other : IsForeignFile (file_bytes a_recording ++ other) 1

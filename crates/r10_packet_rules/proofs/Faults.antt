@@ -7,7 +7,7 @@ use Rattle.r10_packet.specs.Framing.{header_at, body_at, has_data_checksum, head
 use Rattle.r10_packet.specs.declared.header.Header.{Header}
 use Rattle.r10_packet.specs.declared.fault.PacketFault.{PacketFault}
 use Rattle.r10_packet.specs.declared.fault.PacketFault.TheVariants as packet_faults
-use Rattle.r10_packet.proofs.Kept.{fault_in_header}
+use Rattle.r10_packet.proofs.NoRuleBroken.{fault_in_header}
 use Rattle.r10_body.specs.Foreign.{opaque_at, IsForeignBody, IsForeignPacket}
 use Rattle.r10_body.specs.Faults.{HasFault}
 use Rattle.r10_body.specs.declared.fault.FileFault.{FileFault}

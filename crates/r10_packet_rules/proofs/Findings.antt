@@ -6,7 +6,7 @@ use Rattle.r10_packet.specs.Framing.{framing_fault, header_at, body_at, has_data
 use Rattle.r10_packet.specs.declared.header.Header.{Header}
 use Rattle.r10_packet.specs.declared.fault.PacketFault.{PacketFault}
 use Rattle.r10_packet.proofs.Fields.{AreBytes}
-use Rattle.r10_packet.proofs.Kept.{whole_of}
+use Rattle.r10_packet.proofs.NoRuleBroken.{whole_of}
 use Rattle.r10_body.specs.Bodies.{IsBodyOf}
 use Rattle.r10_body.specs.Content.{Content, FitsContent, body_of, type_of}
 use Rattle.r10_body.specs.Packets.{Packet, flagged, packet_bytes}
@@ -125,8 +125,8 @@ is_not_own bytes h r same iff not own = (let is : r ≡ true = iff.1 (subst IsOw
 pub is_not_filled : (bytes : List ℕ) (r : Bool) → (IsTrue r ↔ IsFilled bytes) → r ≡ false → IsFilled bytes → ⊥
 is_not_filled bytes r iff not filled = (let is : r ≡ true = iff.1 filled in let differ : true ≡ false = sym is ∙ not in absurd cc)
 
-pub opaque_told : (bytes : List ℕ) (h : Header) (b : List ℕ) (r told : Bool) → h ≡ header_at bytes → b ≡ body_at bytes → r ≡ is_opaque_packet h b → r ≡ told → opaque_at bytes ≡ told
-opaque_told bytes h b r told eh eb is told_is = sym (is ∙ ap (λ (g : Header). is_opaque_packet g b) eh ∙ ap (is_opaque_packet (header_at bytes)) eb) ∙ told_is
+pub opaque_told : (bytes : List ℕ) (h : Header) (b : List ℕ) (r reported : Bool) → h ≡ header_at bytes → b ≡ body_at bytes → r ≡ is_opaque_packet h b → r ≡ reported → opaque_at bytes ≡ reported
+opaque_told bytes h b r reported eh eb is told_is = sym (is ∙ ap (λ (g : Header). is_opaque_packet g b) eh ∙ ap (is_opaque_packet (header_at bytes)) eb) ∙ told_is
 
 low_flag : (b : Bool) (check : ℕ) → check < 4 → (flag_at 4 b + check) % 4 ≡ check
 low_flag true check lt = omega arith

@@ -8,7 +8,7 @@ use Rattle.r10_packet.specs.Framing.{framing_fault, header_fault, header_at, bod
 use Rattle.r10_packet.specs.declared.header.Header.{Header}
 use Rattle.r10_packet.proofs.Again.{sound_again}
 use Rattle.r10_packet.proofs.Fields.{AreBytes, fields_fit, header_again, header_back}
-use Rattle.r10_packet.proofs.Kept.{whole_of, lengths_of, no_fault}
+use Rattle.r10_packet.proofs.NoRuleBroken.{whole_of, lengths_of, no_fault}
 use Rattle.r10_packet.proofs.Whole.{found_whole, read_whole, filler_at}
 use Rattle.r10_body.specs.Faults.{first_packet}
 use Rattle.r10_body.specs.Foreign.{IsForeignPacket, opaque_at, is_opaque_packet}

@@ -19,25 +19,25 @@ use Rattle.r10_body.specs.Kinds.{message_kind, uart_kind}
 use Rattle.r10_packet_rules.specs.Glance.{IsGlimpse}
 
 -- the entry that stands first, by its stamp and its header
-pub uart_glimpse : (setting before : ℕ) (bytes text rest : List ℕ) (count header : ℕ) (h : UartHeader) → IsCount count → uarts.FitsHeader h → header ≡ uarts.header_bits h → length text ≡ header % 65536
+pub uart_glimpse : (setting before : ℕ) (bytes text rest : List ℕ) (count header : ℕ) (h : UartHeader) → IsCount count → uarts.FitsUartHeader h → header ≡ uarts.uart_header_bits h → length text ≡ header % 65536
     → bytes ≡ stamp count ++ le_bytes 4 header ++ padded text ++ rest
     → (e : UartEntry) × IsGlimpse uart_form uart_kind.said setting before (uart_entry e) (record { count = count; cost = 116 + h.length }) e × (bytes ≡ uart_entry e ++ rest)
-uart_glimpse setting before bytes text rest count header h lc fits told n is =
-    let long : length text ≡ h.length = n ∙ ap (λ k. k % 65536) told ∙ uart_header-low h.parity h.sub h.length fits.length in
+uart_glimpse setting before bytes text rest count header h lc fits reported n is =
+    let long : length text ≡ h.length = n ∙ ap (λ k. k % 65536) reported ∙ uart_header-low h.parity h.sub h.length fits.length in
     let e = uart_entry_of count h text in
-    let read = uart_read (stamp count ++ le_bytes 4 header ++ padded text) (le_bytes 4 header ++ padded text) (padded text) text count header h lc fits told refl refl refl long in (
+    let read = uart_read (stamp count ++ le_bytes 4 header ++ padded text) (le_bytes 4 header ++ padded text) (padded text) text count header h lc fits reported refl refl refl long in (
       e,
       record { fits = read.0; suits = refl; spelled = refl; count = refl; same = refl; cost = omega (arith, long); cheap = omega (arith, uart_entry-size e, long) },
       is ∙ ap (λ t. t ++ rest) read.1,
     )
 
-pub message_glimpse : (setting before : ℕ) (bytes text rest : List ℕ) (count header : ℕ) (h : MessageHeader) → IsCount count → messages.FitsHeader h → header ≡ messages.header_bits h → length text ≡ header % 65536
+pub message_glimpse : (setting before : ℕ) (bytes text rest : List ℕ) (count header : ℕ) (h : MessageHeader) → IsCount count → messages.FitsMessageHeader h → header ≡ messages.message_header_bits h → length text ≡ header % 65536
     → bytes ≡ stamp count ++ le_bytes 4 header ++ padded text ++ rest
     → (e : MessageEntry) × IsGlimpse message_form message_kind.said setting before (message_entry e) (record { count = count; cost = 116 + h.length }) e × (bytes ≡ message_entry e ++ rest)
-message_glimpse setting before bytes text rest count header h lc fits told n is =
-    let long : length text ≡ h.length = n ∙ ap (λ k. k % 65536) told ∙ message_header-low h.data_error h.format h.sub h.length fits.length in
+message_glimpse setting before bytes text rest count header h lc fits reported n is =
+    let long : length text ≡ h.length = n ∙ ap (λ k. k % 65536) reported ∙ message_header-low h.data_error h.format h.sub h.length fits.length in
     let e = message_entry_of count h text in
-    let read = message_read (stamp count ++ le_bytes 4 header ++ padded text) (le_bytes 4 header ++ padded text) (padded text) text count header h lc fits told refl refl refl long in (
+    let read = message_read (stamp count ++ le_bytes 4 header ++ padded text) (le_bytes 4 header ++ padded text) (padded text) text count header h lc fits reported refl refl refl long in (
       e,
       record { fits = read.0; suits = refl; spelled = refl; count = refl; same = refl; cost = omega (arith, long); cheap = omega (arith, message_entry-size e, long) },
       is ∙ ap (λ t. t ++ rest) read.1,

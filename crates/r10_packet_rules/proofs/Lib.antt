@@ -1,6 +1,6 @@
 pub mod Spelled
 pub mod First
-pub mod Parts
+pub mod HeaderAndBody
 pub mod Findings
 pub mod Tallies
 pub mod Retelling
@@ -14,7 +14,7 @@ pub mod Contents
 pub mod Fronts
 pub mod Faults
 pub mod Words
-pub mod Ways
-pub mod Standing
+pub mod OneWayApart
+pub mod TrackSoFar
 pub mod Written
 mod Cases

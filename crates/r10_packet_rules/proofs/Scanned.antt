@@ -167,7 +167,7 @@ number_is said t es is = omega (arith, number_from said empty_tally es, ap (λ (
 -- the entries that were scanned are the body's, where word and number are
 pub body_is : {E : Type 0} (form : Form E) (setting counter word number : ℕ) (rest body : List ℕ) (es : List E) → body ≡ le_bytes 4 word ++ rest → AreEntries form setting counter es rest → number ≡ length es
     → word ≡ form.word setting number → form.agrees word number ≡ true → IsBody form setting counter es body
-body_is form setting counter word number rest body es e are n told agrees = body_of form setting counter word number rest body es e n told agrees are.spelled are.opens are.suits
+body_is form setting counter word number rest body es e are n reported agrees = body_of form setting counter word number rest body es e n reported agrees are.spelled are.opens are.suits
 
 -- a body's entries stand after its word
 pub body_entries : {E : Type 0} (form : Form E) (setting counter word : ℕ) (rest body : List ℕ) → word < 2 ^ 32 → body ≡ le_bytes 4 word ++ rest → (es : List E) → IsBody form setting counter es body
@@ -177,7 +177,7 @@ body_entries form setting counter word rest body lt e es is =
 
 -- and word and number are so
 pub record Agrees {E : Type 0} (form : Form E) (setting word number : ℕ) : Type 0 where
-  pub told : word ≡ form.word setting number
+  pub reported : word ≡ form.word setting number
   pub agrees : form.agrees word number ≡ true
 
 pub body_agrees : {E : Type 0} (form : Form E) (setting counter word number : ℕ) (rest body : List ℕ) (ds es : List E) → word < 2 ^ 32 → body ≡ le_bytes 4 word ++ rest
@@ -187,6 +187,6 @@ body_agrees {E = E} form setting counter word number rest body ds es lt e are n 
     let same : es ≡ ds = one_spelled form counter es ds is.fits are.spelled.0 (sym front.1.1 ∙ are.spelled.1) in
     let count : length es ≡ number = ap (λ (t : List E). length t) same ∙ sym n in
     record {
-      told = front.0 ∙ ap (form.word setting) count;
+      reported = front.0 ∙ ap (form.word setting) count;
       agrees = sym (ap (form.agrees word) count) ∙ ap (λ w. form.agrees w (length es)) front.0 ∙ is.agrees;
     }

@@ -9,11 +9,11 @@ use Rattle.std.proofs.Math.Seq.{take-append_seam}
 use Rattle.r10_count.specs.Bytes.{flag_at, bit_of}
 use Rattle.r10_packet.specs.Sums.{data_checksum}
 use Rattle.r10_packet.specs.Header.{header_bytes, checksum_bits}
-use Rattle.r10_packet.specs.Packet.{filled, least_filler}
+use Rattle.r10_packet.specs.Packet.{with_trailer, least_filler}
 use Rattle.r10_packet.specs.Framing.{framing_fault, header_at, body_at, has_lengths, has_room_for_checksum, is_right, has_data_checksum}
 use Rattle.r10_packet.specs.declared.header.Header.{Header}
 use Rattle.r10_packet.proofs.Fields.{AreBytes}
-use Rattle.r10_packet.proofs.Kept.{whole_of, lengths_of}
+use Rattle.r10_packet.proofs.NoRuleBroken.{whole_of, lengths_of}
 use Rattle.r10_packet.proofs.Lengths.{header_length, filled_length}
 use Rattle.r10_packet.proofs.Whole.{read_whole, found_whole, filler_at}
 use Rattle.r10_body.specs.Bodies.{IsBodyOf}
@@ -116,16 +116,16 @@ framed bytes p (fits, sums, first) =
     let flags : (header_at bytes).flags ≡ h.flags = ap (λ (g : Header). g.flags) header in
     let size : n ≡ 24 + length (packet_rest p) = ap (λ (g : Header). g.packet_len) header in
     let version : (header_at bytes).version ≡ 8 = ap (λ (g : Header). g.version) header in
-    let behind : slice_range bytes 24 n ≡ filled (checksum_bits h.flags) (packet_body p) filler =
-    rest_of bytes (header_bytes h) (filled (checksum_bits h.flags) (packet_body p) filler) n (header_length h) (omega arith) (first ∙ sentence.spelled) in
+    let behind : slice_range bytes 24 n ≡ with_trailer (checksum_bits h.flags) (packet_body p) filler =
+    rest_of bytes (header_bytes h) (with_trailer (checksum_bits h.flags) (packet_body p) filler) n (header_length h) (omega arith) (first ∙ sentence.spelled) in
     record {
       sound = ap framing_fault (sym all) ∙ whole.sound;
       header = header;
       body_is = body;
       checksum = ap has_data_checksum (sym all) ∙ whole.checksum;
       keeps = (version, ap (λ f. bit_and f 0xEC) flags ∙ own_flags_at (flagged p) p.check fits.check, omega (arith, size, fits.short));
-      filler = behind ∙ sym (ap (λ f. filled (checksum_bits f) (body_at bytes) (least_filler (checksum_bits f) (body_at bytes))) flags
-          ∙ ap (λ b. filled (checksum_bits h.flags) b (least_filler (checksum_bits h.flags) b)) body);
+      filler = behind ∙ sym (ap (λ f. with_trailer (checksum_bits f) (body_at bytes) (least_filler (checksum_bits f) (body_at bytes))) flags
+          ∙ ap (λ b. with_trailer (checksum_bits h.flags) b (least_filler (checksum_bits h.flags) b)) body);
     }
 
 -- ---- what is framed so is a packet of the recorder's
@@ -140,13 +140,13 @@ filler_kept bytes fits sound checked =
     let least = least_filler bits body in
     let found = found_whole bytes fits sound checked in
     let lengths = lengths_of h (whole_of bytes sound).sound.lengths in
-    let behind : slice_range bytes 24 h.packet_len ≡ filled bits body (filler_at bytes) =
-    rest_of bytes (header_bytes h) (filled bits body (filler_at bytes)) h.packet_len (header_length h) lengths.least found.spelled in (
-      λ same. behind ∙ ap (filled bits body) same,
+    let behind : slice_range bytes 24 h.packet_len ≡ with_trailer bits body (filler_at bytes) =
+    rest_of bytes (header_bytes h) (with_trailer bits body (filler_at bytes)) h.packet_len (header_length h) lengths.least found.spelled in (
+      λ same. behind ∙ ap (with_trailer bits body) same,
       λ keeps.
-          let both : filled bits body (filler_at bytes) ≡ filled bits body least = sym behind ∙ keeps in
-          let long : length (filled bits body (filler_at bytes)) ≡ length body + length (filler_at bytes) + bits / 8 = filled_length h.flags body (filler_at bytes) in
-          let short : length (filled bits body least) ≡ length body + length least + bits / 8 = filled_length h.flags body least in
+          let both : with_trailer bits body (filler_at bytes) ≡ with_trailer bits body least = sym behind ∙ keeps in
+          let long : length (with_trailer bits body (filler_at bytes)) ≡ length body + length (filler_at bytes) + bits / 8 = filled_length h.flags body (filler_at bytes) in
+          let short : length (with_trailer bits body least) ≡ length body + length least + bits / 8 = filled_length h.flags body least in
           let count : length (filler_at bytes) ≡ length least = omega (arith, ap length both) in
           let fronts : body ++ filler_at bytes ≡ body ++ least =
           same_first (body ++ filler_at bytes) (body ++ least) (data_checksum bits (body ++ filler_at bytes)) (data_checksum bits (body ++ least))
@@ -175,9 +175,9 @@ reads_made bytes content fits sound checked keeps filler is sums =
     let flags : h.flags ≡ flag_at 4 (flagged p) + h.flags % 4 = told_flags h.flags found.fits.flags keeps.1 ∙ ap (λ b. flag_at 4 b + h.flags % 4) (sym (flag_told (bit_of 4 h.flags))) in
     let low : checksum_bits h.flags ≡ checksum_bits (h.flags % 4) = low_bits h.flags in
     let rest : slice_range bytes 24 h.packet_len ≡ packet_rest p =
-    filler ∙ ap (λ b. filled b body (least_filler b body)) low ∙ ap (λ b. filled (checksum_bits (h.flags % 4)) b (least_filler (checksum_bits (h.flags % 4)) b)) is.body_is in
-    let behind : slice_range bytes 24 h.packet_len ≡ filled bits body (filler_at bytes) =
-    rest_of bytes (header_bytes h) (filled bits body (filler_at bytes)) h.packet_len (header_length h) lengths.least found.spelled in
+    filler ∙ ap (λ b. with_trailer b body (least_filler b body)) low ∙ ap (λ b. with_trailer (checksum_bits (h.flags % 4)) b (least_filler (checksum_bits (h.flags % 4)) b)) is.body_is in
+    let behind : slice_range bytes 24 h.packet_len ≡ with_trailer bits body (filler_at bytes) =
+    rest_of bytes (header_bytes h) (with_trailer bits body (filler_at bytes)) h.packet_len (header_length h) lengths.least found.spelled in
     let long : length (slice_range bytes 24 h.packet_len) ≡ h.packet_len - 24 = rest_long bytes h.packet_len whole.whole in
     let size : h.packet_len ≡ 24 + length (packet_rest p) = omega (arith, long, ap length rest, lengths.least) in
     let header : h ≡ header_of p = same_header h (header_of p) refl size (found.data_len ∙ ap length is.body_is) keeps.0 refl flags (sym is.type_is) refl in (

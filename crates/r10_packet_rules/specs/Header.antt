@@ -23,8 +23,16 @@ abbrev pub IsCheckedRight : Header → Type 0
 IsCheckedRight h = IsTrue (goes_unchecked h.data_type) → h.flags % 4 ≡ 0
 
 abbrev pub packet_of : Header → Content → Packet
-packet_of h content = record { channel = h.channel; sequence = h.sequence; gap = gap_of_flag (bit_of 4 h.flags); check = h.flags % 4; counter = h.counter; content = content }
+packet_of h content = record {
+  channel = h.channel;
+  sequence = h.sequence;
+  gap = gap_of_flag (bit_of 4 h.flags);
+  check = h.flags % 4;
+  counter = h.counter;
+  content = content;
+}
 
 -- these are the facts of that packet, where it has the header's data type and length
 abbrev pub AreFactsOfHeader : Facts → Header → Content → Type 0
-AreFactsOfHeader f h content = h.data_type ≡ type_of content → h.packet_len ≡ length (packet_bytes (packet_of h content)) → AreFactsOf f (packet_of h content)
+AreFactsOfHeader f h content = h.data_type ≡ type_of content → h.packet_len ≡ length (packet_bytes (packet_of h content))
+    → AreFactsOf f (packet_of h content)

@@ -13,7 +13,9 @@ pub record BreaksEarlyRuleFirst (bytes : List ℕ) (n : ℕ) : Type 0 where
   pub broken : (before : List Packet) (closed : Bool) → BreaksRule before bytes closed n
   pub least : (before : List Packet) (closed : Bool) (m : ℕ) → BreaksRule before bytes closed m → n ≤ m
 
--- the packet that stands first is one of the recorder's, and these are its facts; or it is none, and where it is a packet of any recorder's it breaks this rule first
+-- the packet that stands first is one of the recorder's, and these are its facts; or it is none, and where it is a packet of
+-- any recorder's it breaks this rule first
 abbrev pub FindsPacket : List ℕ → StrictReading → Type 0
 FindsPacket bytes (Strict facts) = (p : Packet) × ReadsPacket bytes p × AreFactsOf facts p
-FindsPacket bytes (Breaks n) = ((p : Packet) → ReadsPacket bytes p → ⊥) × (IsForeignPacket (first_packet bytes) → BreaksEarlyRuleFirst bytes n)
+FindsPacket bytes (Breaks n) = ((p : Packet) → ReadsPacket bytes p → ⊥)
+    × (IsForeignPacket (first_packet bytes) → BreaksEarlyRuleFirst bytes n)

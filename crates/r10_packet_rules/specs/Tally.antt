@@ -13,7 +13,12 @@ timed_cost t = each_entry + message_cost t.message
 -- the counts with one after them
 abbrev pub spread_behind : Option Spread → ℕ → Spread
 spread_behind None count = record { first = count; last = count; greatest = count; rise = true }
-spread_behind (Some s) count = record { first = s.first; last = count; greatest = max s.greatest count; rise = s.rise && nat_le s.last count }
+spread_behind (Some s) count = record {
+  first = s.first;
+  last = count;
+  greatest = max s.greatest count;
+  rise = s.rise && nat_le s.last count;
+}
 
 -- the sums with one entry more
 abbrev pub tally_behind : EntryTally → ℕ → ℕ → EntryTally

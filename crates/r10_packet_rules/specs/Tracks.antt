@@ -21,7 +21,7 @@ named packet_faults.Length = Length
 pub record IsFirst (bytes : List ℕ) (packet : ForeignPacket) : Type 0 where
   pub least : 24 ≤ packet.length
   pub inside : packet.length ≤ length bytes
-  pub told : packet.length ≡ (header_at bytes).packet_len
+  pub reported : packet.length ≡ (header_at bytes).packet_len
   pub foreign : IsForeignPacket (take packet.length bytes)
   pub opaque : packet.opaque ≡ opaque_at bytes
 

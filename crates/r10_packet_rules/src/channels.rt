@@ -17,7 +17,7 @@ use r10_packet::Header;
 /// The facts of a packet of a channel whose packets have such entries.
 pub(crate) fn read_channel<E: ScannedEntry>(header: &Header, body: &[u8]) -> Option<Facts>
     requires short { length body.now ≤ longest_packet }
-    requires told { header.now.data_type ≡ kind_type E.channel.kind }
+    requires reported { header.now.data_type ≡ kind_type E.channel.kind }
     ensures found { IfSome result (λ f. (content : Content) × IsBodyOf header.now.data_type header.now.counter content body.now
         × AreFactsOfHeader f header.now content) }
     ensures none { IfNone result ((content : Content) → IsBodyOf header.now.data_type header.now.counter content body.now → ⊥) }

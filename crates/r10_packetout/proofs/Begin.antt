@@ -12,7 +12,7 @@ use Rattle.r10_body.specs.Rules.{Rise}
 use Rattle.r10_body.specs.declared.entry.Entry.{Entry}
 use Rattle.r10_body.specs.Sequence.{next_sequence, numbered}
 use Rattle.r10_builder.specs.State.{BuilderState}
-use Rattle.r10_builder.specs.Grows.{HasNone, all_held, taken_in}
+use Rattle.r10_builder.specs.Grows.{HasNoneOf, all_held, taken_in}
 use Rattle.r10_builder.specs.Next.{setup_packet, time_packet}
 use Rattle.r10_builder.proofs.Following.{begins}
 use Rattle.r10_builder.specs.Settings.{AreChannelSettings, specs_of}
@@ -21,7 +21,7 @@ use Rattle.r10_packetout.specs.Output.{Has, Writing}
 use Rattle.r10_packetout.specs.Carries.{EventsAreCounted, Records, Recording, Says, StandApart, time_entry_at}
 
 -- no builder has the setup's channel
-none_on_zero : (least : ℕ) (builders : List BuilderState) → AreChannelSettings least (specs_of builders) → HasNone 0 builders
+none_on_zero : (least : ℕ) (builders : List BuilderState) → AreChannelSettings least (specs_of builders) → HasNoneOf 0 builders
 none_on_zero least [] are = tt
 none_on_zero least (b ∷ builders) are = (λ same. absurd (omega (arith, are.0, same)), none_on_zero b.spec.id builders are.2)
 

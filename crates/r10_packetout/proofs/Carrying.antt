@@ -19,13 +19,13 @@ use Rattle.r10_body.proofs.Lengths.{packets_covered}
 use Rattle.r10_body.proofs.Rules.{entries_more as packet_entries_more}
 use Rattle.r10_builder.specs.State.{BuilderState}
 use Rattle.r10_builder.specs.declared.closed.Closed.{Closed}
-use Rattle.r10_builder.specs.Grows.{Grows, HasNone, all_held, taken_in}
-use Rattle.r10_builder.specs.Next.{HasType, grown_by, report_packet, reporting}
+use Rattle.r10_builder.specs.Grows.{Grows, HasNoneOf, all_held, taken_in}
+use Rattle.r10_builder.specs.Next.{HasType, extended_by, report_packet, reporting}
 use Rattle.r10_body.specs.Sequence.{numbered}
-use Rattle.r10_index.proofs.Behind.{last_more}
+use Rattle.r10_index.proofs.FileWithIndex.{last_more}
 use Rattle.r10_builder.proofs.Following.{says_so}
 use Rattle.r10_builder.proofs.Growing.{cost_more}
-use Rattle.r10_builder.specs.Packed.{HandsOn, TakesInSamples}
+use Rattle.r10_builder.specs.Packed.{HandsOnPacket, TakesInSamples}
 use Rattle.r10_builder.proofs.Taking.{entries_same}
 use Rattle.r10_packetout.specs.Output.{Has, Writing}
 use Rattle.r10_packetout.specs.Carries.{Records, HasNoEvents, Recording, Says, StandApart}
@@ -49,9 +49,9 @@ not_at : (type n : ℕ) (b : Bool) → type == n ≡ b → n + 1 ≤ type → ty
 not_at type n true e lt = absurd (omega (arith, lt, eqb-true type n e))
 not_at type n false e lt = e
 
-type_more : (channel type : ℕ) (packets : List Packet) (p : Packet) (builders : List BuilderState) → HasType channel type packets → HasNone channel builders → (HasNone p.channel builders → ⊥) → HasType channel type (packets ++ p ∷ [])
+type_more : (channel type : ℕ) (packets : List Packet) (p : Packet) (builders : List BuilderState) → HasType channel type packets → HasNoneOf channel builders → (HasNoneOf p.channel builders → ⊥) → HasType channel type (packets ++ p ∷ [])
 type_more channel type packets p builders has none on =
-    all_more (λ (q : Packet). q.channel ≡ channel → type_of q.content ≡ type) packets p has (λ is. absurd (on (subst (λ (n : ℕ). HasNone n builders) (sym is) none)))
+    all_more (λ (q : Packet). q.channel ≡ channel → type_of q.content ≡ type) packets p has (λ is. absurd (on (subst (λ (n : ℕ). HasNoneOf n builders) (sym is) none)))
 
 -- ---- a report more, where there is one
 
@@ -100,12 +100,12 @@ samples_carried r image text entries more builders carried plain takes =
     }
 
 pub packet_said : (r : Recording) (packets : List Packet) (text : List ℕ) (entries more : List Entry) (builders : List BuilderState) → Says r packets text entries → StandApart r → HasNoEvents more
-    → (closed : Closed) (hands : HandsOn closed packets r.builders more builders) (out : Writing)
-    → Says (record r { builders = builders; out = out; cost = r.cost + sum_by entry_cost more }) (grown_by packets hands.packet) text (entries ++ more)
+    → (closed : Closed) (hands : HandsOnPacket closed packets r.builders more builders) (out : Writing)
+    → Says (record r { builders = builders; out = out; cost = r.cost + sum_by entry_cost more }) (extended_by packets hands.packet) text (entries ++ more)
 packet_said r packets text entries more builders says apart plain closed hands out =
     let before : List Packet = reporting packets hands.packet in
     let p : Packet = numbered before hands.packet in
-    let now : List Packet = grown_by packets hands.packet in
+    let now : List Packet = extended_by packets hands.packet in
     let two : 2 ≤ length packets = says.packed.growing.start in
     let front = front_of packets hands.packet hands.packet.gap refl two in
     record {
@@ -122,10 +122,10 @@ packet_said r packets text entries more builders says apart plain closed hands o
     }
 
 pub packets_carried : (r : Recording) (image : Image) (text : List ℕ) (entries more : List Entry) (builders : List BuilderState) (carried : Records r image text entries) → StandApart r
-    → HasNoEvents more → (closed : Closed) (hands : HandsOn closed carried.packets r.builders more builders) (out : Writing) (later : Image) → Has out later (grown_by carried.packets hands.packet)
+    → HasNoEvents more → (closed : Closed) (hands : HandsOnPacket closed carried.packets r.builders more builders) (out : Writing) (later : Image) → Has out later (extended_by carried.packets hands.packet)
     → Records (record r { builders = builders; out = out; cost = r.cost + sum_by entry_cost more }) later text (entries ++ more)
 packets_carried r image text entries more builders carried apart plain closed hands out later has = record {
-  packets = grown_by carried.packets hands.packet;
+  packets = extended_by carried.packets hands.packet;
   has = has;
   says = packet_said r carried.packets text entries more builders carried.says apart plain closed hands out;
 }

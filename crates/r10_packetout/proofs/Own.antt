@@ -19,9 +19,9 @@ use Rattle.r10_body.specs.declared.gap.Gap.TheVariants.{Whole}
 use Rattle.r10_body.specs.declared.message.Message.TheVariants as messages
 use Rattle.r10_body.specs.Sequence.{last_count, numbered}
 use Rattle.r10_body.proofs.ChannelLists.{packet_off_channel, rises}
-use Rattle.r10_index.proofs.Behind.{last_more}
+use Rattle.r10_index.proofs.FileWithIndex.{last_more}
 use Rattle.r10_builder.specs.State.{BuilderState}
-use Rattle.r10_builder.specs.Grows.{Grows, HasNone, taken_in}
+use Rattle.r10_builder.specs.Grows.{Grows, HasNoneOf, taken_in}
 use Rattle.r10_builder.specs.Next.{ChannelGoesOn, IsGrowing, event_packet, time_packet}
 use Rattle.r10_builder.proofs.Following.{event_follows, grows_on, time_follows}
 use Rattle.r10_builder.proofs.Growing.{between, both, none_held}
@@ -36,15 +36,15 @@ use Rattle.r10_packetout.proofs.Events.{counted_more, counted_on, in_packets}
 -- ---- a channel that no builder has
 
 -- all that it has is in packets
-pub own_entries : (channel : ℕ) (packets : List Packet) (builders : List BuilderState) → HasNone channel builders → on_channel channel (taken_in packets builders) ≡ on_channel channel (file_entries packets)
+pub own_entries : (channel : ℕ) (packets : List Packet) (builders : List BuilderState) → HasNoneOf channel builders → on_channel channel (taken_in packets builders) ≡ on_channel channel (file_entries packets)
 own_entries channel packets builders none =
     both channel packets builders ∙ ap (λ (es : List Entry). on_channel channel (file_entries packets) ++ es) (none_held builders channel none) ∙ append-nil (on_channel channel (file_entries packets))
 
-own_rise : (packets : List Packet) (p : Packet) (builders : List BuilderState) (channel : ℕ) (b : Bool) → p.channel == channel ≡ b → HasNone p.channel builders → EachFollows [] (packets ++ p ∷ [])
+own_rise : (packets : List Packet) (p : Packet) (builders : List BuilderState) (channel : ℕ) (b : Bool) → p.channel == channel ≡ b → HasNoneOf p.channel builders → EachFollows [] (packets ++ p ∷ [])
     → Rise 0 (on_channel channel (taken_in packets builders)) → Rise 0 (on_channel channel (taken_in (packets ++ p ∷ []) builders))
 own_rise packets p builders channel true on none each rise =
     let is : p.channel ≡ channel = eqb-true p.channel channel on in
-    let all = own_entries channel (packets ++ p ∷ []) builders (subst (λ (n : ℕ). HasNone n builders) is none) in
+    let all = own_entries channel (packets ++ p ∷ []) builders (subst (λ (n : ℕ). HasNoneOf n builders) is none) in
     subst (λ (es : List Entry). Rise 0 es) (sym all) (rises channel (packets ++ p ∷ []) each)
 own_rise packets p builders channel false off none each rise =
     let before : List Entry = on_channel channel (taken_in packets builders) in
@@ -52,7 +52,7 @@ own_rise packets p builders channel false off none each rise =
     between packets builders p none channel ∙ ap (λ (es : List Entry). before ++ es) (packet_off_channel channel p off) ∙ append-nil before in
     subst (λ (es : List Entry). Rise 0 es) (sym same) rise
 
-own_packed : (packets : List Packet) (p : Packet) (builders : List BuilderState) → Packed packets builders → HasNone p.channel builders → MayFollow packets p → is_index p ≡ false → is_report_packet p ≡ false → Packed (packets ++ p ∷ []) builders
+own_packed : (packets : List Packet) (p : Packet) (builders : List BuilderState) → Packed packets builders → HasNoneOf p.channel builders → MayFollow packets p → is_index p ≡ false → is_report_packet p ≡ false → Packed (packets ++ p ∷ []) builders
 own_packed packets p builders packed none may other plain =
     let growing : IsGrowing (packets ++ p ∷ []) = grows_on packets p packed.growing may other plain in
     record {
@@ -67,7 +67,7 @@ one_cost e = omega (arith, sum_by-cons entry_cost e [])
 -- ---- a packet of one entry more
 
 own_said : (r : Recording) (packets : List Packet) (text : List ℕ) (entries : List Entry) (p : Packet) (e : Entry) (out : Writing) (clock : ℕ) (counts : List ℕ) → Says r packets text entries
-    → HasNone p.channel r.builders → MayFollow packets p → is_index p ≡ false → is_report_packet p ≡ false → packet_entries p ≡ e ∷ [] → (p.channel ≡ r.time → type_of p.content ≡ 0x11) → (p.channel ≡ r.event → type_of p.content ≡ 0x02)
+    → HasNoneOf p.channel r.builders → MayFollow packets p → is_index p ≡ false → is_report_packet p ≡ false → packet_entries p ≡ e ∷ [] → (p.channel ≡ r.time → type_of p.content ≡ 0x11) → (p.channel ≡ r.event → type_of p.content ≡ 0x02)
     → last_time 0 (packets ++ p ∷ []) ≡ clock → EventsAreCounted counts (entries ++ e ∷ [])
     → Says (record r { out = out; clock = clock; counts = counts; cost = r.cost + entry_cost e }) (packets ++ p ∷ []) text (entries ++ e ∷ [])
 own_said r packets text entries p e out clock counts says none may other plain is times events clock_is counted =
@@ -86,7 +86,7 @@ own_said r packets text entries p e out clock counts says none may other plain i
     }
 
 -- no count on the channel is later, in packets either
-goes : (r : Recording) (packets : List Packet) (text : List ℕ) (entries : List Entry) (channel type count : ℕ) → Says r packets text entries → HasNone channel r.builders → 0 < channel
+goes : (r : Recording) (packets : List Packet) (text : List ℕ) (entries : List Entry) (channel type count : ℕ) → Says r packets text entries → HasNoneOf channel r.builders → 0 < channel
     → AllByRecursion (λ p. p.channel ≡ channel → type_of p.content ≡ type) packets → last_count 0 (on_channel channel entries) ≤ count → ChannelGoesOn packets channel type count
 goes r packets text entries channel type count says none above is later = record {
   above = above;
@@ -144,5 +144,5 @@ events_carried r image text entries carried apart count number rise counts few l
 }
 
 -- what an event tells is what is kept of its number
-pub told : (r : Recording) (packets : List Packet) (text : List ℕ) (entries : List Entry) → Says r packets text entries → (number : ℕ) → get_or r.counts number 0 ≡ occurrences number (file_entries packets)
-told r packets text entries says number = says.counts_are number ∙ ap (λ n. n % 65536) (sym (in_packets packets r.builders entries number says.entries_are says.messages))
+pub reported : (r : Recording) (packets : List Packet) (text : List ℕ) (entries : List Entry) → Says r packets text entries → (number : ℕ) → get_or r.counts number 0 ≡ occurrences number (file_entries packets)
+reported r packets text entries says number = says.counts_are number ∙ ap (λ n. n % 65536) (sym (in_packets packets r.builders entries number says.entries_are says.messages))

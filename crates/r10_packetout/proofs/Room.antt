@@ -20,9 +20,9 @@ use Rattle.r10_body.proofs.Rules.{bytes_more}
 use Rattle.r10_builder.specs.State.{BuilderState}
 use Rattle.r10_builder.specs.declared.closed.Closed.{Closed}
 use Rattle.r10_builder.specs.Grows.{all_held}
-use Rattle.r10_builder.specs.Next.{event_packet, grown_by, report_packet, reporting, setup_packet, time_packet}
+use Rattle.r10_builder.specs.Next.{event_packet, extended_by, report_packet, reporting, setup_packet, time_packet}
 use Rattle.r10_builder.proofs.Rising.{rise_behind}
-use Rattle.r10_builder.specs.Packed.{HandsOn}
+use Rattle.r10_builder.specs.Packed.{HandsOnPacket}
 use Rattle.r10_builder.specs.Settings.{AreChannelSettings, specs_of}
 use Rattle.r10_index.specs.Written.{index_size}
 use Rattle.r10_packetout.specs.Packets.{Describes, bare, packet_size, report_size}
@@ -70,18 +70,18 @@ reported_long packets p (Lost n) e may =
 reported_long packets p Unknown e may = rw e (omega arith)
 
 pub handed_fits : (r : Recording) (packets : List Packet) (text : List ℕ) (entries more : List Entry) (builders : List BuilderState) → Says r packets text entries → StandApart r → HasNoEvents more
-    → (closed : Closed) (hands : HandsOn closed packets r.builders more builders) → r.cost + sum_by entry_cost more < 2 ^ 63
-    → length (file_bytes packets) + report_size closed.gap + packet_size closed.header closed.body.items + index_size (length (grown_by packets hands.packet)) ≤ r.cost + sum_by entry_cost more
+    → (closed : Closed) (hands : HandsOnPacket closed packets r.builders more builders) → r.cost + sum_by entry_cost more < 2 ^ 63
+    → length (file_bytes packets) + report_size closed.gap + packet_size closed.header closed.body.items + index_size (length (extended_by packets hands.packet)) ≤ r.cost + sum_by entry_cost more
 handed_fits r packets text entries more builders says apart plain closed hands small =
     let p : Packet = hands.packet in
     let cost : ℕ = r.cost + sum_by entry_cost more in
     let is : Describes closed.header closed.body.items p = record { fits = hands.fits; header_is = ap bare hands.header; body_is = hands.body } in
-    let ends = behind closed.header closed.body.items (reporting packets p) p (length (grown_by packets p)) cost is
-    (index_covered (record r { builders = builders; cost = cost }) (grown_by packets p) text (entries ++ more)
+    let ends = behind closed.header closed.body.items (reporting packets p) p (length (extended_by packets p)) cost is
+    (index_covered (record r { builders = builders; cost = cost }) (extended_by packets p) text (entries ++ more)
     (packet_said r packets text entries more builders says apart plain closed hands r.out) small) in
     let front : length (file_bytes (reporting packets p)) ≡ length (file_bytes packets) + report_size closed.gap =
     reported_long packets p p.gap refl hands.reports ∙ ap (λ (g : Gap). length (file_bytes packets) + report_size g) (sym hands.gap) in
-    subst (λ n. n + packet_size closed.header closed.body.items + index_size (length (grown_by packets p)) ≤ cost) front ends
+    subst (λ n. n + packet_size closed.header closed.body.items + index_size (length (extended_by packets p)) ≤ cost) front ends
 
 pub time_fits : (r : Recording) (packets : List Packet) (text : List ℕ) (entries : List Entry) → Says r packets text entries → StandApart r → (count : ℕ) (civil : Parts)
     → last_count 0 (on_channel r.time entries) ≤ count → IsCount count → IsCivil civil → (header : Header) (body : List ℕ) → Describes header body (time_packet r.time count civil)

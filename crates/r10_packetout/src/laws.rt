@@ -20,8 +20,8 @@ ghost use Rattle.r10_builder.specs.Packing.{entry_on};
 ghost use Rattle.r10_builder.specs.State.{BuilderState};
 ghost use Rattle.r10_builder.specs.declared.closed.Closed.{Closed};
 ghost use Rattle.r10_builder.specs.Grows.{all_held};
-ghost use Rattle.r10_builder.specs.Next.{event_packet, grown_by, setup_packet, time_packet};
-ghost use Rattle.r10_builder.specs.Packed.{HandsOn, TakesInSamples};
+ghost use Rattle.r10_builder.specs.Next.{event_packet, extended_by, setup_packet, time_packet};
+ghost use Rattle.r10_builder.specs.Packed.{HandsOnPacket, TakesInSamples};
 ghost use Rattle.r10_builder.specs.Settings.{AreChannelSettings, BuilderTakes, specs_of};
 ghost use Rattle.r10_packetout.specs.Output.{Has, Writing};
 ghost use Rattle.r10_packetout.specs.Packets.{Describes, packet_size, report_size};
@@ -47,8 +47,9 @@ pub fn samples_are_no_events()
 pub fn packets_are_carried()
     ensures { (r : Recording) (image : MediumImage) (text : List ℕ) (entries : List Entry) (more : List Entry)
         (builders : List BuilderState) (carried : Records r image text entries) → StandApart r → HasNoEvents more
-        → (closed : Closed) (hands : HandsOn closed carried.packets r.builders more builders) (out : Writing) (later : MediumImage)
-        → Has out later (grown_by carried.packets hands.packet) → Records
+        → (closed : Closed) (hands : HandsOnPacket closed carried.packets r.builders more builders) (out : Writing)
+        (later : MediumImage)
+        → Has out later (extended_by carried.packets hands.packet) → Records
         (record r { builders = builders; out = out; cost = r.cost + sum_by entry_cost more }) later text (entries ++ more) }
 {}
 
@@ -75,7 +76,7 @@ pub fn events_are_carried()
           counts = set r.counts number ((get_or r.counts number 0 + 1) % 65536);
           cost = r.cost + entry_cost (next_event_entry r.event count number entries);
         }) later text (entries ++ next_event_entry r.event count number entries ∷ []) }
-    ensures told { (r : Recording) (packets : List StrictPacket) (text : List ℕ) (entries : List Entry)
+    ensures reported { (r : Recording) (packets : List StrictPacket) (text : List ℕ) (entries : List Entry)
         → Says r packets text entries → (number : ℕ) → get_or r.counts number 0 ≡ occurrences number (file_entries packets) }
 {}
 
@@ -113,9 +114,10 @@ pub fn packets_have_room()
         → Says r packets text entries → r.cost < 2 ^ 63 → length (file_bytes packets) + index_size (length packets) ≤ r.cost }
     ensures handed { (r : Recording) (packets : List StrictPacket) (text : List ℕ) (entries : List Entry)
         (more : List Entry) (builders : List BuilderState) → Says r packets text entries → StandApart r → HasNoEvents more
-        → (closed : Closed) (hands : HandsOn closed packets r.builders more builders) → r.cost + sum_by entry_cost more < 2 ^ 63
+        → (closed : Closed) (hands : HandsOnPacket closed packets r.builders more builders)
+        → r.cost + sum_by entry_cost more < 2 ^ 63
         → length (file_bytes packets) + report_size closed.gap + packet_size closed.header closed.body.items + index_size
-        (length (grown_by packets hands.packet)) ≤ r.cost + sum_by entry_cost more }
+        (length (extended_by packets hands.packet)) ≤ r.cost + sum_by entry_cost more }
     ensures time { (r : Recording) (packets : List StrictPacket) (text : List ℕ) (entries : List Entry)
         → Says r packets text entries → StandApart r
         → (count : ℕ) (civil : Parts) → last_count 0 (on_channel r.time entries) ≤ count → IsCount count

@@ -2,4 +2,4 @@ pub mod Fronts
 pub mod Finding
 pub mod Playing
 pub mod Queue
-mod Kept
+mod WrittenStays

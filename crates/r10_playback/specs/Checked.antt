@@ -14,6 +14,11 @@ verdict_outcome Strict = Done
 verdict_outcome (Lenient opaque) = Done
 verdict_outcome (Faulty offset fault) = Refused
 
+-- a writer was given the line of a verdict
+abbrev pub PrintsVerdict : Verdict → Outcome → Option (List ℕ) → Option (List ℕ) → Type 0
+PrintsVerdict verdict outcome old new = (outcome ≡ verdict_outcome verdict) × Appends old new (verdict_line verdict)
+
 -- a writer was given the line of the verdict on these bytes
 abbrev pub Checks : List ℕ → Outcome → Option (List ℕ) → Option (List ℕ) → Type 0
-Checks bytes outcome old new = (verdict : Verdict) × IsVerdict bytes verdict × (outcome ≡ verdict_outcome verdict) × Appends old new (verdict_line verdict)
+Checks bytes outcome old new = (verdict : Verdict) × IsVerdict bytes verdict × (outcome ≡ verdict_outcome verdict)
+    × Appends old new (verdict_line verdict)

@@ -26,9 +26,9 @@ abbrev pub HasCounts : Selection → Type 0
 HasCounts s = IsCount s.from × IsCount s.to
 
 -- the channels that a replay is given: this one, or none, which is all, where it is 0
-abbrev pub channels_of : ℕ → List ℕ
-channels_of zero = []
-channels_of (suc n) = suc n ∷ []
+abbrev pub channels_asked : ℕ → List ℕ
+channels_asked zero = []
+channels_asked (suc n) = suc n ∷ []
 
 -- the medium's directory has this file at this number
 abbrev pub IsListed : Image → ℕ → ListedFile → Type 0
@@ -51,13 +51,14 @@ pub record IsInstalment (image : Image) (s : Selection) (entries : List Entry) :
   pub found : IsListedInside image s.file file
   pub packets : List Packet
   pub has : HasStrictPackets image file packets
-  pub in_order : Ordered (wanted (channels_of s.channel) s.from s.to (file_entries packets)) entries
+  pub in_order : Ordered (wanted (channels_asked s.channel) s.from s.to (file_entries packets)) entries
 
 -- ---- refusals, in order
 
 -- the chain can't be taken first at this block, or it lists the file, which doesn't lie inside the medium
 abbrev pub IsBadBlock : Image → ℕ → ℕ → Type 0
-IsBadBlock image number n = IsBad image n ⊎ ((f : ListedFile) × IsListed image number f × (is_inside (length image) f.entry ≡ false) × (n ≡ f.number))
+IsBadBlock image number n = IsBad image n ⊎ ((f : ListedFile) × IsListed image number f × (is_inside (length image) f.entry ≡ false)
+    × (n ≡ f.number))
 
 -- the directory has no file of this number
 abbrev pub HasNoFile : Image → ℕ → Type 0
@@ -71,7 +72,8 @@ abbrev pub IsPlayRefusal : Image → Selection → PlayRefusal → Type 0
 IsPlayRefusal image s play_refusals.CountRange = HasCounts s → ⊥
 IsPlayRefusal image s (play_refusals.BadDirectory n) = HasCounts s × IsBadBlock image s.file n
 IsPlayRefusal image s play_refusals.NoSuchFile = HasCounts s × HasNoFile image s.file
-IsPlayRefusal image s play_refusals.NotStrict = HasCounts s × ((f : ListedFile) × IsListedInside image s.file f × IsAtFaultOn image f)
+IsPlayRefusal image s play_refusals.NotStrict = HasCounts s
+    × ((f : ListedFile) × IsListedInside image s.file f × IsAtFaultOn image f)
 
 abbrev pub IsPlayFault : Image → Selection → PlayFault → Type 0
 IsPlayFault image s (play_faults.Refused refusal) = IsPlayRefusal image s refusal

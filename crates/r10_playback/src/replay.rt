@@ -2,7 +2,7 @@
 
 ghost use Rattle.std.specs.Prelude.{◌≡◌, IfOk, IfErr};
 ghost use Rattle.r10_medium.specs.Disk.{Unchanged};
-ghost use Rattle.r10_playback.specs.Played.{channels_of, IsInstalment, IsPlayFault, PlayHasCause};
+ghost use Rattle.r10_playback.specs.Played.{channels_asked, IsInstalment, IsPlayFault, PlayHasCause};
 
 use crate::file::{find_file, strict_tracks};
 use crate::selection::{PlayFault, PlayRefusal, Selection};
@@ -27,7 +27,7 @@ pub(crate) fn replay<M: BlockMedium>(
     let file = find_file(alloc, medium, selection.file)?;
     let mut buffer = Vec::new(alloc);
     let tracks = strict_tracks(alloc, medium, &file, &mut buffer)?;
-    let Ok(channels) = channels_of(alloc, selection.channel) else {
+    let Ok(channels) = channels_asked(alloc, selection.channel) else {
         return Err(PlayFault::OutOfMemory);
     };
     let mut cursor = FileReplay::new(alloc, channels, from, to);
@@ -41,8 +41,8 @@ pub(crate) fn replay<M: BlockMedium>(
 }
 
 /// The channels that are asked for: this one, or all where it is 0.
-fn channels_of(alloc: Global, channel: u16) -> Result<Items<u16>, AllocError>
-    ensures { IfOk result (λ channels. channels ≡ channels_of channel) }
+fn channels_asked(alloc: Global, channel: u16) -> Result<Items<u16>, AllocError>
+    ensures { IfOk result (λ channels. channels ≡ channels_asked channel) }
 {
     let mut channels = Vec::new(alloc);
     if channel != 0 {

@@ -31,8 +31,8 @@ sample count message gap = record { count = count; message = message; gap = gap 
 pub sends : (ring ring2 : Ring) (spec : ChannelSpec) (items items2 : List Item) (last : Option ℕ) (missed lost free free2 count : ℕ) (message : Message) (gap : Gap)
     → gap ≡ gap_after missed → ring2 ≡ ring → items2 ≡ items ++ Entry (sample count message gap) ∷ [] → free ≤ free2 + 1 → first_broken (taking_checks spec last count message) ≡ None
     → Offered (sending ring spec items last missed lost free) count message (Ok tt) (sending ring2 spec items2 (Some count) 0 lost free2)
-sends ring ring2 spec items items2 last missed lost free free2 count message gap told same grown room fine =
-    let samples2 = ap samples grown ∙ samples_joined items (Entry (sample count message gap) ∷ []) ∙ ap (λ (g : Gap). samples items ++ sample count message g ∷ []) told in
+sends ring ring2 spec items items2 last missed lost free free2 count message gap reported same grown room fine =
+    let samples2 = ap samples grown ∙ samples_joined items (Entry (sample count message gap) ∷ []) ∙ ap (λ (g : Gap). samples items ++ sample count message g ∷ []) reported in
     rw fine (λ i. record { ring = same i; lane = record { spec = spec; waiting = samples2 i; last = Some count; missed = 0; lost = lost; erased = 0 }; free = free2 }, room)
 
 pub loses : (ring ring2 : Ring) (spec : ChannelSpec) (items items2 : List Item) (last : Option ℕ) (missed missed2 lost lost2 free free2 count : ℕ) (message : Message)

@@ -1,5 +1,6 @@
 -- The two ends of a lane between threads.
-use Rattle.std.specs.Prelude.{◌≡◌, ℕ, ◌+◌, ◌≤◌, List, [], ◌∷◌, ◌++◌, drop, length, Option, Some, None, Result, Err, MatchOption, MatchResult}
+use Rattle.std.specs.Prelude.{◌≡◌, ℕ, ◌+◌, ◌≤◌, List, [], ◌∷◌, ◌++◌, drop, length, Option, Some, None, Result, Err, MatchOption}
+use Rattle.std.specs.Prelude.{MatchResult}
 use denote.RawPtr.{Ptr}
 use Rattle.std.specs.declared.alloc.Global.{Global}
 use Rattle.rtrb.specs.Shared.{Names}
@@ -45,8 +46,8 @@ pub record Sending : Type 0 where
 abbrev pub sent : Sending → List Sample
 sent port = port.lane.waiting
 
--- what an offer answers and leaves: it is refused by the first rule on the message and its count that is broken, and nothing changes;
--- else the message is sent, or it is lost where there may be no room for it
+-- what an offer answers and leaves: it is refused by the first rule on the message and its count that is broken, and nothing
+-- changes; else the message is sent, or it is lost where there may be no room for it
 abbrev pub Offered : Sending → ℕ → Message → Result (Unit {0}) Refusal → Sending → Type 0
 Offered old count message result new = MatchOption (first_broken (offer_checks (Some old.lane) count message))
     (MatchResult result

@@ -23,9 +23,11 @@ abbrev pub MayJoin : Option Item → List Sample → Item → Type 0
 MayJoin None before (Announce spec) = Unit {0}
 MayJoin None before (Entry x) = ⊥
 MayJoin (Some (Announce spec)) before (Announce other) = ⊥
-MayJoin (Some (Announce spec)) before (Entry x) = (0 < spec.capacity) × (first_broken (taking_checks spec (last_count_or None before) x.count x.message) ≡ None) × IsSoundGap x.gap
+MayJoin (Some (Announce spec)) before (Entry x) = (0 < spec.capacity)
+    × (first_broken (taking_checks spec (last_count_or None before) x.count x.message) ≡ None) × IsSoundGap x.gap
 MayJoin (Some (Entry y)) before item = ⊥
 
--- a channel's settings come first, and then, on a channel that has any room, what passes the checks of an offer on it, with a gap that tells no loss of none
+-- a channel's settings come first, and then, on a channel that has any room, what passes the checks of an offer on it, with a
+-- gap that tells no loss of none
 abbrev pub ItemMayFollow : List Item → Item → Type 0
 ItemMayFollow before item = MayJoin (slice_get before 0) (samples before) item

@@ -17,7 +17,8 @@ use Rattle.r10_port.specs.declared.item.Item.{Item}
 use Rattle.r10_port.specs.declared.item.Item.TheVariants.{Announce, Entry}
 use Rattle.r10_port.specs.declared.rule.InOrder.{InOrder}
 use Rattle.r10_port.specs.Items.{ItemMayFollow}
-use Rattle.r10_port.specs.Ends.{Ring, Sending, Receiving, Offered, TookReceived, places, reached_by_outlet, ring_of, next_known, unreceived, with_losses}
+use Rattle.r10_port.specs.Ends.{Ring, Sending, Receiving, Offered, TookReceived, places, reached_by_outlet, ring_of, next_known}
+use Rattle.r10_port.specs.Ends.{unreceived, with_losses}
 
 abbrev channel : ChannelSpec
 channel = record { id = 5; kind = kinds.Uart; capacity = 2; check = 0; bytes = 524288; number = 65535; bits = 0 }
@@ -52,7 +53,8 @@ module _ (ring : Ring) where
   full = port ring (first ∷ second ∷ []) (Some 2) 0 0 0
 
   -- two are sent, the third is lost
-  one_is_sent : Offered (record { ring = ring; lane = fresh_lane channel; free = 2 }) 1 (text 0x41) (Ok tt) (port ring (first ∷ []) (Some 1) 0 0 1)
+  one_is_sent : Offered (record { ring = ring; lane = fresh_lane channel; free = 2 }) 1 (text 0x41) (Ok tt)
+      (port ring (first ∷ []) (Some 1) 0 0 1)
   one_is_sent = (refl, lit≤ tt)
 
   two_are_sent : Offered (port ring (first ∷ []) (Some 1) 0 0 1) 2 (text 0x42) (Ok tt) full
@@ -63,30 +65,51 @@ module _ (ring : Ring) where
 
   -- one is taken, and the next that is sent tells that one was lost
   one_is_taken : TookReceived (outlet ring []) (first ∷ []) (outlet ring (first ∷ []))
-  one_is_taken = record { same = (refl, refl); received = refl; gives = record { passes = (refl, tt); gaps = (tt, tt); counts = (lit≤ tt, tt); climbs = (lit≤ tt, lit≤ tt) }; rises = lit≤ tt; room = λ e. absurd (cc) }
+  one_is_taken = record {
+    same = (refl, refl);
+    received = refl;
+    gives = record { passes = (refl, tt); gaps = (tt, tt); counts = (lit≤ tt, tt); climbs = (lit≤ tt, lit≤ tt) };
+    rises = lit≤ tt;
+    room = λ e. absurd (cc);
+  }
 
-  a_gap_is_marked : Offered (port ring (first ∷ second ∷ []) (Some 2) 1 1 0) 4 (text 0x44) (Ok tt) (port ring (first ∷ second ∷ fourth ∷ []) (Some 4) 0 1 0)
+  a_gap_is_marked : Offered (port ring (first ∷ second ∷ []) (Some 2) 1 1 0) 4 (text 0x44) (Ok tt)
+      (port ring (first ∷ second ∷ fourth ∷ []) (Some 4) 0 1 0)
   a_gap_is_marked = (refl, lit≤ tt)
 
   -- after three losses the next tells three, however many were lost before
-  three_are_told : Offered (port ring (first ∷ second ∷ []) (Some 2) 3 8 0) 4 (text 0x44) (Ok tt) (port ring (first ∷ second ∷ sample 4 0x44 (Lost 3) ∷ []) (Some 4) 0 8 0)
+  three_are_told : Offered (port ring (first ∷ second ∷ []) (Some 2) 3 8 0) 4 (text 0x44) (Ok tt)
+      (port ring (first ∷ second ∷ sample 4 0x44 (Lost 3) ∷ []) (Some 4) 0 8 0)
   three_are_told = (refl, lit≤ tt)
 
   -- losses that were never offered are reported with those that were refused
   more_are_lost : with_losses 40 (port ring (first ∷ second ∷ []) (Some 2) 1 1 0) ≡ port ring (first ∷ second ∷ []) (Some 2) 41 41 0
   more_are_lost = refl
 
-  all_are_told : Offered (with_losses 40 (port ring (first ∷ second ∷ []) (Some 2) 1 1 0)) 4 (text 0x44) (Ok tt) (port ring (first ∷ second ∷ sample 4 0x44 (Lost 41) ∷ []) (Some 4) 0 41 0)
+  all_are_told : Offered (with_losses 40 (port ring (first ∷ second ∷ []) (Some 2) 1 1 0)) 4 (text 0x44) (Ok tt)
+      (port ring (first ∷ second ∷ sample 4 0x44 (Lost 41) ∷ []) (Some 4) 0 41 0)
   all_are_told = (refl, lit≤ tt)
 
   none_are_lost : with_losses 0 full ≡ full
   none_are_lost = refl
 
-  both_stay : with_losses 7 (port ring [] None 18446744073709551609 18446744073709551614 1) ≡ port ring [] None 18446744073709551615 18446744073709551615 1
+  both_stay : with_losses 7 (port ring [] None 18446744073709551609 18446744073709551614 1) ≡ port ring [] None 18446744073709551615
+      18446744073709551615 1
   both_stay = refl
 
   two_are_taken : TookReceived (outlet ring (first ∷ [])) (second ∷ fourth ∷ []) (outlet ring (first ∷ second ∷ fourth ∷ []))
-  two_are_taken = record { same = (refl, refl); received = refl; gives = record { passes = (refl, (refl, tt)); gaps = (tt, ((lit< tt, lit< tt), tt)); counts = (lit≤ tt, (lit≤ tt, tt)); climbs = (lit≤ tt, (lit≤ tt, lit≤ tt)) }; rises = lit≤ tt; room = λ e. absurd (cc) }
+  two_are_taken = record {
+    same = (refl, refl);
+    received = refl;
+    gives = record {
+      passes = (refl, (refl, tt));
+      gaps = (tt, ((lit< tt, lit< tt), tt));
+      counts = (lit≤ tt, (lit≤ tt, tt));
+      climbs = (lit≤ tt, (lit≤ tt, lit≤ tt));
+    };
+    rises = lit≤ tt;
+    room = λ e. absurd (cc);
+  }
 
   -- what is left between the two ends
   one_is_left : unreceived (outlet ring (first ∷ [])) full ≡ second ∷ []
@@ -103,7 +126,8 @@ module _ (ring : Ring) where
   a_count_back = (refl, refl)
 
   -- the losses stay at the greatest of 64 bits
-  losses_stay : Offered (port ring [] None 1 18446744073709551615 0) 3 (text 0x43) (Err Overflow) (port ring [] None 2 18446744073709551615 0)
+  losses_stay : Offered (port ring [] None 1 18446744073709551615 0) 3 (text 0x43) (Err Overflow)
+      (port ring [] None 2 18446744073709551615 0)
   losses_stay = (refl, refl, refl)
 
   -- what has been reached: nothing, the last that was received

@@ -1,4 +1,4 @@
--- What a stop leaves between two calls, carried over a call.
+-- What a power loss leaves between two calls, carried over a call.
 use Rattle.std.proofs.Common.{◌≡◌, inl, inr, List, [], ◌∷◌, map, None, Option, Some, refl, sym, ap, ◌∙◌, subst}
 use Rattle.std.specs.Prelude.{IfSome}
 use Rattle.std.specs.List.{last_or}
@@ -7,8 +7,8 @@ use Rattle.r10_machine.specs.Config.{Config}
 use Rattle.r10_machine.specs.Machine.{File}
 use Rattle.r10_machine.specs.Needs.{shown_part}
 use Rattle.r10_machine.specs.Says.{MediumSays}
-use Rattle.r10_refinement.specs.Kept.{Work, mode_of, unmounted, idle, recording, failed}
-use Rattle.r10_medium.proofs.Stops.{one_image, reads_now, settled_now, settled_stays}
+use Rattle.r10_refinement.specs.KeptState.{Work, mode_of, unmounted, idle, recording, failed}
+use Rattle.r10_medium.proofs.PowerLoss.{one_image, reads_now, settled_now, settled_stays}
 use Rattle.r10_medium.specs.Disk.{Disk, Image, IsSynced, Unchanged, block_at}
 use Rattle.r10_medium.specs.Stop.{Leaves, Settled}
 use Rattle.r10_refinement.proofs.Finding.{parts_said}
@@ -86,7 +86,7 @@ safe_parts s (recording chain o) files others disk same safe = λ image may.
     record { says = parts_said s image files others same was.says; bytes = last_parts files others disk.blocks image same was.bytes }
 safe_parts s failed files others disk same safe = absurd safe
 
--- and a stop leaves the files
+-- and a power loss leaves the files
 pub safe_says : (s : Config) (work : Work) (files : List File) (disk : Disk) → IsSafe s work files disk → Settled (λ image. MediumSays s image files) disk
 safe_says s unmounted files disk safe = safe
 safe_says s (idle chain) files disk (synced, says) = λ image may. subst (λ (i : Image). MediumSays s i files) (sym (one_image disk synced image may)) says

@@ -23,7 +23,7 @@ use Rattle.r10_machine.specs.EventChecks.{refusal}
 use Rattle.r10_machine.specs.Step.{Step}
 use Rattle.r10_machine.specs.declared.event.Event.TheVariants.{Commit, Seal}
 use Rattle.r10_machine.specs.declared.reply.Reply.TheVariants as replies
-use Rattle.r10_refinement.specs.Kept.{Kept, mode_of, idle, recording}
+use Rattle.r10_refinement.specs.KeptState.{Kept, mode_of, idle, recording}
 use Rattle.r10_refinement.specs.Means.{LanesAreCounted, KeptStepsTo, KeptStandsFor}
 use Rattle.r10_refinement.proofs.Leading.{StepsStaySound, failing, no_fewer, numbers_at}
 use Rattle.r10_refinement.proofs.Owning.{last_follows}

@@ -26,7 +26,7 @@ use Rattle.r10_machine.specs.declared.event.Event.{Event as EventValue}
 use Rattle.r10_machine.specs.declared.event.Event.TheVariants.{Mount, Dismount, Tick, Start, Offer, Lose, Pump, Event, Commit, Stop, Seal, Erase, Files, Status, Cursor, Advance, Next, Close, Find, CountAt}
 use Rattle.r10_machine.specs.declared.reply.Reply.{Reply as ReplyValue}
 use Rattle.r10_machine.specs.declared.reply.Reply.TheVariants as replies
-use Rattle.r10_refinement.specs.Kept.{Kept, Work, mode_of, unmounted, idle, failed}
+use Rattle.r10_refinement.specs.KeptState.{Kept, Work, mode_of, unmounted, idle, failed}
 use Rattle.r10_refinement.specs.Means.{LanesAreCounted, HasFiles, LaneIsCounted, KeptStepsTo, KeptStandsFor, NumbersAre}
 use Rattle.r10_refinement.proofs.Owning.{mounted_follows, none_follow}
 use Rattle.r10_volume.proofs.Listed.{count_told}

@@ -1,16 +1,16 @@
--- Runs, and what a stop at any moment of them leaves.
+-- Runs, and what a power loss at any moment of them leaves.
 use Rattle.std.proofs.Common.{◌≡◌, ⊎_elim, inl, inr, ℕ, zero, suc, List, [], ◌∷◌, ◌++◌, length, take, refl, sym, ap, ◌∙◌, arith, slice_get, IsSomeAnd}
 use Rattle.std.proofs.lemmas.List.{length-append, take-append-le, take_all}
 use Rattle.r10_machine.specs.Config.{Config}
 use Rattle.r10_machine.specs.Machine.{Machine}
 use Rattle.r10_medium.specs.Disk.{Disk, Image, Unchanged}
 use Rattle.r10_medium.specs.Stop.{Leaves, Settled}
-use Rattle.r10_medium.proofs.Stops.{joined, settled_now, started, stayed, weakened}
+use Rattle.r10_medium.proofs.PowerLoss.{joined, settled_now, started, stayed, weakened}
 use Rattle.r10_machine.specs.Says.{MediumSays}
 use Rattle.r10_machine.specs.Step.{Run}
 use Rattle.r10_machine.specs.declared.event.Event.{Event as EventValue}
 use Rattle.r10_machine.specs.declared.reply.Reply.{Reply as ReplyValue}
-use Rattle.r10_refinement.specs.Left.{IsEither, IsLeft, Makes}
+use Rattle.r10_refinement.specs.PowerLossInCalls.{IsEither, IsLeft, Makes}
 
 -- ---- lists
 
@@ -33,11 +33,11 @@ run_long s old new es rs images run = absurd run
 left_more : (s : Config) (m : Machine) (es : List EventValue) (rs : List ReplyValue) (event : EventValue) (reply : ReplyValue) (image : Image) → IsLeft s m es rs image → IsLeft s m (es ++ event ∷ []) (rs ++ reply ∷ []) image
 left_more s m es rs event reply image left = record {
   done = left.done;
-  told = omega (arith, left.told, length-append es (event ∷ []));
+  reported = omega (arith, left.reported, length-append es (event ∷ []));
   answered = omega (arith, left.answered, length-append rs (reply ∷ []));
   images = left.images;
   at = left.at;
-  run = rw (take-append-le left.done es (event ∷ []) left.told, take-append-le left.done rs (reply ∷ []) left.answered) left.run;
+  run = rw (take-append-le left.done es (event ∷ []) left.reported, take-append-le left.done rs (reply ∷ []) left.answered) left.run;
   says = ⊎_elim (λ says. inl says) (λ next. inr (get_more es event (λ e. Makes s left.at e image) left.done next)) left.says;
 }
 
@@ -49,7 +49,7 @@ left_next s m mid es rs images event reply image run either =
     let replied : take (length es) (rs ++ reply ∷ []) ≡ rs = take-append-le (length es) rs (reply ∷ []) (omega (arith, long)) ∙ ap (λ n. take n rs) (sym long) ∙ take_all (length rs) rs (omega arith) in
     record {
       done = length es;
-      told = omega (arith, length-append es (event ∷ []));
+      reported = omega (arith, length-append es (event ∷ []));
       answered = omega (arith, long, length-append rs (reply ∷ []));
       images = images;
       at = mid;
@@ -62,7 +62,7 @@ left_next s m mid es rs images event reply image run either =
 pub leaves_begun : (s : Config) (m : Machine) (disk : Disk) → Settled (λ image. MediumSays s image m.files) disk → Leaves (IsLeft s m [] []) disk disk
 leaves_begun s m disk settled = started (IsLeft s m [] []) disk (λ image may. record {
   done = 0;
-  told = omega arith;
+  reported = omega arith;
   answered = omega arith;
   images = [];
   at = m;

@@ -3,9 +3,9 @@ pub mod Leading
 pub mod Lasting
 pub mod Growing
 mod Taking
-mod Told
+mod LaneCalls
 pub mod Finding
 pub mod Showing
 pub mod Leaving
 pub mod Keeping
-pub mod Behind
+pub mod SafeCalls

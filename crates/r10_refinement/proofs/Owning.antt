@@ -3,7 +3,7 @@ use Rattle.std.proofs.Common.{◌≡◌, ◌⊎◌, ℕ, suc, ◌+◌, inl, inr,
 use Rattle.std.specs.Option.{option_or}
 use Rattle.std.proofs.lemmas.List.{append-nil, map-append, replicate_more}
 use Rattle.r10_machine.specs.Machine.{File}
-use Rattle.r10_refinement.specs.Kept.{unmounted}
+use Rattle.r10_refinement.specs.KeptState.{unmounted}
 use Rattle.r10_refinement.specs.Means.{OwnFilesAre, OwnFollow}
 
 abbrev flags_of : List File → List Bool

@@ -55,16 +55,16 @@ does_show s old (Pump channel most) (replies.Moved n) new all plain does =
     (λ f in_file. ap (λ (m : Machine). shows m.files) in_file.2 ∙ last_shows (take n (waiting_entries lane)) old.files all) in_lane) does
 does_show s old (Event number count) replies.Done new all plain does =
     some_of (last_file old) _ (shows new.files ≡ shows old.files) (λ f in_file. ap (λ (m : Machine). shows m.files) in_file.1 ∙ last_shows _ old.files all) does
-does_show s old Files (replies.Files files) new all plain (told, is) = ap (λ (m : Machine). shows m.files) is
-does_show s old Status (replies.Status status) new all plain (told, is) = ap (λ (m : Machine). shows m.files) is
+does_show s old Files (replies.Files files) new all plain (reported, is) = ap (λ (m : Machine). shows m.files) is
+does_show s old Status (replies.Status status) new all plain (reported, is) = ap (λ (m : Machine). shows m.files) is
 does_show s old (Cursor file channels from to) (replies.Cursor id) new all plain (free, sets) = sets_show old new id _ sets
 does_show s old (Advance id) (replies.Advanced n) new all plain does =
     some_of (cursor_of id old) _ (shows new.files ≡ shows old.files) (λ c at. some_of (slice_get old.files c.file) _ (shows new.files ≡ shows old.files) (λ f in_file. sets_show old new id _ in_file.3) at) does
 does_show s old (Next id) (replies.Next given) new all plain does =
     some_of (cursor_of id old) _ (shows new.files ≡ shows old.files) (λ c at. sets_show old new id _ at.1) does
 does_show s old (Close id) replies.Done new all plain sets = sets_show old new id _ sets
-does_show s old (Find file channel count) (replies.Found answer) new all plain (told, is) = ap (λ (m : Machine). shows m.files) is
-does_show s old (CountAt file parts) (replies.CountAt answer) new all plain (told, is) = ap (λ (m : Machine). shows m.files) is
+does_show s old (Find file channel count) (replies.Found answer) new all plain (reported, is) = ap (λ (m : Machine). shows m.files) is
+does_show s old (CountAt file parts) (replies.CountAt answer) new all plain (reported, is) = ap (λ (m : Machine). shows m.files) is
 does_show s old (Start name setup) reply new all plain does = cc
 does_show s old Commit reply new all plain does = cc
 does_show s old Stop reply new all plain does = cc

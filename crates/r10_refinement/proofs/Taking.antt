@@ -15,7 +15,7 @@ use Rattle.r10_machine.specs.Step.{Step}
 use Rattle.r10_machine.specs.declared.event.Event.TheVariants.{Pump, Stop}
 use Rattle.r10_machine.specs.declared.reply.Reply.TheVariants as replies
 use Rattle.r10_refinement.specs.Grown.{AreGrown}
-use Rattle.r10_refinement.specs.Kept.{Kept, mode_of, idle, recording}
+use Rattle.r10_refinement.specs.KeptState.{Kept, mode_of, idle, recording}
 use Rattle.r10_refinement.specs.Means.{LanesAreCounted, LaneIsCounted, KeptStepsTo, KeptStandsFor}
 use Rattle.r10_refinement.proofs.Growing.{numbers_grow}
 use Rattle.r10_refinement.proofs.Lasting.{closed_numbers}

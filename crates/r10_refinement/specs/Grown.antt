@@ -8,5 +8,6 @@ use Rattle.r10_machine.specs.Machine.{saturated}
 -- of each channel as many were taken in as before, and these
 abbrev pub AreGrown : List Entry → List ChannelSpec → List ℕ → List ℕ → Type 0
 AreGrown more [] [] [] = Unit {0}
-AreGrown more (spec ∷ specs) (t ∷ taken) (u ∷ grown) = (u ≡ saturated (t + length (on_channel spec.id more))) × AreGrown more specs taken grown
+AreGrown more (spec ∷ specs) (t ∷ taken) (u ∷ grown) = (u ≡ saturated (t + length (on_channel spec.id more)))
+    × AreGrown more specs taken grown
 AreGrown more specs taken grown = ⊥

@@ -1,7 +1,7 @@
-pub mod Kept
+pub mod KeptState
 pub mod Means
 pub mod Grown
 pub mod Again
-pub mod Left
+pub mod PowerLossInCalls
 pub mod Quiet
 pub mod Safe

@@ -12,7 +12,7 @@ use Rattle.r10_machine.specs.Sound.{IsSound}
 use Rattle.r10_machine.specs.Step.{Step}
 use Rattle.r10_machine.specs.declared.event.Event.{Event as EventValue}
 use Rattle.r10_machine.specs.declared.reply.Reply.{Reply as ReplyValue}
-use Rattle.r10_refinement.specs.Kept.{Kept, Work, mode_of, unmounted, idle, recording, failed}
+use Rattle.r10_refinement.specs.KeptState.{Kept, Work, mode_of, unmounted, idle, recording, failed}
 
 -- the files are those that the medium says; of one in use, by its directory, with the file that is written
 abbrev pub HasFiles : Config → Work → Image → List File → Type 0
@@ -29,7 +29,8 @@ pub record LaneIsCounted (files : List File) (spec : ChannelSpec) (taken erased 
 
 abbrev pub LanesAreCounted : List File → List ChannelSpec → List ℕ → List ℕ → List Lane → Type 0
 LanesAreCounted files [] [] [] [] = Unit {0}
-LanesAreCounted files (spec ∷ specs) (t ∷ taken) (e ∷ erased) (lane ∷ lanes) = LaneIsCounted files spec t e lane × LanesAreCounted files specs taken erased lanes
+LanesAreCounted files (spec ∷ specs) (t ∷ taken) (e ∷ erased) (lane ∷ lanes) = LaneIsCounted files spec t e lane
+    × LanesAreCounted files specs taken erased lanes
 LanesAreCounted files specs taken erased lanes = ⊥
 
 -- of the files the first, so many, were found, and all after them are the recorder's own
@@ -41,7 +42,8 @@ pub record OwnFollow (found : Option ℕ) (files : List File) : Type 0 where
 
 -- so it is from the first mount on; before it none is the recorder's own
 abbrev pub OwnFilesAre : Work → Option ℕ → List File → Type 0
-OwnFilesAre unmounted found files = ((found ≡ None) × (map (λ (f : File). f.own) files ≡ replicate (length files) false)) ⊎ OwnFollow found files
+OwnFilesAre unmounted found files = ((found ≡ None) × (map (λ (f : File). f.own) files ≡ replicate (length files) false))
+    ⊎ OwnFollow found files
 OwnFilesAre (idle chain) found files = OwnFollow found files
 OwnFilesAre (recording chain file) found files = OwnFollow found files
 OwnFilesAre failed found files = Unit {0}
@@ -50,7 +52,8 @@ OwnFilesAre failed found files = Unit {0}
 abbrev pub NumbersAre : Kept → Machine → Type 0
 NumbersAre k m = elim k.work [
   | failed ↦ Unit {0}
-  | _ ↦ (m.last_event ≡ k.last_event) × (m.generation ≡ k.generation) × LanesAreCounted m.files k.config.channels k.taken k.erased m.lanes × OwnFilesAre k.work k.found m.files
+  | _ ↦ (m.last_event ≡ k.last_event) × (m.generation ≡ k.generation)
+      × LanesAreCounted m.files k.config.channels k.taken k.erased m.lanes × OwnFilesAre k.work k.found m.files
 ]
 
 -- what is kept, over a medium that reads as an image and has failed so often, represents this machine, whatever waits in its lanes
@@ -63,6 +66,7 @@ pub record KeptStandsFor (k : Kept) (image : Image) (failures : ℕ) (m : Machin
   pub sound : IsSound k.config m
 
 -- the step leads to this machine, which is represented then
-pub record KeptStepsTo (k : Kept) (m : Machine) (event : EventValue) (reply : ReplyValue) (later : Kept) (image : Image) (failures : ℕ) (machine : Machine) : Type 0 where
+pub record KeptStepsTo (k : Kept) (m : Machine) (event : EventValue) (reply : ReplyValue) (later : Kept) (image : Image)
+    (failures : ℕ) (machine : Machine) : Type 0 where
   pub step : Step k.config m event reply machine
   pub means : KeptStandsFor later image failures machine

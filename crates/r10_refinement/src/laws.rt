@@ -25,7 +25,7 @@ ghost use Rattle.r10_machine.specs.declared.event.Event.{Event as EventValue};
 ghost use Rattle.r10_machine.specs.declared.event.Event.TheVariants as events;
 ghost use Rattle.r10_machine.specs.declared.reply.Reply.TheVariants as replies;
 ghost use Rattle.r10_refinement.specs.Grown.{AreGrown};
-ghost use Rattle.r10_refinement.specs.Kept.{Kept, unmounted, idle, recording, failed};
+ghost use Rattle.r10_refinement.specs.KeptState.{Kept, unmounted, idle, recording, failed};
 ghost use Rattle.r10_refinement.specs.Means.{LanesAreCounted, KeptStepsTo, KeptStandsFor};
 
 use r10_machine::a_step_stays_sound;

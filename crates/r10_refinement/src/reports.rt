@@ -13,7 +13,7 @@ ghost use Rattle.r10_machine.specs.Finding.{count_at, found, info_of, status_of}
 ghost use Rattle.r10_machine.specs.Step.{after_refusal};
 ghost use Rattle.r10_machine.specs.declared.event.Event.TheVariants as events;
 ghost use Rattle.r10_machine.specs.declared.reply.Reply.TheVariants as replies;
-ghost use Rattle.r10_refinement.specs.Kept.{Kept};
+ghost use Rattle.r10_refinement.specs.KeptState.{Kept};
 ghost use Rattle.r10_refinement.specs.Means.{KeptStepsTo, KeptStandsFor};
 
 use r10_machine::a_step_stays_sound;

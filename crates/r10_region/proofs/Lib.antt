@@ -1,4 +1,4 @@
-mod Asking
+mod OneMoreOperation
 pub mod Lines
 mod Runs
 pub mod Turns

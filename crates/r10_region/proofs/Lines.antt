@@ -43,9 +43,9 @@ module _ {T A P : Type 0} where
   producer_on a b c p q = (ring_on a.end b.end c.end p.0 q.0, q.1 ∙ p.1)
 
 -- the ring in use was looked at, and has no place
-pub keeps_behind : (told : Bool) (old mid new : LineValue) → mid.links ≡ old.links → mid.spares ≡ old.spares → mid.first ≡ old.first → SameProducer old.ring mid.ring → sent mid.ring ≡ sent old.ring → known_free old.ring ≡ 0
-    → KeepsLine told mid new → KeepsLine told old new
-keeps_behind told old mid new links spares first ring same none k = record {
+pub keeps_behind : (reported : Bool) (old mid new : LineValue) → mid.links ≡ old.links → mid.spares ≡ old.spares → mid.first ≡ old.first → SameProducer old.ring mid.ring → sent mid.ring ≡ sent old.ring → known_free old.ring ≡ 0
+    → KeepsLine reported mid new → KeepsLine reported old new
+keeps_behind reported old mid new links spares first ring same none k = record {
   links = subst (λ (p : _). SameProducer p new.links) links k.links;
   ring = elim k.ring [
     | inl keeps ↦ inl (record { out = keeps.out ∙ ap sent links; ring = producer_on old.ring mid.ring new.ring ring keeps.ring })

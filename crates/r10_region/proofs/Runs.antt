@@ -5,10 +5,10 @@ use mathlib.Core.List.{IsPrefix}
 use Rattle.rtrb.specs.Ring.{SameConsumer}
 use Rattle.rtrb.specs.declared.consumer.Consumer.{Consumer}
 use Rattle.r10_region.proofs.Lines.{ring_on}
-use Rattle.r10_region.specs.Joining.{JoinsMore, TakesOne}
+use Rattle.r10_region.specs.Joining.{JoinsMore, TakesOneWrite}
 use Rattle.rtrb.specs.Ring.{known_items}
 use Rattle.r10_region.specs.Orders.{HasSameTurn, IsSameEnd, taken}
-use Rattle.r10_region.specs.Runs.{joins, grown_by, put_in_run, AllJoin, grown_by_all, put_all_in_run}
+use Rattle.r10_region.specs.Runs.{joins, run_length_with, put_in_run, AllJoin, grown_by_all, put_all_in_run}
 use Rattle.r10_region.specs.declared.operation.Operation.{Operation as OperationValue}
 use Rattle.r10_region.specs.declared.orders.Orders.{Orders as OrdersValue}
 
@@ -24,11 +24,11 @@ end_on a b c p q = record { ring = consumer_on a.ring b.ring c.ring p.ring q.rin
 pub all_join_more : (first count most : ℕ) (ops : List OperationValue) (op : OperationValue) → AllJoin first count most ops → joins first (grown_by_all first ops count) most op ≡ true
     → AllJoin first count most (ops ++ op ∷ [])
 all_join_more first count most [] op all is = (is, tt)
-all_join_more first count most (o ∷ ops) op all is = (all.0, all_join_more first (grown_by first o count) most ops op all.1 is)
+all_join_more first count most (o ∷ ops) op all is = (all.0, all_join_more first (run_length_with first o count) most ops op all.1 is)
 
-pub grown_by_more : (first count : ℕ) (ops : List OperationValue) (op : OperationValue) → grown_by_all first (ops ++ op ∷ []) count ≡ grown_by first op (grown_by_all first ops count)
+pub grown_by_more : (first count : ℕ) (ops : List OperationValue) (op : OperationValue) → grown_by_all first (ops ++ op ∷ []) count ≡ run_length_with first op (grown_by_all first ops count)
 grown_by_more first count [] op = refl
-grown_by_more first count (o ∷ ops) op = grown_by_more first (grown_by first o count) ops op
+grown_by_more first count (o ∷ ops) op = grown_by_more first (run_length_with first o count) ops op
 
 pub put_more : (first : ℕ) (ops : List OperationValue) (op : OperationValue) (run : List ℕ) → put_all_in_run first (ops ++ op ∷ []) run ≡ put_in_run first op (put_all_in_run first ops run)
 put_more first [] op run = refl
@@ -36,7 +36,7 @@ put_more first (o ∷ ops) op run = put_more first ops op (put_in_run first o ru
 
 -- one more joins
 pub joins_on : (first most : ℕ) (old mid new : OrdersValue) (before between after : List ℕ) (count blocks : ℕ) → JoinsMore first most old mid before between count → IsSameEnd mid new
-    → TakesOne first count most mid new between after blocks → JoinsMore first most old new before after blocks
+    → TakesOneWrite first count most mid new between after blocks → JoinsMore first most old new before after blocks
 joins_on first most old mid new before between after count blocks j same t = record {
   queue = end_on old mid new j.queue same;
   ops = j.ops ++ t.op ∷ [];
@@ -45,7 +45,7 @@ joins_on first most old mid new before between after count blocks j same t = rec
     known = j.takes.known ∙ ap (λ (xs : List OperationValue). j.ops ++ xs) t.takes.known ∙ sym (append_assoc j.ops (t.op ∷ []) (known_items new.ring));
   };
   all_join = all_join_more first 1 most j.ops t.op j.all_join (subst (λ (n : ℕ). joins first n most t.op ≡ true) j.blocks_are t.joins);
-  blocks_are = t.blocks_are ∙ ap (grown_by first t.op) j.blocks_are ∙ sym (grown_by_more first 1 j.ops t.op);
+  blocks_are = t.blocks_are ∙ ap (run_length_with first t.op) j.blocks_are ∙ sym (grown_by_more first 1 j.ops t.op);
   lent = t.lent ∙ ap (put_in_run first t.op) j.lent ∙ sym (put_more first j.ops t.op before);
 }
 

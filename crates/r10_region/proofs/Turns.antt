@@ -6,8 +6,8 @@ use Rattle.rtrb.specs.Ring.{sent, received, known_items, IsPair}
 use Rattle.r10_region.proofs.Lines.{linked_at, ring_is, told_before_append, told_before_more}
 use Rattle.r10_region.specs.Ahead.{links_ahead}
 use Rattle.r10_region.specs.Links.{RingName, last_name, name_of, told_before, AreLinked}
-use Rattle.r10_region.specs.Orders.{taken, handed, no_order, no_run, order_out, written_bytes}
-use Rattle.r10_region.specs.Orders.{Hands, HandsMore, HandsNext, HandsNextRun, HandsNone, HasAhead, HasHandedAll, IsSameEnd, IsSameQueueEnd, IsTied, LineLooked, Reaches}
+use Rattle.r10_region.specs.Orders.{taken, all_handed_out, no_order, no_run, order_out, written_bytes}
+use Rattle.r10_region.specs.Orders.{Hands, HandsMore, HandsNext, HandsNextRun, HandsNone, HasAhead, HasHandedAll, IsSameEnd, IsSameQueueEnd, IsTied, LineLooked, LooksAtLine}
 use Rattle.r10_region.specs.declared.operation.Operation.TheVariants.{Write, Sync}
 use Rattle.r10_region.specs.declared.orders.OrderOut.{OrderOut}
 use Rattle.r10_region.specs.declared.orders.RunOut.{RunOut}
@@ -62,7 +62,7 @@ tied_on l m a b t p q = record {
 pub record Goes (l m : LineValue) (old new : OrdersValue) (n : ℕ) : Type 0 where
   pub line : LineLooked l m
   pub queue : IsSameQueueEnd old new
-  pub same : handed new ≡ handed old
+  pub same : all_handed_out new ≡ all_handed_out old
   pub none : new.ahead ≡ None
   pub all : received new.links ++ known_items new.links ≡ sent m.links
   pub left : length (known_items new.links) ≡ n
@@ -77,8 +77,8 @@ more_after links done known was ops here last is all =
     ∙ append_assoc (told_before done ++ ops) here (told_before known ++ last)
 
 -- the ring in hand has more, and another one is ahead
-pub reached_more : (l m : LineValue) (old new : OrdersValue) (known : List Link) → LineLooked l m → IsSameQueueEnd old new → handed new ≡ handed old → received new.links ++ known ≡ sent m.links
-    → HasAhead new → Reaches l m old new
+pub reached_more : (l m : LineValue) (old new : OrdersValue) (known : List Link) → LineLooked l m → IsSameQueueEnd old new → all_handed_out new ≡ all_handed_out old → received new.links ++ known ≡ sent m.links
+    → HasAhead new → LooksAtLine l m old new
 reached_more l m old new known line queue same all has = record {
   line = line;
   queue = queue;
@@ -108,22 +108,22 @@ popped_all old new known later all l out is e =
 pub end_queue : (a b : OrdersValue) → IsSameEnd a b → IsSameQueueEnd a b
 end_queue a b q = record { links = ap (λ (c : _). name_of c.end) q.links; first = q.turn.first; was = q.turn.was; news = q.news; spares = q.spares; room = q.room }
 
-handed_on : (a b : OrdersValue) (ops : List OperationValue) → IsSameEnd a b → taken b ≡ taken a ++ ops → handed b ≡ handed a ++ ops
+handed_on : (a b : OrdersValue) (ops : List OperationValue) → IsSameEnd a b → taken b ≡ taken a ++ ops → all_handed_out b ≡ all_handed_out a ++ ops
 handed_on a b ops q is =
     ap (λ (d : _). told_before (received d.value) ++ taken b) q.turn.done ∙ ap (λ (xs : List OperationValue). told_before (received a.done.value) ++ xs) is
     ∙ sym (append_assoc (told_before (received a.done.value)) (taken a) ops)
 
-handed_still : (a b : OrdersValue) → IsSameEnd a b → taken b ≡ taken a → handed b ≡ handed a
+handed_still : (a b : OrdersValue) → IsSameEnd a b → taken b ≡ taken a → all_handed_out b ≡ all_handed_out a
 handed_still a b q is =
     ap (λ (d : _). told_before (received d.value) ++ taken b) q.turn.done ∙ ap (λ (xs : List OperationValue). told_before (received a.done.value) ++ xs) is
 
-module _ (wanted more : List OperationValue) (old mid new : OrdersValue) (same : handed mid ≡ handed old) (all : wanted ≡ handed mid ++ (known_items mid.ring ++ more)) (q : IsSameEnd mid new) where
+module _ (wanted more : List OperationValue) (old mid new : OrdersValue) (same : all_handed_out mid ≡ all_handed_out old) (all : wanted ≡ all_handed_out mid ++ (known_items mid.ring ++ more)) (q : IsSameEnd mid new) where
   hands_more : (ops : List OperationValue) → taken new ≡ taken mid ++ ops → known_items mid.ring ≡ ops ++ known_items new.ring → HandsMore ops wanted old new
   hands_more ops is known = let on = handed_on mid new ops q is in let rest = known_items new.ring ++ more in record {
     more = on ∙ ap (λ (xs : List OperationValue). xs ++ ops) same;
     rest = rest;
-    next = all ∙ ap (λ (k : List OperationValue). handed mid ++ (k ++ more)) known
-        ∙ ap (λ (xs : List OperationValue). handed mid ++ xs) (append_assoc ops (known_items new.ring) more) ∙ sym (append_assoc (handed mid) ops rest)
+    next = all ∙ ap (λ (k : List OperationValue). all_handed_out mid ++ (k ++ more)) known
+        ∙ ap (λ (xs : List OperationValue). all_handed_out mid ++ xs) (append_assoc ops (known_items new.ring) more) ∙ sym (append_assoc (all_handed_out mid) ops rest)
         ∙ ap (λ (xs : List OperationValue). xs ++ rest) (sym on);
   }
 
@@ -131,18 +131,18 @@ module _ (wanted more : List OperationValue) (old mid new : OrdersValue) (same :
       → HasHandedAll none_is wanted old new out before after
   handed_all none_is out before after none h = let still = handed_still mid new q h.has.no_more in record {
     no_more = still ∙ same;
-    all = all ∙ ap (λ (k : List OperationValue). handed mid ++ (k ++ more)) h.has.none ∙ ap (λ (xs : List OperationValue). handed mid ++ xs) (none h.has.none) ∙ append-nil (handed mid) ∙ sym still;
-    told = h.told;
+    all = all ∙ ap (λ (k : List OperationValue). all_handed_out mid ++ (k ++ more)) h.has.none ∙ ap (λ (xs : List OperationValue). all_handed_out mid ++ xs) (none h.has.none) ∙ append-nil (all_handed_out mid) ∙ sym still;
+    reported = h.reported;
     lent = h.lent;
   }
 
   pub order_next : (out : OrderOut) (before after : List ℕ) → (known_items mid.ring ≡ [] → more ≡ [])
       → ((op : OperationValue) × Hands op mid new out before after) ⊎ HandsNone no_order mid new out before after
       → ((op : OperationValue) × HandsMore (op ∷ []) wanted old new × (out ≡ order_out op) × (after ≡ written_bytes op before)) ⊎ HasHandedAll no_order wanted old new out before after
-  order_next out before after none (inl (op, h)) = inl (op, hands_more (op ∷ []) h.takes.one_more h.takes.known, h.told, h.lent)
+  order_next out before after none (inl (op, h)) = inl (op, hands_more (op ∷ []) h.takes.one_more h.takes.known, h.reported, h.lent)
   order_next out before after none (inr h) = inr (handed_all no_order out before after none h)
 
   pub run_next : (out : RunOut) (before after : List ℕ) → (known_items mid.ring ≡ [] → more ≡ []) → HandsNext mid new out before after → HandsNextRun wanted old new out before after
   run_next out before after none (HandsNext.run first bytes ops takes is) = HandsNextRun.run first bytes ops (hands_more (Write first bytes ∷ ops) takes.more takes.known) is
-  run_next out before after none (HandsNext.sync takes told lent) = HandsNextRun.sync (hands_more (Sync ∷ []) takes.one_more takes.known) told lent
+  run_next out before after none (HandsNext.sync takes reported lent) = HandsNextRun.sync (hands_more (Sync ∷ []) takes.one_more takes.known) reported lent
   run_next out before after none (HandsNext.none h) = HandsNextRun.none (handed_all no_run out before after none h)

@@ -27,13 +27,14 @@ pub record KeepsRing (old new : LineValue) : Type 0 where
   pub out : sent_links new ≡ sent_links old
   pub ring : SameProducer old.ring new.ring
 
--- After an operation that was queued, which took a place at most of those known to be free, or began a further ring where there was none; it was not queued only where no place
--- was known to be free, and none is, and where there is no spare ring, or as many rings wait as may.
-pub record KeepsLine (told : Bool) (old new : LineValue) : Type 0 where
+-- After an operation that was queued, which took a place at most of those known to be free, or began a further ring where there
+-- was none; it was not queued only where no place was known to be free, and none is, and where there is no spare ring, or as many
+-- rings wait as may.
+pub record KeepsLine (reported : Bool) (old new : LineValue) : Type 0 where
   pub links : SameProducer old.links new.links
   pub ring : KeepsRing old new ⊎ BeginsRing old new
   pub places : known_free old.ring ≤ known_free new.ring + 1
-  pub full : told ≡ false → (known_free old.ring ≡ 0) × (known_free new.ring ≡ 0)
+  pub full : reported ≡ false → (known_free old.ring ≡ 0) × (known_free new.ring ≡ 0)
   pub spares : SameConsumer old.spares new.spares
   pub first : new.first ≡ old.first
-  pub no_spare : told ≡ false → (known_free new.links ≡ 0) ⊎ (known_items new.spares ≡ [])
+  pub no_spare : reported ≡ false → (known_free new.links ≡ 0) ⊎ (known_items new.spares ≡ [])

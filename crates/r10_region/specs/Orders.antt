@@ -1,6 +1,8 @@
 -- What is handed out of the operations that a disk has to do.
-use Rattle.std.specs.Prelude.{◌≡◌, ◌≢◌, ◌⊎◌, ℕ, ◌/◌, ◌+◌, ◌-◌, ◌≤◌, Bool, true, false, List, [], ◌∷◌, ◌++◌, drop, length, max, None, Some, MatchBool}
-use Rattle.rtrb.specs.Ring.{sent, received, known_items, known_free, consumer_capacity, producer_capacity, IsPair, SameConsumer, SameProducer, ConsumerLooked}
+use Rattle.std.specs.Prelude.{◌≡◌, ◌≢◌, ◌⊎◌, ℕ, ◌/◌, ◌+◌, ◌-◌, ◌≤◌, Bool, true, false, List, [], ◌∷◌, ◌++◌, drop, length, max}
+use Rattle.std.specs.Prelude.{None, Some, MatchBool}
+use Rattle.rtrb.specs.Ring.{sent, received, known_items, known_free, consumer_capacity, producer_capacity, IsPair, SameConsumer}
+use Rattle.rtrb.specs.Ring.{SameProducer, ConsumerLooked}
 use Rattle.r10_region.specs.Ahead.{links_ahead}
 use Rattle.r10_region.specs.Line.{told_by}
 use Rattle.r10_region.specs.Links.{name_of, told_before}
@@ -32,8 +34,8 @@ abbrev pub taken : OrdersValue → List OperationValue
 taken o = received o.ring
 
 -- all that were handed out, in order
-abbrev pub handed : OrdersValue → List OperationValue
-handed o = told_before (received o.done.value) ++ taken o
+abbrev pub all_handed_out : OrdersValue → List OperationValue
+all_handed_out o = told_before (received o.done.value) ++ taken o
 
 -- nothing was handed out yet of what the region asks its disk, and all comes out here
 pub record IsOtherEnd (r : Region) (o : OrdersValue) : Type 0 where
@@ -46,7 +48,7 @@ pub record IsOtherEnd (r : Region) (o : OrdersValue) : Type 0 where
   pub no_spares : sent o.spares ≡ []
   pub none_out : received o.ring ≡ []
   pub no_links : received o.links ≡ []
-  pub nothing : handed o ≡ []
+  pub nothing : all_handed_out o ≡ []
 
 -- ---- which ring is in hand
 
@@ -70,22 +72,23 @@ pub record HasAhead (o : OrdersValue) : Type 0 where
 pub record MovesOn (moved : Bool) (old new : OrdersValue) : Type 0 where
   pub queue : IsSameQueueEnd old new
   pub links : new.links ≡ old.links
-  pub same : handed new ≡ handed old
+  pub same : all_handed_out new ≡ all_handed_out old
   pub has : MatchBool moved (new.ahead ≡ None) (HasAhead new)
 
 -- nothing was put into the line, of which more may be known
 pub record LineLooked (old new : LineValue) : Type 0 where
   pub links : name_of new.links.end ≡ name_of old.links.end
   pub first : new.first ≡ old.first
-  pub told : told_by new ≡ told_by old
+  pub reported : told_by new ≡ told_by old
 
--- Nothing was handed out. What was put into the line is what was handed out, what is known in the ring in hand, and more, if that has something.
-pub record Reaches (l l' : LineValue) (old new : OrdersValue) : Type 0 where
+-- Nothing was handed out. What was put into the line is what was handed out, what is known in the ring in
+-- hand, and more, if that has something.
+pub record LooksAtLine (l l' : LineValue) (old new : OrdersValue) : Type 0 where
   pub line : LineLooked l l'
   pub queue : IsSameQueueEnd old new
-  pub same : handed new ≡ handed old
+  pub same : all_handed_out new ≡ all_handed_out old
   pub more : List OperationValue
-  pub all : told_by l' ≡ handed new ++ (known_items new.ring ++ more)
+  pub all : told_by l' ≡ all_handed_out new ++ (known_items new.ring ++ more)
   pub none : known_items new.ring ≡ [] → more ≡ []
 
 -- ---- one operation
@@ -124,20 +127,20 @@ pub record TakesFirst (op : OperationValue) (old new : OrdersValue) : Type 0 whe
   pub known : known_items old.ring ≡ op ∷ known_items new.ring
 
 -- none is known there
-pub record HasNone (old new : OrdersValue) : Type 0 where
+pub record HasNoOrder (old new : OrdersValue) : Type 0 where
   pub no_more : taken new ≡ taken old
   pub none : known_items old.ring ≡ []
 
 -- one more was handed out
 pub record Hands (op : OperationValue) (old new : OrdersValue) (out : OrderOut) (before after : List ℕ) : Type 0 where
   pub takes : TakesFirst op old new
-  pub told : out ≡ order_out op
+  pub reported : out ≡ order_out op
   pub lent : after ≡ written_bytes op before
 
 -- there was none
 pub record HandsNone {Out : Type 0} (none_is : Out) (old new : OrdersValue) (out : Out) (before after : List ℕ) : Type 0 where
-  pub has : HasNone old new
-  pub told : out ≡ none_is
+  pub has : HasNoOrder old new
+  pub reported : out ≡ none_is
   pub lent : after ≡ before
 
 -- of those that are known in the ring in hand the next was handed out, or there was none
@@ -147,7 +150,8 @@ pub record HandsOne (old new : OrdersValue) (out : OrderOut) (before after : Lis
 
 -- ---- what the region asked
 
--- Of the region no more is known than before but of places: it was asked nothing, and what it reads and what a stop leaves is as it was.
+-- Of the region no more is known than before but of places: it was asked nothing, and what it reads and what a power loss leaves is
+-- as it was.
 pub record IsLookedInto (old new : Region) : Type 0 where
   pub blocks : (region_disk new).blocks ≡ (region_disk old).blocks
   pub failures : (region_disk new).failures ≡ (region_disk old).failures
@@ -157,22 +161,24 @@ pub record IsLookedInto (old new : Region) : Type 0 where
 
 -- These were handed out, which come next of all that was asked.
 pub record HandsMore (ops wanted : List OperationValue) (old new : OrdersValue) : Type 0 where
-  pub more : handed new ≡ handed old ++ ops
+  pub more : all_handed_out new ≡ all_handed_out old ++ ops
   pub rest : List OperationValue
-  pub next : wanted ≡ handed new ++ rest
+  pub next : wanted ≡ all_handed_out new ++ rest
 
 -- All that was asked was handed out before.
-pub record HasHandedAll {Out : Type 0} (none_is : Out) (wanted : List OperationValue) (old new : OrdersValue) (out : Out) (before after : List ℕ) : Type 0 where
-  pub no_more : handed new ≡ handed old
-  pub all : wanted ≡ handed new
-  pub told : out ≡ none_is
+pub record HasHandedAll {Out : Type 0} (none_is : Out) (wanted : List OperationValue) (old new : OrdersValue) (out : Out)
+    (before after : List ℕ) : Type 0 where
+  pub no_more : all_handed_out new ≡ all_handed_out old
+  pub all : wanted ≡ all_handed_out new
+  pub reported : out ≡ none_is
   pub lent : after ≡ before
 
 -- The next operation that the region asked was handed out, or all were before.
 pub record HandsOrderOut (r r' : Region) (old new : OrdersValue) (out : OrderOut) (before after : List ℕ) : Type 0 where
   pub region : IsLookedInto r r'
   pub queue : IsSameQueueEnd old new
-  pub hands : ((op : OperationValue) × HandsMore (op ∷ []) (asked r') old new × (out ≡ order_out op) × (after ≡ written_bytes op before))
+  pub hands : ((op : OperationValue) × HandsMore (op ∷ []) (asked r') old new × (out ≡ order_out op)
+      × (after ≡ written_bytes op before))
       ⊎ HasHandedAll no_order (asked r') old new out before after
 
 -- ---- a run
@@ -186,7 +192,7 @@ sync_run = record { block = 0; blocks = 0; kind = 2 }
 -- a write, and as many after it as join it: what each block of the run has then is what was written there last
 pub record IsRun (first : ℕ) (bytes : List ℕ) (ops : List OperationValue) (out : RunOut) (before after : List ℕ) : Type 0 where
   pub all_join : AllJoin first 1 (length before / 512) ops
-  pub told : out ≡ record { block = first; blocks = grown_by_all first ops 1; kind = 1 }
+  pub reported : out ≡ record { block = first; blocks = grown_by_all first ops 1; kind = 1 }
   pub lent : after ≡ put_all_in_run first ops (bytes ++ drop 512 before)
 
 -- these were taken, which are known in the ring in hand
@@ -195,7 +201,8 @@ pub record TakesAll (ops : List OperationValue) (old new : OrdersValue) : Type 0
   pub known : known_items old.ring ≡ ops ++ known_items new.ring
 
 pub data HandsNext (old new : OrdersValue) (out : RunOut) (before after : List ℕ) : Type 0 where
-  run : (first : ℕ) (bytes : List ℕ) (ops : List OperationValue) → TakesAll (Write first bytes ∷ ops) old new → IsRun first bytes ops out before after → HandsNext old new out before after
+  run : (first : ℕ) (bytes : List ℕ) (ops : List OperationValue) → TakesAll (Write first bytes ∷ ops) old new
+      → IsRun first bytes ops out before after → HandsNext old new out before after
   sync : TakesFirst Sync old new → out ≡ sync_run → after ≡ before → HandsNext old new out before after
   none : HandsNone no_run old new out before after → HandsNext old new out before after
 
@@ -205,7 +212,8 @@ pub record HandsSome (old new : OrdersValue) (out : RunOut) (before after : List
   pub hands : HandsNext old new out before after
 
 pub data HandsNextRun (wanted : List OperationValue) (old new : OrdersValue) (out : RunOut) (before after : List ℕ) : Type 0 where
-  run : (first : ℕ) (bytes : List ℕ) (ops : List OperationValue) → HandsMore (Write first bytes ∷ ops) wanted old new → IsRun first bytes ops out before after → HandsNextRun wanted old new out before after
+  run : (first : ℕ) (bytes : List ℕ) (ops : List OperationValue) → HandsMore (Write first bytes ∷ ops) wanted old new
+      → IsRun first bytes ops out before after → HandsNextRun wanted old new out before after
   sync : HandsMore (Sync ∷ []) wanted old new → out ≡ sync_run → after ≡ before → HandsNextRun wanted old new out before after
   none : HasHandedAll no_run wanted old new out before after → HandsNextRun wanted old new out before after
 
@@ -225,7 +233,11 @@ pub record CountsQueue (old new : OrdersValue) (out : QueueOut) : Type 0 where
   pub spares : new.spares ≡ old.spares
   pub room : new.room ≡ old.room
   pub turn : HasSameTurn old new
-  pub told : out ≡ record { waiting = length (known_items new.ring); places = consumer_capacity new.ring; rings = length (known_items new.links) + length (links_ahead new.ahead) }
+  pub reported : out ≡ record {
+    waiting = length (known_items new.ring);
+    places = consumer_capacity new.ring;
+    rings = length (known_items new.links) + length (links_ahead new.ahead);
+  }
 
 -- a failure was reported to the region, or one was reported before and is not yet heard
 pub record HasTold (old new : OrdersValue) : Type 0 where
@@ -235,7 +247,7 @@ pub record HasTold (old new : OrdersValue) : Type 0 where
   pub spares : new.spares ≡ old.spares
   pub room : new.room ≡ old.room
   pub news : SameProducer old.news new.news
-  pub told : (sent new.news ≡ sent old.news ++ true ∷ []) ⊎ ((sent new.news ≡ sent old.news) × (known_free new.news ≡ 0))
+  pub reported : (sent new.news ≡ sent old.news ++ true ∷ []) ⊎ ((sent new.news ≡ sent old.news) × (known_free new.news ≡ 0))
 
 -- ---- room for a call
 
@@ -245,11 +257,12 @@ pub record SendsSpare (old new : OrdersValue) : Type 0 where
   pub sends : sent new.spares ≡ sent old.spares ++ spare ∷ []
   pub places : producer_capacity spare.ring ≡ max old.room 1
 
--- Before memory is asked for there is a place for each of so many operations: in the spare ring that was sent before and is there, in the ring in hand, after which none waits, or in
--- a spare ring that is sent now.
+-- Before memory is asked for there is a place for each of so many operations: in the spare ring that was sent before and is
+-- there, in the ring in hand, after which none waits, or in a spare ring that is sent now.
 pub data HasRoom (old new : OrdersValue) : Type 0 where
   waits : known_free new.spares ≡ 0 → sent new.spares ≡ sent old.spares → HasRoom old new
-  in_hand : new.ahead ≡ None → known_items new.links ≡ [] → old.room ≤ consumer_capacity new.ring - length (known_items new.ring) → sent new.spares ≡ sent old.spares → HasRoom old new
+  in_hand : new.ahead ≡ None → known_items new.links ≡ [] → old.room ≤ consumer_capacity new.ring - length (known_items new.ring)
+      → sent new.spares ≡ sent old.spares → HasRoom old new
   sends : SendsSpare old new → HasRoom old new
 
 abbrev pub HasRoomIf : Bool → OrdersValue → OrdersValue → Type 0

@@ -29,7 +29,8 @@ pub record AsksDisk (op : OperationValue) (old new : Region) : Type 0 where
   pub places : places_known old ≤ places_known new + 1
   pub failures : (region_disk new).failures ≡ (region_disk old).failures
 
--- There was no place known to be free, and none is, and no spare ring is there, or as many rings wait as may: nothing was written, and the disk was asked nothing.
+-- There was no place known to be free, and none is, and no spare ring is there, or as many rings wait as may: nothing was
+-- written, and the disk was asked nothing.
 pub record FindsNoPlace (old new : Region) : Type 0 where
   pub none_known : places_known old ≡ 0
   pub none_left : places_known new ≡ 0

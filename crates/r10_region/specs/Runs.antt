@@ -3,15 +3,16 @@ use Rattle.std.specs.Prelude.{◌≡◌, ℕ, ◌+◌, ◌-◌, ◌*◌, ◌&&�
 use Rattle.r10_region.specs.declared.operation.Operation.{Operation as OperationValue}
 use Rattle.r10_region.specs.declared.operation.Operation.TheVariants.{Write, Sync}
 
--- it writes one of the blocks of a run from this one on, of so many blocks, or the next after them, of which there may be at most so many
+-- it writes one of the blocks of a run from this one on, of so many blocks, or the next after them, of which there may be at
+-- most so many
 abbrev pub joins : ℕ → ℕ → ℕ → OperationValue → Bool
 joins first count most (Write n bytes) = nat_le first n && (nat_le (n - first) count && nat_lt (n - first) most)
 joins first count most Sync = false
 
 -- how many blocks the run has then
-abbrev pub grown_by : ℕ → OperationValue → ℕ → ℕ
-grown_by first (Write n bytes) count = max count (n - first + 1)
-grown_by first Sync count = count
+abbrev pub run_length_with : ℕ → OperationValue → ℕ → ℕ
+run_length_with first (Write n bytes) count = max count (n - first + 1)
+run_length_with first Sync count = count
 
 -- what the run writes then: the block's new bytes in its place
 abbrev pub put_in_run : ℕ → OperationValue → List ℕ → List ℕ
@@ -22,11 +23,11 @@ put_in_run first Sync run = run
 
 abbrev pub AllJoin : ℕ → ℕ → ℕ → List OperationValue → Type 0
 AllJoin first count most [] = Unit {0}
-AllJoin first count most (op ∷ ops) = (joins first count most op ≡ true) × AllJoin first (grown_by first op count) most ops
+AllJoin first count most (op ∷ ops) = (joins first count most op ≡ true) × AllJoin first (run_length_with first op count) most ops
 
 abbrev pub grown_by_all : ℕ → List OperationValue → ℕ → ℕ
 grown_by_all first [] count = count
-grown_by_all first (op ∷ ops) count = grown_by_all first ops (grown_by first op count)
+grown_by_all first (op ∷ ops) count = grown_by_all first ops (run_length_with first op count)
 
 abbrev pub put_all_in_run : ℕ → List OperationValue → List ℕ → List ℕ
 put_all_in_run first [] run = run

@@ -112,7 +112,7 @@ impl Line {
 
     /// Puts an operation after the others. It is not put where there is no place for it and memory for more is refused.
     pub(crate) fn ask(&mut self, operation: Operation) -> bool
-        ensures told { told_by self.new ≡ told_if result operation (told_by self.old) }
+        ensures reported { told_by self.new ≡ told_if result operation (told_by self.old) }
         ensures keeps { KeepsLine result self.old self.new }
     {
         match self.ring.push(operation) {
@@ -125,7 +125,7 @@ impl Line {
     #[cold]
     fn ask_anew(&mut self, operation: Operation) -> bool
         requires { known_free self.old.ring ≡ 0 }
-        ensures told { told_by self.new ≡ told_if result operation (told_by self.old) }
+        ensures reported { told_by self.new ≡ told_if result operation (told_by self.old) }
         ensures keeps { KeepsLine result self.old self.new }
     {
         if self.links.is_full() {

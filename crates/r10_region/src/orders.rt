@@ -4,7 +4,7 @@ ghost use Rattle.std.specs.Prelude.{◌≡◌, ◌≤◌, ◌*◌, ◌++◌, ℕ
 ghost use Rattle.rtrb.specs.Ring.{received};
 ghost use Rattle.r10_region.specs.Ahead.{links_ahead};
 ghost use Rattle.r10_region.specs.Links.{last_name, name_of};
-ghost use Rattle.r10_region.specs.Runs.{grown_by, joins, put_in_run};
+ghost use Rattle.r10_region.specs.Runs.{run_length_with, joins, put_in_run};
 ghost use Rattle.r10_region.specs.declared.ahead.Ahead.{Ahead};
 
 use crate::ahead::Ahead;
@@ -108,7 +108,7 @@ fn joins(operation: &Operation, first: usize, count: usize, most: usize) -> bool
 fn put_in_run(operation: &Operation, first: usize, count: usize, bytes: &mut [u8]) -> usize
     requires { (most : ℕ) × (joins first count most operation.now ≡ true) × (512 * most ≤ length bytes.old) }
     ensures bytes { bytes.new ≡ put_in_run first operation.now bytes.old }
-    ensures count { result ≡ grown_by first operation.now count }
+    ensures count { result ≡ run_length_with first operation.now count }
     ensures size { length bytes.new ≡ length bytes.old }
 {
     match operation {
@@ -129,8 +129,8 @@ impl Orders {
     ghost use Rattle.std.specs.Prelude.{◌/◌, ◌-◌, [], ◌∷◌, None, MatchOption};
     ghost use Rattle.rtrb.specs.Ring.{consumer_capacity, known_items};
     ghost use Rattle.r10_region.specs.Joining.{JoinsMore, JoinsOne};
-    ghost use Rattle.r10_region.specs.Orders.{taken, CountsQueue, HandsOne, HandsSome, HasNone};
-    ghost use Rattle.r10_region.specs.Orders.{HasTold, IsSameEnd, IsTied, LooksAhead, MakesRoom, MovesOn, Reaches, TakesFirst};
+    ghost use Rattle.r10_region.specs.Orders.{taken, CountsQueue, HandsOne, HandsSome, HasNoOrder};
+    ghost use Rattle.r10_region.specs.Orders.{HasTold, IsSameEnd, IsTied, LooksAhead, MakesRoom, MovesOn, LooksAtLine, TakesFirst};
 
     /// Takes the ring ahead in hand where the one in hand has nothing more. False where it has.
     fn move_on(&mut self) -> bool
@@ -154,7 +154,7 @@ impl Orders {
     /// Takes rings in hand until one has something, or nothing waits. What the ring in hand has is then known.
     fn reach(&mut self, line: &mut Line)
         requires { IsTied line.old self.old }
-        ensures { Reaches line.old line.new self.old self.new }
+        ensures { LooksAtLine line.old line.new self.old self.new }
     {
         let further = self.links.slots_beside(&mut line.links);
         if !self.move_on() {
@@ -231,7 +231,7 @@ impl Orders {
     // The next operation that is known in the ring in hand, by value.
     fn pop(&mut self) -> Option<Operation>
         ensures queue { IsSameEnd self.old self.new }
-        ensures takes { MatchOption result (HasNone self.old self.new) (λ op. TakesFirst op self.old self.new) }
+        ensures takes { MatchOption result (HasNoOrder self.old self.new) (λ op. TakesFirst op self.old self.new) }
     {
         if self.ring.cached_slots() == 0 {
             return None;
@@ -332,11 +332,11 @@ impl Orders {
 
 /// Where it looks at its region, it has all in hand or ahead that was asked of the disk and not handed out.
 impl Onlooker<Region> for Orders {
-    ghost use Rattle.r10_region.specs.Orders.{IsLookedInto, IsTiedTo, Reaches};
+    ghost use Rattle.r10_region.specs.Orders.{IsLookedInto, IsTiedTo, LooksAtLine};
 
     ghost may_look = { λ o r. IsTiedTo r o };
 
-    ghost looks = { λ o r o' r'. Reaches r.line r'.line o o' × IsLookedInto r r' };
+    ghost looks = { λ o r o' r'. LooksAtLine r.line r'.line o o' × IsLookedInto r r' };
 
     fn look(&mut self, region: &mut Region) {
         self.reach(&mut region.line);

@@ -16,7 +16,7 @@ pub(crate) fn tell_write(
     block: &[u8; 512],
 ) -> bool
     requires { n < length blocks.old }
-    ensures told { told_by line.new ≡ told_if result (Write n block.now) (told_by line.old) }
+    ensures reported { told_by line.new ≡ told_if result (Write n block.now) (told_by line.old) }
     ensures put { blocks.new ≡ put_if result n block.now blocks.old }
     ensures whole { length block.now ≡ 512 }
     ensures queue { KeepsLine result line.old line.new }

@@ -16,9 +16,9 @@ use rtrb::{Consumer, RingBuffer};
 use std::alloc::{AllocError, Global};
 use std::snapshot::Snapshot;
 
-/// A medium over memory that a program lends. The memory reads as it was last written. What a stop leaves is what it leaves of a
-/// disk that held what was lent, and does the operations that `Orders` hands out, in order. A write or a sync fails only where
-/// memory for one operation more is refused, or where `Orders` was reported that the disk failed.
+/// A medium over memory that a program lends. The memory reads as it was last written. What a power loss leaves is what it leaves
+/// of a disk that held what was lent, and does the operations that `Orders` hands out, in order. A write or a sync fails only
+/// where memory for one operation more is refused, or where `Orders` was reported that the disk failed.
 pub struct Region {
     blocks: &'static mut [[u8; 512]],
     pub(crate) line: Line,
@@ -67,7 +67,7 @@ impl Region {
     pub fn over(alloc: Global, strip: Strip, room: usize) -> Result<(Region, Orders), AllocError>
         ensures blocks { IfOk result (λ r. (region_disk r.0).blocks ≡ strip.held) }
         ensures lent { IfOk result (λ r. lent_to r.0 ≡ strip.held) }
-        ensures sure { IfOk result (λ r. IsSynced (region_disk r.0)) }
+        ensures durable { IfOk result (λ r. IsSynced (region_disk r.0)) }
         ensures failures { IfOk result (λ r. (region_disk r.0).failures ≡ 0) }
         ensures none_yet { IfOk result (λ r. asked r.0 ≡ []) }
         ensures other_end { IfOk result (λ r. IsOtherEnd r.0 r.1) }
@@ -146,7 +146,7 @@ impl BlockMedium for Region {
     }
 
     fn sync(&mut self) -> Result<(), MediumFault>
-        ensures sure { OnOk result (IsSynced (region_disk self.new)) }
+        ensures durable { OnOk result (IsSynced (region_disk self.new)) }
         ensures same { Unchanged (region_disk self.old) (region_disk self.new) }
         ensures counts { Counts (region_disk self.old) (region_disk self.new) result }
         ensures stays { identity_of self.new ≡ identity_of self.old }

@@ -30,7 +30,7 @@ pub trait SteadyMedium: BlockMedium {
 
     /// Syncs, as `sync` does.
     fn steady_sync(&mut self) -> Result<(), MediumFault>
-        ensures sure { OnOk result (IsSynced (Self.disk self.new)) }
+        ensures durable { OnOk result (IsSynced (Self.disk self.new)) }
         ensures same { Unchanged (Self.disk self.old) (Self.disk self.new) }
         ensures counts { Counts (Self.disk self.old) (Self.disk self.new) result }
         ensures stays { identity self.new ≡ identity self.old };

@@ -12,15 +12,19 @@ kind_word kinds.Message = codes "message"
 
 -- only a discrete channel has a number of bits
 abbrev pub channel_keys : Kind → List (List ℕ)
-channel_keys kinds.Discrete = codes "id" ∷ codes "kind" ∷ codes "capacity" ∷ codes "check" ∷ codes "bytes" ∷ codes "number" ∷ codes "bits" ∷ []
+channel_keys kinds.Discrete = codes "id" ∷ codes "kind" ∷ codes "capacity" ∷ codes "check" ∷ codes "bytes" ∷ codes "number"
+    ∷ codes "bits" ∷ []
 channel_keys kind = codes "id" ∷ codes "kind" ∷ codes "capacity" ∷ codes "check" ∷ codes "bytes" ∷ codes "number" ∷ []
 
 -- a step that offers a message has the keys of its kind alone
 abbrev pub offer_keys : Kind → List (List ℕ)
-offer_keys kinds.Uart = codes "do" ∷ codes "channel" ∷ codes "count" ∷ codes "kind" ∷ codes "parity" ∷ codes "sub" ∷ codes "bytes" ∷ []
-offer_keys kinds.Bus1553 = codes "do" ∷ codes "channel" ∷ codes "count" ∷ codes "kind" ∷ codes "status" ∷ codes "gap" ∷ codes "words" ∷ []
+offer_keys kinds.Uart = codes "do" ∷ codes "channel" ∷ codes "count" ∷ codes "kind" ∷ codes "parity" ∷ codes "sub" ∷ codes "bytes"
+    ∷ []
+offer_keys kinds.Bus1553 = codes "do" ∷ codes "channel" ∷ codes "count" ∷ codes "kind" ∷ codes "status" ∷ codes "gap"
+    ∷ codes "words" ∷ []
 offer_keys kinds.Arinc =
-    codes "do" ∷ codes "channel" ∷ codes "count" ∷ codes "kind" ∷ codes "bus" ∷ codes "format" ∷ codes "parity" ∷ codes "high" ∷ codes "data" ∷ []
+    codes "do" ∷ codes "channel" ∷ codes "count" ∷ codes "kind" ∷ codes "bus" ∷ codes "format" ∷ codes "parity" ∷ codes "high"
+    ∷ codes "data" ∷ []
 offer_keys kinds.Discrete = codes "do" ∷ codes "channel" ∷ codes "count" ∷ codes "kind" ∷ codes "states" ∷ []
 offer_keys kinds.Message =
     codes "do" ∷ codes "channel" ∷ codes "count" ∷ codes "kind" ∷ codes "data" ∷ codes "format" ∷ codes "sub" ∷ codes "bytes" ∷ []

@@ -47,8 +47,9 @@ abbrev pub AreValues : Kind → Members → Message → Type 0
 AreValues kind table message = (is_kind kind message ≡ true) × AreMessageKeys table message
 
 -- a message of this kind, under no keys but those of a step that offers one
-abbrev pub IsOfKind : Kind → Members → Message → Type 0
-IsOfKind kind table message = HasOnly (offer_keys kind) table × AreValues kind table message
+abbrev pub IsMessageOfKind : Kind → Members → Message → Type 0
+IsMessageOfKind kind table message = HasOnly (offer_keys kind) table × AreValues kind table message
 
 abbrev pub IsOffered : List ChannelSpec → ℕ → Members → Message → Type 0
-IsOffered channels channel table message = (kind : Kind) × (offered_word channels channel table ≡ Some (kind_word kind)) × IsOfKind kind table message
+IsOffered channels channel table message = (kind : Kind) × (offered_word channels channel table ≡ Some (kind_word kind))
+    × IsMessageOfKind kind table message

@@ -8,7 +8,7 @@ use Rattle.r10_machine.specs.Config.{Config}
 use Rattle.r10_machine.specs.declared.event.Event.{Event}
 use Rattle.r10_script.specs.Keys.{integer_at, text_at, items_or_none_at, HasOnly}
 use Rattle.r10_script.specs.Kinds.{kind_word, channel_keys}
-use Rattle.r10_script.specs.Steps.{IsStep}
+use Rattle.r10_script.specs.Steps.{IsStepTable}
 
 -- each of the items is a table, and asks for what stands at its place
 abbrev pub EachAsks : {A : Type 0} → (Members → A → Type 0) → List Data → List A → Type 0
@@ -47,8 +47,9 @@ AreScriptSettings table s =
     × ItemsAsk IsChannelTable (items_or_none_at table (codes "channel")) s.channels
 
 abbrev pub AreSteps : List ChannelSpec → Members → List Event → Type 0
-AreSteps channels table events = ItemsAsk (IsStep channels) (items_or_none_at table (codes "step")) events
+AreSteps channels table events = ItemsAsk (IsStepTable channels) (items_or_none_at table (codes "step")) events
 
 -- the keys above the tables, and those of the tables
 abbrev pub script_keys : List (List ℕ)
-script_keys = codes "blocks" ∷ codes "directory" ∷ codes "volume" ∷ codes "nodes" ∷ codes "time" ∷ codes "event" ∷ codes "channel" ∷ codes "step" ∷ []
+script_keys = codes "blocks" ∷ codes "directory" ∷ codes "volume" ∷ codes "nodes" ∷ codes "time" ∷ codes "event" ∷ codes "channel"
+    ∷ codes "step" ∷ []

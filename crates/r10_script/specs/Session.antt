@@ -11,7 +11,7 @@ use Rattle.r10_script.specs.Keys.{integer_at, integers_at, items_at, items_or_no
 use Rattle.r10_script.specs.Kinds.{item_keys}
 use Rattle.r10_script.specs.Offers.{AreValues}
 use Rattle.r10_script.specs.Script.{ItemsAsk, script_keys}
-use Rattle.r10_script.specs.Steps.{IsStep}
+use Rattle.r10_script.specs.Steps.{IsStepTable}
 use Rattle.r10_script.specs.declared.session.FeedItem.{FeedItem}
 use Rattle.r10_script.specs.declared.session.FeedItem.TheVariants as items
 use Rattle.r10_script.specs.declared.session.FeedTable.{FeedTable}
@@ -32,14 +32,15 @@ is_order event = false
 
 -- a step that is such a call
 abbrev pub IsOrder : List ChannelSpec → Members → Event → Type 0
-IsOrder channels table event = IsStep channels table event × (is_order event ≡ true)
+IsOrder channels table event = IsStepTable channels table event × (is_order event ≡ true)
 
 abbrev pub AreOrders : List ChannelSpec → Members → List ℕ → List Event → Type 0
 AreOrders channels table key events = ItemsAsk (IsOrder channels) (items_or_none_at table key) events
 
 -- a count, and the keys of a message of the channel's kind, with no other key
 abbrev pub IsTimed : Kind → Members → Timed → Type 0
-IsTimed kind table item = (integer_at table (codes "count") ≡ Some (pos item.count)) × HasOnly (item_keys kind) table × AreValues kind table item.message
+IsTimed kind table item = (integer_at table (codes "count") ≡ Some (pos item.count)) × HasOnly (item_keys kind) table
+    × AreValues kind table item.message
 
 -- a message so, or how many were lost, with no other key
 abbrev pub IsItem : Kind → Members → FeedItem → Type 0
@@ -51,7 +52,8 @@ abbrev pub IsFeed : List ChannelSpec → Members → FeedTable → Type 0
 IsFeed channels table feed =
     (integer_at table (codes "channel") ≡ Some (pos feed.channel))
     × HasOnly (codes "channel" ∷ codes "items" ∷ []) table
-    × ((spec : ChannelSpec) × (find (λ spec. spec.id == feed.channel) channels ≡ Some spec) × ItemsAsk (IsItem spec.kind) (items_at table (codes "items")) feed.items)
+    × ((spec : ChannelSpec) × (find (λ spec. spec.id == feed.channel) channels ≡ Some spec)
+    × ItemsAsk (IsItem spec.kind) (items_at table (codes "items")) feed.items)
 
 -- a file, and what of it is read
 abbrev pub IsReader : Members → ReaderTable → Type 0

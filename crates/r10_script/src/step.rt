@@ -5,7 +5,7 @@ ghost use Rattle.toml.specs.Data.{Members};
 ghost use Rattle.toml.specs.View.{table_view};
 ghost use Rattle.r10_body.specs.declared.spec.ChannelSpec.{ChannelSpec as ChannelSpecValue};
 ghost use Rattle.r10_script.specs.Keys.{integer_at, text_at, HasOnly};
-ghost use Rattle.r10_script.specs.Steps.{IsBareStep, IsCivilText, IsStep};
+ghost use Rattle.r10_script.specs.Steps.{IsBareStep, IsCivilText, IsStepTable};
 
 use crate::offer::offered_of;
 use crate::table::Fields;
@@ -23,7 +23,7 @@ const STEPS: &str =
 
 /// The event that a step's table spells.
 pub fn event_of(channels: &[ChannelSpec], fields: Fields<'_>) -> Result<Event, ScriptFault>
-    ensures { IfOk result (λ event. IsStep channels.now (table_view fields.entry.table.now) event) }
+    ensures { IfOk result (λ event. IsStepTable channels.now (table_view fields.entry.table.now) event) }
 {
     let word = fields.text("do", STEPS)?;
     if let Some(event) = bare_of(word) {
@@ -59,7 +59,7 @@ pub fn event_of(channels: &[ChannelSpec], fields: Fields<'_>) -> Result<Event, S
 /// The event that this word alone spells.
 fn bare_of(word: &str) -> Option<Event>
     ensures { IfSome result (λ event. (channels : List ChannelSpecValue) → (table : Members) → IsBareStep word.now table
-        → IsStep channels table event) }
+        → IsStepTable channels table event) }
 {
     match word {
         "mount" => Some(Event::Mount),
@@ -76,7 +76,7 @@ fn bare_of(word: &str) -> Option<Event>
 
 fn tick_of(fields: Fields<'_>) -> Result<Event, ScriptFault>
     ensures { IfOk result (λ event. (channels : List ChannelSpecValue) → text_at (table_view fields.entry.table.now) (codes "do")
-        ≡ Some (codes "tick") → IsStep channels (table_view fields.entry.table.now) event) }
+        ≡ Some (codes "tick") → IsStepTable channels (table_view fields.entry.table.now) event) }
 {
     fields.only(&["do", "count", "civil"])?;
     let count = fields.count("count")?;
@@ -96,7 +96,7 @@ fn civil_of(fields: Fields<'_>) -> Result<Parts, ScriptFault>
 
 fn start_of(fields: Fields<'_>) -> Result<Event, ScriptFault>
     ensures { IfOk result (λ event. (channels : List ChannelSpecValue) → text_at (table_view fields.entry.table.now) (codes "do")
-        ≡ Some (codes "start") → IsStep channels (table_view fields.entry.table.now) event) }
+        ≡ Some (codes "start") → IsStepTable channels (table_view fields.entry.table.now) event) }
 {
     fields.only(&["do", "name", "setup"])?;
     let name = fields.text_bytes("name", "a text")?;
@@ -109,7 +109,7 @@ fn start_of(fields: Fields<'_>) -> Result<Event, ScriptFault>
 
 fn offer_of(channels: &[ChannelSpec], fields: Fields<'_>) -> Result<Event, ScriptFault>
     ensures { IfOk result (λ event. text_at (table_view fields.entry.table.now) (codes "do") ≡ Some (codes "offer")
-        → IsStep channels.now (table_view fields.entry.table.now) event) }
+        → IsStepTable channels.now (table_view fields.entry.table.now) event) }
 {
     let channel = fields.short("channel")?;
     let count = fields.count("count")?;
@@ -123,7 +123,7 @@ fn offer_of(channels: &[ChannelSpec], fields: Fields<'_>) -> Result<Event, Scrip
 
 fn lose_of(fields: Fields<'_>) -> Result<Event, ScriptFault>
     ensures { IfOk result (λ event. (channels : List ChannelSpecValue) → text_at (table_view fields.entry.table.now) (codes "do")
-        ≡ Some (codes "lose") → IsStep channels (table_view fields.entry.table.now) event) }
+        ≡ Some (codes "lose") → IsStepTable channels (table_view fields.entry.table.now) event) }
 {
     fields.only(&["do", "channel", "count"])?;
     let channel = fields.short("channel")?;
@@ -133,7 +133,7 @@ fn lose_of(fields: Fields<'_>) -> Result<Event, ScriptFault>
 
 fn pump_of(fields: Fields<'_>) -> Result<Event, ScriptFault>
     ensures { IfOk result (λ event. (channels : List ChannelSpecValue) → text_at (table_view fields.entry.table.now) (codes "do")
-        ≡ Some (codes "pump") → IsStep channels (table_view fields.entry.table.now) event) }
+        ≡ Some (codes "pump") → IsStepTable channels (table_view fields.entry.table.now) event) }
 {
     fields.only(&["do", "channel", "k"])?;
     let channel = fields.short("channel")?;
@@ -144,7 +144,7 @@ fn pump_of(fields: Fields<'_>) -> Result<Event, ScriptFault>
 /// A recording event.
 fn recorded_of(fields: Fields<'_>) -> Result<Event, ScriptFault>
     ensures { IfOk result (λ event. (channels : List ChannelSpecValue) → text_at (table_view fields.entry.table.now) (codes "do")
-        ≡ Some (codes "event") → IsStep channels (table_view fields.entry.table.now) event) }
+        ≡ Some (codes "event") → IsStepTable channels (table_view fields.entry.table.now) event) }
 {
     fields.only(&["do", "number", "count"])?;
     let number = fields.short("number")?;
@@ -154,7 +154,7 @@ fn recorded_of(fields: Fields<'_>) -> Result<Event, ScriptFault>
 
 fn cursor_of(fields: Fields<'_>) -> Result<Event, ScriptFault>
     ensures { IfOk result (λ event. (channels : List ChannelSpecValue) → text_at (table_view fields.entry.table.now) (codes "do")
-        ≡ Some (codes "cursor") → IsStep channels (table_view fields.entry.table.now) event) }
+        ≡ Some (codes "cursor") → IsStepTable channels (table_view fields.entry.table.now) event) }
 {
     fields.only(&["do", "file", "channels", "from", "to"])?;
     let file = fields.size("file")?;
@@ -180,7 +180,7 @@ fn id_of(fields: Fields<'_>) -> Result<usize, ScriptFault>
 
 fn find_of(fields: Fields<'_>) -> Result<Event, ScriptFault>
     ensures { IfOk result (λ event. (channels : List ChannelSpecValue) → text_at (table_view fields.entry.table.now) (codes "do")
-        ≡ Some (codes "find") → IsStep channels (table_view fields.entry.table.now) event) }
+        ≡ Some (codes "find") → IsStepTable channels (table_view fields.entry.table.now) event) }
 {
     fields.only(&["do", "file", "channel", "count"])?;
     let file = fields.size("file")?;
@@ -195,7 +195,7 @@ fn find_of(fields: Fields<'_>) -> Result<Event, ScriptFault>
 
 fn count_at_of(fields: Fields<'_>) -> Result<Event, ScriptFault>
     ensures { IfOk result (λ event. (channels : List ChannelSpecValue) → text_at (table_view fields.entry.table.now) (codes "do")
-        ≡ Some (codes "count_at") → IsStep channels (table_view fields.entry.table.now) event) }
+        ≡ Some (codes "count_at") → IsStepTable channels (table_view fields.entry.table.now) event) }
 {
     fields.only(&["do", "file", "civil"])?;
     let file = fields.size("file")?;

@@ -9,7 +9,7 @@ use Rattle.std.proofs.lemmas.List.Concat.{flat_map-append}
 use Rattle.r10_count.specs.declared.civil.Parts.{Parts}
 use Rattle.r10_medium.specs.Disk.{Disk, Image, IsWhole, Unchanged}
 use Rattle.r10_medium.specs.Stop.{Leaves, PutsSome, SameBelow, Settled}
-use Rattle.r10_medium.proofs.Stops.{settled_reads, stayed, weakened, whole_left, whole_reads}
+use Rattle.r10_medium.proofs.PowerLoss.{settled_reads, stayed, weakened, whole_left, whole_reads}
 use Rattle.r10_blockout.specs.Blocks.{Shows, bytes_from, file_blocks}
 use Rattle.r10_blockout.proofs.Showing.{shown_length}
 use Rattle.r10_body.specs.Files.{PacketsSay}
@@ -27,7 +27,7 @@ use Rattle.r10_dirchain.specs.declared.chain.ChainBlock.{ChainBlock}
 use Rattle.r10_dirchain.proofs.Turning.{on_ok}
 use Rattle.r10_volume.specs.Holding.{HoldsFiles, OthersAreFound}
 use Rattle.r10_volume.proofs.Ends.{all_front, all_with}
-use Rattle.r10_volume.proofs.Found.{found_stays}
+use Rattle.r10_volume.proofs.OtherFilesStay.{found_stays}
 use Rattle.r10_volume.proofs.Relisting.{Relists, made_bytes, made_found, made_says, reserved, written_in}
 use Rattle.r10_index.specs.Written.{index_of}
 use Rattle.r10_body.proofs.OneMeaning.{one_list}
@@ -44,7 +44,7 @@ use Rattle.r10_seal.specs.Judging.{IsSealable}
 use Rattle.r10_seal.specs.declared.judging.Sealable.{Sealable}
 use Rattle.r10_seal.specs.Leftover.{IsOpenOrClosed, IsLeftOpen, SealsLast, StaysOpen, shown_cost}
 use Rattle.r10_seal.specs.Sealing.{ListsSealed, IsPartlySealed, IsSealing, IsUnsealed, SealsFile, sealed, sealed_bytes, sealed_entry}
-use Rattle.r10_seal.proofs.Left.{area_is, cost, its_packets, lists, long, packets, put_below, put_bytes, put_says, put_whole, said, say, unsealed, usable}
+use Rattle.r10_seal.proofs.LastFile.{area_is, cost, its_packets, lists, long, packets, put_below, put_bytes, put_says, put_whole, said, say, unsealed, usable}
 use Rattle.r10_seal.proofs.Placing.{directory_stays, last_place}
 use Rattle.r10_seal.proofs.Sealed.{sealed_longer, sealed_say}
 
@@ -247,7 +247,7 @@ module _ {T E : Type 0} (s : Config) (old new : Disk) (chain made : List ChainBl
   g' = sealed nodes all f
 
   pub seals_last : IsPartlySealed nodes e all chain old.blocks new.blocks → Leaves (IsSealing nodes e all chain old) old new → OnOk result (Settled (ListsSealed nodes e all chain made old.blocks) new) → SealsLast nodes s files f old new made result
-  seals_last reads moments sure =
+  seals_last reads moments durable =
       let whole = whole_reads old in
       let Closed : Image → Type 0 = ListsSealed nodes e all chain made old.blocks in
       record {
@@ -255,7 +255,7 @@ module _ {T E : Type 0} (s : Config) (old new : Disk) (chain made : List ChainBl
         unsealed = unsealed s old.blocks chain nodes files f left whole;
         grows = omega (arith, sealed_longer nodes all, long s old.blocks chain nodes files f left whole);
         holds = on_ok result (Settled Closed new) (HoldsFiles s new.blocks made None (files ++ g' ∷ []))
-            (λ settled. closed_holds s old.blocks chain nodes files f left whole e last made new.blocks (settled_reads Closed new settled)) sure;
+            (λ settled. closed_holds s old.blocks chain nodes files f left whole e last made new.blocks (settled_reads Closed new settled)) durable;
         bytes = ⊎_elim (λ put. partly_keeps s old.blocks chain nodes files f left whole e last new.blocks put) (λ closed. closed_keeps s old.blocks chain nodes files f left whole e last closed.0 new.blocks closed.1) reads;
         reads = ⊎_elim
             (λ put. inl (partly_says s old.blocks chain nodes files f left whole e last old.blocks new.blocks whole left.held.says refl put))
@@ -272,7 +272,7 @@ module _ {T E : Type 0} (s : Config) (old new : Disk) (chain made : List ChainBl
             (λ closed. inr (closed_says s old.blocks chain nodes files f left whole e last closed.0 image closed.1)))
             moments;
         settled = on_ok result (Settled Closed new) (IsSettled s (files ++ g' ∷ []) new)
-            (λ settled image now. closed_as s old.blocks chain nodes files f left whole e last made made new.blocks image (settled_reads Closed new settled) (settled image now)) sure;
+            (λ settled image now. closed_as s old.blocks chain nodes files f left whole e last made made new.blocks image (settled_reads Closed new settled) (settled image now)) durable;
       }
 
 -- ---- as laws

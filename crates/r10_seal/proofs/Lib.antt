@@ -3,9 +3,9 @@ pub mod Sealed
 pub mod Putting
 pub mod Marks
 pub mod Setup
-pub mod Behind
+pub mod IndexAtEnd
 pub mod Closed
-pub mod Left
+pub mod LastFile
 pub mod Held
 pub mod Usable
 pub mod Spared

@@ -16,7 +16,7 @@ use Rattle.r10_dirchain.specs.Mount.{place_rules, stands}
 use Rattle.r10_dirchain.specs.OnMedium.{Turned}
 use Rattle.r10_dirchain.specs.Steps.{last_listing}
 use Rattle.r10_dirchain.proofs.FileLists.{last_listing_is, last_of}
-use Rattle.r10_dirchain.proofs.Standing.{Stand, usable_of}
+use Rattle.r10_dirchain.proofs.RulesAsFacts.{Stand, usable_of}
 use Rattle.r10_dirchain.proofs.Usable.{place_rules_hold, placed}
 use Rattle.r10_volume.proofs.Staying.{bytes_behind}
 use Rattle.r10_volume.specs.Mounting.{IsUsable}

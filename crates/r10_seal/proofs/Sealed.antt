@@ -9,7 +9,7 @@ use Rattle.r10_body.specs.Rules.{is_data, last_time, node_entries}
 use Rattle.r10_body.specs.Sequence.{next_sequence}
 use Rattle.r10_packetout.proofs.Closing.{index_says}
 use Rattle.r10_body.proofs.Indexes.{entries_length, not_whole}
-use Rattle.r10_index.proofs.Behind.{all_data, index_closes}
+use Rattle.r10_index.proofs.FileWithIndex.{all_data, index_closes}
 use Rattle.r10_index.proofs.Leaving.{one_by_one}
 use Rattle.r10_index.specs.Written.{IsGroup, index_behind, index_of, index_size}
 use Rattle.r10_judge.specs.Judged.{TracksStrictFile}

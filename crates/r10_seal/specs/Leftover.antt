@@ -18,7 +18,8 @@ use Rattle.r10_seal.specs.declared.fault.SealFault.{SealFault}
 use Rattle.r10_seal.specs.declared.fault.SealFault.TheVariants.{BadFile, MediumFull, Medium, OutOfMemory}
 
 -- a recorder with so many nodes holds these files, of which the last was left open
-pub record IsLeftOpen (s : Config) (image : Image) (chain : List ChainBlock) (nodes : ℕ) (files : List File) (f : File) : Type 0 where
+pub record IsLeftOpen (s : Config) (image : Image) (chain : List ChainBlock) (nodes : ℕ) (files : List File)
+    (f : File) : Type 0 where
   pub held : HoldsFiles s image chain None (files ++ f ∷ [])
   pub unclosed : f.closed ≡ false
   pub nodes_are : nodes ≡ s.nodes
@@ -36,15 +37,20 @@ IsLeftFault s f OutOfMemory = Unit {0}
 
 -- the files with the last of them left open, or closed with the index of these packets, in groups of so many nodes
 abbrev pub IsOpenOrClosed : ℕ → Config → List File → File → List Packet → Image → Type 0
-IsOpenOrClosed nodes s files f packets image = MediumSays s image (files ++ f ∷ []) ⊎ MediumSays s image (files ++ sealed nodes packets f ∷ [])
+IsOpenOrClosed nodes s files f packets image = MediumSays s image (files ++ f ∷ [])
+    ⊎ MediumSays s image (files ++ sealed nodes packets f ∷ [])
 
--- Nothing is closed: the medium says the file as it was left, and where a stop left that before, it leaves it at every moment.
+-- Nothing is closed: the medium says the file as it was left, and where a power loss left that before, it leaves it at every
+-- moment.
 pub record StaysOpen (s : Config) (files : List File) (f : File) (old new : Disk) : Type 0 where
   pub says : MediumSays s new.blocks (files ++ f ∷ [])
   pub left : IsSettled s (files ++ f ∷ []) old → Leaves (λ image. MediumSays s image (files ++ f ∷ [])) old new
 
--- The medium has these packets of the file, which with their index are no fewer bytes. After an Ok the file is held closed with their index, and a stop leaves it so; else, and at every moment, the medium says the file as it was left, or so. All files keep the bytes that they showed.
-pub record SealsLast {T E : Type 0} (nodes : ℕ) (s : Config) (files : List File) (f : File) (old new : Disk) (made : List ChainBlock) (result : Result T E) : Type 0 where
+-- The medium has these packets of the file, which with their index are no fewer bytes. After an Ok the file is held closed
+-- with their index, and a power loss leaves it so; else, and at every moment, the medium says the file as it was left, or so. All
+-- files keep the bytes that they showed.
+pub record SealsLast {T E : Type 0} (nodes : ℕ) (s : Config) (files : List File) (f : File) (old new : Disk)
+    (made : List ChainBlock) (result : Result T E) : Type 0 where
   pub packets : List Packet
   pub unsealed : IsUnsealed (bytes_from old.blocks f.first_block f.size) f.setup packets
   pub grows : f.size ≤ (sealed nodes packets f).size
@@ -54,9 +60,15 @@ pub record SealsLast {T E : Type 0} (nodes : ℕ) (s : Config) (files : List Fil
   pub moments : IsSettled s (files ++ f ∷ []) old → Leaves (IsOpenOrClosed nodes s files f packets) old new
   pub settled : OnOk result (IsSettled s (files ++ sealed nodes packets f ∷ []) new)
 
--- Of files that a recorder with so many nodes holds, the last of them left open, that one is closed with the entries that it shows. Where it may be closed, and after an Ok, it has room. A fault says why it wasn't.
-pub record SealsHeld {T : Type 0} (nodes : ℕ) (chain made : List ChainBlock) (old new : Disk) (result : Result T SealFault) : Type 0 where
-  pub sealed : (s : Config) (files : List File) (f : File) → IsLeftOpen s old.blocks chain nodes files f → SealsLast nodes s files f old new made result
-  pub room : (s : Config) (files : List File) (f : File) → IsLeftOpen s old.blocks chain nodes files f → OnOk result (shown_cost f ≤ area s f)
-  pub costs : (s : Config) (files : List File) (f : File) → IsLeftOpen s old.blocks chain nodes files f → StaysOpen s files f old new ⊎ (shown_cost f ≤ area s f)
-  pub left : (s : Config) (files : List File) (f : File) → IsLeftOpen s old.blocks chain nodes files f → IfErr result (IsLeftFault s f)
+-- Of files that a recorder with so many nodes holds, the last of them left open, that one is closed with the entries that it
+-- shows. Where it may be closed, and after an Ok, it has room. A fault says why it wasn't.
+pub record SealsHeld {T : Type 0} (nodes : ℕ) (chain made : List ChainBlock) (old new : Disk)
+    (result : Result T SealFault) : Type 0 where
+  pub sealed : (s : Config) (files : List File) (f : File) → IsLeftOpen s old.blocks chain nodes files f
+      → SealsLast nodes s files f old new made result
+  pub room : (s : Config) (files : List File) (f : File) → IsLeftOpen s old.blocks chain nodes files f
+      → OnOk result (shown_cost f ≤ area s f)
+  pub costs : (s : Config) (files : List File) (f : File) → IsLeftOpen s old.blocks chain nodes files f
+      → StaysOpen s files f old new ⊎ (shown_cost f ≤ area s f)
+  pub left : (s : Config) (files : List File) (f : File) → IsLeftOpen s old.blocks chain nodes files f
+      → IfErr result (IsLeftFault s f)

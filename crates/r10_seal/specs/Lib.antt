@@ -1,5 +1,5 @@
 pub mod Sealing
 pub mod Judging
 pub mod Leftover
-pub mod Asking
+pub mod SealRequirements
 pub mod ByParts

@@ -45,8 +45,10 @@ sealed nodes packets f = closed_in (length (sealed_bytes nodes packets)) f
 abbrev pub listing_block : List ChainBlock → List ℕ
 listing_block chain = (at chain (last_listing chain)).number ∷ []
 
--- over an image that shows the file with its index, and where nothing but blocks of that was put, the directory is this one: it lists the file closed at its last time
-pub record ListsSealed (nodes : ℕ) (e : DirectoryEntry) (packets : List Packet) (chain made : List ChainBlock) (old image : Image) : Type 0 where
+-- over an image that shows the file with its index, and where nothing but blocks of that was put, the directory is this one:
+-- it lists the file closed at its last time
+pub record ListsSealed (nodes : ℕ) (e : DirectoryEntry) (packets : List Packet) (chain made : List ChainBlock)
+    (old image : Image) : Type 0 where
   pub group : IsGroup nodes
   pub short : length (file_bytes packets) < 2 ^ 63
   pub time : TimeMark
@@ -57,9 +59,10 @@ pub record ListsSealed (nodes : ℕ) (e : DirectoryEntry) (packets : List Packet
   pub shows : Shows between e.first_block (sealed_bytes nodes packets)
   pub turned : Turned made (listing_block chain) between image
 
--- The last file, with this entry, costs no more than its part of the medium has; the medium shows it with its index then, in groups of so many nodes, and the directory lists it closed at its
--- last time.
-pub record SealsFile (old : Image) (chain : List ChainBlock) (e : DirectoryEntry) (nodes area : ℕ) (new : Image) (made : List ChainBlock) : Type 0 where
+-- The last file, with this entry, costs no more than its part of the medium has; the medium shows it with its index then, in
+-- groups of so many nodes, and the directory lists it closed at its last time.
+pub record SealsFile (old : Image) (chain : List ChainBlock) (e : DirectoryEntry) (nodes area : ℕ) (new : Image)
+    (made : List ChainBlock) : Type 0 where
   pub text : List ℕ
   pub packets : List Packet
   pub unsealed : IsUnsealed (bytes_from old e.first_block e.size) text packets

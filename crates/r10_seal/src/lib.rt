@@ -1,4 +1,4 @@
-//! A last file that was left open is closed on the medium: its packets stay, their index stands after them, and a stop at any
+//! A last file that was left open is closed on the medium: its packets stay, their index stands after them, and a power loss at any
 //! moment leaves the file open or closed.
 #![tactic(auto)]
 

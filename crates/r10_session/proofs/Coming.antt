@@ -23,10 +23,10 @@ use Rattle.r10_session.specs.Turns.{turns_in}
 -- ---- from places to pairs
 
 module _ {S F : Type 0} (rest_of : S → List SourceItem) (own : List Entry) (source_of : F → Option S) (line_of : F → SendingLine) (tally_of : F → Tally) where
-  one_comes : (items : List SourceItem) (source : Option S) (line later : SendingLine) (tally told : Tally) (report : FeedReport) → IsSomeAnd source (λ s. rest_of s ≡ items) → HasRun rest_of source line tally later told → IsSettledReport own later told report
+  one_comes : (items : List SourceItem) (source : Option S) (line later : SendingLine) (tally reported : Tally) (report : FeedReport) → IsSomeAnd source (λ s. rest_of s ≡ items) → HasRun rest_of source line tally later reported → IsSettledReport own later reported report
       → Comes own items line report
-  one_comes items (Some s) line later tally told report given run settled = record { later = later; told = told; fed = subst (λ (l : List SourceItem). FedLine l line later told) given run; settled = settled }
-  one_comes items None line later tally told report given run settled = absurd given
+  one_comes items (Some s) line later tally reported report given run settled = record { later = later; reported = reported; fed = subst (λ (l : List SourceItem). FedLine l line later reported) given run; settled = settled }
+  one_comes items None line later tally reported report given run settled = absurd given
 
   pub came_each : (feeds later : List F) (reports : List FeedReport) → length later ≡ length feeds
       → ((i : ℕ) (d : F) → i < length feeds → HasRun rest_of (source_of (get_or feeds i d)) (line_of (get_or feeds i d)) (tally_of (get_or feeds i d)) (line_of (get_or later i d)) (tally_of (get_or later i d)))
@@ -75,6 +75,7 @@ one_came specs own table line report waits comes =
       entries_are = subst (λ (c : ℕ). on_channel c own ≡ entries_on c settled.kept) channel settled.entries_are;
       accepted_is = settled.accepted_is ∙ ap (λ (l : List Sample). saturated (length l)) all;
       refused_is = settled.refused_is ∙ fed.refused_is;
+      lost_is = settled.lost_is;
       erased_is = settled.erased_is;
       filed_is = settled.filed_is;
       rest_is = refl;

@@ -1,6 +1,6 @@
 mod Weaker
 mod Ordering
-mod Asking
+mod OrdersInTurn
 mod Opening
 mod Playing
 mod Filling
@@ -16,5 +16,5 @@ mod Taking
 mod Numbered
 mod Refusing
 mod Scripts
-mod Told
+mod WhatScriptsGive
 mod Words

@@ -1,9 +1,10 @@
--- The lines of replies and readers, one after the other.
-use Rattle.std.proofs.Common.{◌≡◌, ℕ, ◌+◌, ◌<◌, List, [], ◌∷◌, ◌++◌, length, take, get_or, append_assoc, ap, sym, ◌∙◌, arith}
+-- The lines of replies, feeds and readers, one after the other.
+use Rattle.std.proofs.Common.{◌≡◌, ℕ, Bool, ◌+◌, ◌<◌, List, [], ◌∷◌, ◌++◌, length, take, get_or, append_assoc, ap, sym, ◌∙◌, arith}
 use Rattle.std.proofs.lemmas.List.{append-nil, length-take, take_more}
 use Rattle.r10_text.specs.Replies.{reply_lines}
 use Rattle.r10_machine.specs.declared.reply.Reply.{Reply}
-use Rattle.r10_session.specs.Text.{reader_line, reader_lines, step_lines}
+use Rattle.r10_session.specs.Text.{feed_lines, feed_part, is_asked, reader_line, reader_lines, step_lines}
+use Rattle.r10_session.specs.declared.ended.FeedEnd.{FeedEnd}
 use Rattle.r10_session.specs.declared.ended.ReaderEnd.{ReaderEnd}
 
 -- one reply more
@@ -19,6 +20,26 @@ pub reply_at : (replies : List Reply) (i : ℕ) (other : Reply) → i < length r
 reply_at replies i other inside =
     let at : i ≡ 0 + length (take i replies) = omega (arith, length-take i replies, inside) in
     ap (λ rs. step_lines 0 rs) (take_more replies i other inside) ∙ replies_more 0 i (take i replies) (get_or replies i other) at
+
+-- one feed more
+feeds_more : (asked : List Bool) (n k : ℕ) (feeds : List FeedEnd) (end : FeedEnd) → k ≡ n + length feeds → feed_lines asked n (feeds ++ end ∷ []) ≡ feed_lines asked n feeds ++ feed_part (is_asked asked k) end
+feeds_more asked n k [] end at =
+    let same : n ≡ k = omega (arith, at) in
+    append-nil (feed_part (is_asked asked n) end) ∙ ap (λ (m : ℕ). feed_part (is_asked asked m) end) same
+feeds_more asked n k (x ∷ feeds) end at =
+    let next : k ≡ n + 1 + length feeds = omega (arith, at) in
+    ap (λ t. feed_part (is_asked asked n) x ++ t) (feeds_more asked (n + 1) k feeds end next)
+    ∙ sym (append_assoc (feed_part (is_asked asked n) x) (feed_lines asked (n + 1) feeds) (feed_part (is_asked asked k) end))
+
+pub feed_at : (asked : List Bool) (feeds : List FeedEnd) (i : ℕ) (other : FeedEnd) → i < length feeds
+    → feed_lines asked 0 (take (i + 1) feeds) ≡ feed_lines asked 0 (take i feeds) ++ feed_part (is_asked asked i) (get_or feeds i other)
+feed_at asked feeds i other inside =
+    let at : i ≡ 0 + length (take i feeds) = omega (arith, length-take i feeds, inside) in
+    ap (λ es. feed_lines asked 0 es) (take_more feeds i other inside) ∙ feeds_more asked 0 i (take i feeds) (get_or feeds i other) at
+
+-- whether it is asked for, and the feed, by other names
+pub same_part : (b : Bool) (asked : List Bool) (n : ℕ) (end other : FeedEnd) → b ≡ is_asked asked n → end ≡ other → feed_part b end ≡ feed_part (is_asked asked n) other
+same_part b asked n end other is same = ap (λ (x : Bool). feed_part x end) is ∙ ap (λ (e : FeedEnd). feed_part (is_asked asked n) e) same
 
 -- one reader more
 readers_more : (n k : ℕ) (readers : List ReaderEnd) (end : ReaderEnd) → k ≡ n + length readers → reader_lines n (readers ++ end ∷ []) ≡ reader_lines n readers ++ reader_line k end

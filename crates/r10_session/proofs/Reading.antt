@@ -4,7 +4,7 @@ use Rattle.std.specs.List.{AllZip}
 use Rattle.r10_body.specs.declared.refusal.Refusal.{Refusal}
 use Rattle.r10_medium.specs.Disk.{Disk}
 use Rattle.r10_session.specs.Counting.{entries_in}
-use Rattle.r10_session.specs.Readers.{AreOpened, AreRead, IsReadBy, IsReadOf, OpensCursor, cursors_in, fill, refusal_of}
+use Rattle.r10_session.specs.Readers.{AreCursorsOpened, AreRead, IsReadBy, IsReadOf, OpensReader, cursors_in, fill, refusal_of}
 use Rattle.r10_script.specs.declared.session.ReaderTable.{ReaderTable}
 use Rattle.r10_shared.specs.Readings.{EachGoesOn, HasReadAll}
 use Rattle.r10_shared.specs.Recorder.{Cursor, HeldState, Instalment, Player, Transcript, fresh_slot}
@@ -65,7 +65,7 @@ by_table table generation c t is read = record {
 module _ {M : Type 0} (disk : M → Disk) where
   -- one that was opened, or refused
   one_more : (table : ReaderTable) (tables : List ReaderTable) (old next : HeldState M) (r : Option Refusal) (refused : List (Option Refusal)) (cursors rest : List Cursor) (opened : Result Cursor Refusal) (transcripts : List Transcript)
-      → OpensCursor disk old table opened next → r ≡ refusal_of opened → cursors ≡ cursors_in opened ++ rest → AllZip IsReadOf cursors transcripts
+      → OpensReader disk old table opened next → r ≡ refusal_of opened → cursors ≡ cursors_in opened ++ rest → AllZip IsReadOf cursors transcripts
       → ((ts : List Transcript) → AllZip IsReadOf rest ts → AreRead tables (fill refused (numbers ts)) ts) → AreRead (table ∷ tables) (fill (r ∷ refused) (numbers transcripts)) transcripts
   one_more table tables old next r refused cursors rest (Err x) transcripts opens is are read others =
       subst (λ (o : Option Refusal). AreRead (table ∷ tables) (fill (o ∷ refused) (numbers transcripts)) transcripts) (sym is) (others transcripts (subst (λ (l : List Cursor). AllZip IsReadOf l transcripts) are read))
@@ -76,7 +76,7 @@ module _ {M : Type 0} (disk : M → Disk) where
       first [] each = absurd each
       first (t ∷ ts) each = (by_table table old.recorder.kept.generation c t opens.0 each.0, others ts each.1)
 
-  pub all_read : (tables : List ReaderTable) (old : HeldState M) (refused : List (Option Refusal)) (cursors : List Cursor) (new : HeldState M) (transcripts : List Transcript) → AreOpened disk old tables refused cursors new → AllZip IsReadOf cursors transcripts
+  pub all_read : (tables : List ReaderTable) (old : HeldState M) (refused : List (Option Refusal)) (cursors : List Cursor) (new : HeldState M) (transcripts : List Transcript) → AreCursorsOpened disk old tables refused cursors new → AllZip IsReadOf cursors transcripts
       → AreRead tables (fill refused (numbers transcripts)) transcripts
   all_read [] old [] cursors new transcripts opened read = none cursors transcripts opened.0 read
     where

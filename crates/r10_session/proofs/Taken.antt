@@ -5,7 +5,7 @@ use Rattle.std.proofs.lemmas.Bool.{eqb-true}
 use Rattle.std.proofs.lemmas.List.Elements.{All-append, All-drop, All-get_or, All-take}
 use Rattle.std.proofs.lemmas.List.Quantifiers.{position-Some}
 use Rattle.r10_body.specs.declared.spec.ChannelSpec.{ChannelSpec}
-use Rattle.r10_session.specs.Ends.{TakesOne, sender_place}
+use Rattle.r10_session.specs.Ends.{TakesSender, sender_place}
 use Rattle.r10_session.specs.declared.ends.Sender.{Sender}
 use Rattle.r10_session.proofs.Taking.{still_there}
 use Rattle.r10_shared.specs.Recorder.{ChannelRing, ring_for}
@@ -28,7 +28,7 @@ there channel (x ∷ old) place found =
     let first = position-Some (λ (s : Sender). s.channel == channel) (x ∷ old) place x found in
     record { one = x; inside = first.0; channel_is = eqb-true (get_or (x ∷ old) place x).channel channel first.1 }
 
-module _ (channel : ℕ) (port : Sending) (old new : List Sender) (taken : TakesOne old channel port new) where
+module _ (channel : ℕ) (port : Sending) (old new : List Sender) (taken : TakesSender old channel port new) where
   placed : IsThere channel old taken.place
   placed = there channel old taken.place taken.found
 

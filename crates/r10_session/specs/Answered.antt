@@ -14,9 +14,10 @@ reply_of (Ok reply) = reply
 reply_of (Err r) = replies.Refused r
 
 -- the recorder was asked an order, did it or refused it as its own call says, whatever files the medium has, and this is its reply
-pub record Answers {M : Type 0} (disk : M → Disk) (old : HeldState M) (order : Order) (reply : Reply) (new : HeldState M) : Type 0 where
+pub record Answers {M : Type 0} (disk : M → Disk) (old : HeldState M) (order : Order) (reply : Reply)
+    (new : HeldState M) : Type 0 where
   pub answer : Result Reply Refusal
-  pub told : reply ≡ reply_of answer
+  pub reported : reply ≡ reply_of answer
   pub passed : OnOk answer (recorder_refusal old.recorder.kept (event_of order) ≡ None)
   pub refused : IfErr answer (RefusesAs disk order old new)
   pub effect : OnOk answer (HasDone disk order old new)
@@ -28,5 +29,6 @@ pub record Answers {M : Type 0} (disk : M → Disk) (old : HeldState M) (order :
 -- and so with each of these, one after the other
 abbrev pub Answered : {M : Type 0} → (M → Disk) → HeldState M → List Order → List Reply → HeldState M → Type 0
 Answered disk old [] [] new = new ≡ old
-Answered {M} disk old (order ∷ orders) (reply ∷ replies) new = (next : HeldState M) × Answers disk old order reply next × Answered disk next orders replies new
+Answered {M} disk old (order ∷ orders) (reply ∷ replies) new = (next : HeldState M) × Answers disk old order reply next
+    × Answered disk next orders replies new
 Answered disk old orders replies new = ⊥

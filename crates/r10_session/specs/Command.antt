@@ -16,6 +16,7 @@ use Rattle.r10_script.specs.Script.{AreScriptSettings, ItemsAsk}
 use Rattle.r10_script.specs.Session.{AreOrders, IsFeed, IsReader, session_keys}
 use Rattle.r10_script.specs.declared.session.SessionScript.{SessionScript}
 use Rattle.r10_session.specs.Came.{CameOf}
+use Rattle.r10_session.specs.Losses.{has_losses}
 use Rattle.r10_shared.specs.Orders.{order_of}
 use Rattle.r10_shared.specs.declared.order.Order.{Order}
 use Rattle.r10_arguments.specs.Words.{AsksRun, AsksRunImage}
@@ -37,27 +38,31 @@ outcome_of (Ok Bool.true) = outcomes.Done
 outcome_of (Ok Bool.false) = outcomes.Refused
 outcome_of (Err r) = outcomes.Refused
 
--- the text is a session script, which came to this over a medium that it left with this image
-pub record TextCame (text : List ℕ) (image : Image) (ended : Ended) : Type 0 where
+-- the text is a session script, of whose feeds these have losses among their items, and which came to this over a medium that
+-- it left with this image
+pub record TextCame (text : List ℕ) (asked : List Bool) (image : Image) (ended : Ended) : Type 0 where
   pub script : SessionScript
   pub spelled : IsSession text script
   pub steps : List Order
   pub steps_are : map order_of script.steps.items ≡ map (λ order. Some order) steps
   pub came : CameOf script.settings.channels steps script.feeds.items script.readers.items image ended
+  pub asked_are : asked ≡ map has_losses script.feeds.items
 
 -- and its lines were written
 pub record Sessions (text : List ℕ) (outcome : Outcome) (old new : Option (List ℕ)) : Type 0 where
   pub image : Image
   pub ended : Ended
-  pub came : TextCame text image ended
-  pub written : Appends old new (session_text ended)
+  pub asked : List Bool
+  pub came : TextCame text asked image ended
+  pub written : Appends old new (session_text asked ended)
   pub outcome_is : outcome ≡ outcome_of ended.audit
 
 -- and in place of its lines that image was written, block by block
 pub record SessionLeaves (text : List ℕ) (outcome : Outcome) (old new : Option (List ℕ)) : Type 0 where
   pub image : Image
   pub ended : Ended
-  pub came : TextCame text image ended
+  pub asked : List Bool
+  pub came : TextCame text asked image ended
   pub written : Appends old new (concat image)
   pub outcome_is : outcome ≡ outcome_of ended.audit
 

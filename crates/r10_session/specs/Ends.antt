@@ -25,7 +25,7 @@ abbrev pub sender_place : ℕ → List Sender → Option ℕ
 sender_place channel senders = position (λ (sender : Sender). sender.channel == channel) senders
 
 -- the first that is the channel's was taken from among these, which left the others
-pub record TakesOne (old : List Sender) (channel : ℕ) (port : Sending) (new : List Sender) : Type 0 where
+pub record TakesSender (old : List Sender) (channel : ℕ) (port : Sending) (new : List Sender) : Type 0 where
   pub place : ℕ
   pub found : sender_place channel old ≡ Some place
   pub port_is : (d : Sender) → (slice_index_or old place d).port ≡ port
@@ -33,5 +33,5 @@ pub record TakesOne (old : List Sender) (channel : ℕ) (port : Sending) (new : 
 
 -- or there was none, and all are left
 abbrev pub Takes : List Sender → ℕ → Option Sending → List Sender → Type 0
-Takes old channel (Some port) new = TakesOne old channel port new
+Takes old channel (Some port) new = TakesSender old channel port new
 Takes old channel None new = (sender_place channel old ≡ None) × (new ≡ old)

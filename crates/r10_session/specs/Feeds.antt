@@ -32,15 +32,24 @@ pub record WaitsAsLine (specs : List ChannelSpec) (table : FeedTable) (line : Se
 -- a feed of these items was run, and its report tells what became of its messages, by the entries of the recorder's own files
 pub record Comes (own : List Entry) (items : List SourceItem) (line : SendingLine) (report : FeedReport) : Type 0 where
   pub later : SendingLine
-  pub told : Tally
-  pub fed : FedLine items line later told
-  pub settled : IsSettledReport own later told report
+  pub reported : Tally
+  pub fed : FedLine items line later reported
+  pub settled : IsSettledReport own later reported report
 
 abbrev pub feed_end : FeedReport → FeedEnd
-feed_end r = record { channel = r.channel; accepted = r.accepted; refused = r.refused; erased = r.erased; filed = r.filed; rest = length r.rest.items }
+feed_end r = record {
+  channel = r.channel;
+  accepted = r.accepted;
+  refused = r.refused;
+  lost = r.lost;
+  erased = r.erased;
+  filed = r.filed;
+  rest = length r.rest.items;
+}
 
--- Of a table's items the first were offered in turn, or counted as losses, to a new lane of its channel, which answered as a lane does. Those that it accepted, each telling how many were lost before it,
--- are what erases took, then what the recorder's own files have of the channel, and then the rest, each once and in order; and the numbers are theirs.
+-- Of a table's items the first were offered in turn, or counted as losses, to a new lane of its channel, which answered as a lane
+-- does. Those that it accepted, each telling how many were lost before it, are what erases took, then what the recorder's own
+-- files have of the channel, and then the rest, each once and in order; and the numbers are theirs.
 pub record FeedCame (specs : List ChannelSpec) (own : List Entry) (table : FeedTable) (end : FeedEnd) : Type 0 where
   pub channel_is : end.channel ≡ table.channel
   pub port : Sending
@@ -57,6 +66,7 @@ pub record FeedCame (specs : List ChannelSpec) (own : List Entry) (table : FeedT
   pub entries_are : on_channel table.channel own ≡ entries_on table.channel kept
   pub accepted_is : end.accepted ≡ saturated (length (accepted_of 0 tried))
   pub refused_is : end.refused ≡ saturated (count_by is_refused tried)
+  pub lost_is : end.lost ≡ later.lane.lost
   pub erased_is : end.erased ≡ saturated (length gone)
   pub filed_is : end.filed ≡ saturated (length kept)
   pub rest_is : end.rest ≡ length rest

@@ -31,4 +31,5 @@ IsFresh specs sender = IsUnused specs sender.channel sender.port
 
 -- the channel of each table is one of these
 abbrev pub HaveChannels : List ChannelSpec → List FeedTable → Type 0
-HaveChannels specs tables = AllByRecursion (λ (table : FeedTable). IsSome (find (λ (c : ChannelSpec). c.id == table.channel) specs)) tables
+HaveChannels specs tables = AllByRecursion (λ (table : FeedTable). IsSome (find (λ (c : ChannelSpec). c.id == table.channel) specs))
+    tables

@@ -4,6 +4,7 @@ pub mod Readers
 pub mod Lanes
 pub mod Ends
 pub mod Text
+pub mod Losses
 pub mod Vectors
 pub mod Command
 pub mod Turns

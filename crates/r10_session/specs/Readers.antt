@@ -16,10 +16,13 @@ use Rattle.r10_shared.specs.declared.order.Order.{Order}
 -- ---- cursors
 
 -- a cursor that has covered nothing and wants what the table says; or the recorder refused it
-abbrev pub OpensCursor : {M : Type 0} → (M → Disk) → HeldState M → ReaderTable → Result Cursor Refusal → HeldState M → Type 0
-OpensCursor disk old table (Ok cursor) new = (cursor ≡ fresh_slot old.recorder.kept.generation table.channels table.file table.from table.to) × (new.recorder.kept ≡ old.recorder.kept)
-OpensCursor disk old table (Err r) new =
-    RefusesCall disk (recorder_refusal old.recorder.kept (events.Cursor table.file table.channels table.from table.to)) (IsReadFileRefusal old.recorder.kept.work (disk old.recorder.medium).blocks table.file)
+abbrev pub OpensReader : {M : Type 0} → (M → Disk) → HeldState M → ReaderTable → Result Cursor Refusal → HeldState M → Type 0
+OpensReader disk old table (Ok cursor) new =
+    (cursor ≡ fresh_slot old.recorder.kept.generation table.channels table.file table.from table.to)
+    × (new.recorder.kept ≡ old.recorder.kept)
+OpensReader disk old table (Err r) new =
+    RefusesCall disk (recorder_refusal old.recorder.kept (events.Cursor table.file table.channels table.from table.to))
+    (IsReadFileRefusal old.recorder.kept.work (disk old.recorder.medium).blocks table.file)
     old.recorder.kept new.recorder.kept old.recorder.medium new.recorder.medium r
 
 abbrev pub refusal_of : Result Cursor Refusal → Option Refusal
@@ -31,17 +34,21 @@ cursors_in (Ok cursor) = cursor ∷ []
 cursors_in (Err r) = []
 
 -- each reader's cursor was opened, one after the other, or refused; the cursors of those that were not are these
-abbrev pub AreOpened : {M : Type 0} → (M → Disk) → HeldState M → List ReaderTable → List (Option Refusal) → List Cursor → HeldState M → Type 0
-AreOpened disk old [] [] cursors new = (cursors ≡ []) × (new ≡ old)
-AreOpened {M} disk old (table ∷ tables) (refused ∷ others) cursors new =
-    (next : HeldState M) × (opened : Result Cursor Refusal) × (rest : List Cursor) × OpensCursor disk old table opened next × (refused ≡ refusal_of opened) × (cursors ≡ cursors_in opened ++ rest)
-    × AreOpened disk next tables others rest new
-AreOpened disk old tables refused cursors new = ⊥
+abbrev pub AreCursorsOpened : {M : Type 0} → (M → Disk) → HeldState M → List ReaderTable → List (Option Refusal) → List Cursor
+    → HeldState M → Type 0
+AreCursorsOpened disk old [] [] cursors new = (cursors ≡ []) × (new ≡ old)
+AreCursorsOpened {M} disk old (table ∷ tables) (refused ∷ others) cursors new =
+    (next : HeldState M) × (opened : Result Cursor Refusal) × (rest : List Cursor) × OpensReader disk old table opened next
+    × (refused ≡ refusal_of opened) × (cursors ≡ cursors_in opened ++ rest)
+    × AreCursorsOpened disk next tables others rest new
+AreCursorsOpened disk old tables refused cursors new = ⊥
 
 -- from some recorder that a lock keeps, the steps were asked, and then the cursors were opened
-abbrev pub BeginsReading : {M : Type 0} → (M → Disk) → List Order → List ReaderTable → List Reply → List (Option Refusal) → List Cursor → Type 0
+abbrev pub BeginsReading : {M : Type 0} → (M → Disk) → List Order → List ReaderTable → List Reply → List (Option Refusal)
+    → List Cursor → Type 0
 BeginsReading {M} disk steps tables replies refused cursors =
-    (first : HeldState M) × (stepped : HeldState M) × (opened : HeldState M) × Answered disk first steps replies stepped × AreOpened disk stepped tables refused cursors opened
+    (first : HeldState M) × (stepped : HeldState M) × (opened : HeldState M) × Answered disk first steps replies stepped
+    × AreCursorsOpened disk stepped tables refused cursors opened
 
 -- ---- what was read
 
@@ -74,5 +81,6 @@ pub record IsReadBy (table : ReaderTable) (t : Transcript) (entries : ℕ) : Typ
 abbrev pub AreRead : List ReaderTable → List ReaderEnd → List Transcript → Type 0
 AreRead [] [] transcripts = transcripts ≡ []
 AreRead (table ∷ tables) (ends.Refused r ∷ readers) transcripts = AreRead tables readers transcripts
-AreRead (table ∷ tables) (ends.Read entries ∷ readers) (t ∷ transcripts) = IsReadBy table t entries × AreRead tables readers transcripts
+AreRead (table ∷ tables) (ends.Read entries ∷ readers) (t ∷ transcripts) = IsReadBy table t entries
+    × AreRead tables readers transcripts
 AreRead tables readers transcripts = ⊥

@@ -12,6 +12,7 @@ ghost use Rattle.r10_arguments.specs.Words.{AsksRun, AsksRunImage, AsksSession};
 
 use crate::ended::Left;
 use crate::fault::SessionFault;
+use crate::losses::losses_asked;
 use crate::running::run_script;
 use crate::text::session_text;
 use r10_arguments::{asks_run, asks_session};
@@ -94,18 +95,20 @@ fn session_script(alloc: Global, text: &[u8]) -> Result<SessionScript, Fault>
 }
 
 /// Reads a session script, and runs it on a recorder between threads, over a fresh medium in memory.
+/// Beside what it left it gives of each feed whether it has losses among its items.
 fn session_left<T: Threads + Wait + Sync, R: Read>(
     rt: &T,
     alloc: Global,
     reader: &mut R,
-) -> Result<Left, Fault>
-    ensures { IfOk result
-        (λ left. IfSome (R.remaining reader.old) (λ text. TextCame text (memory_disk left.medium).blocks left.ended)) }
+) -> Result<(Left, Vec<bool>), Fault>
+    ensures { IfOk result (λ came. IfSome (R.remaining reader.old)
+        (λ text. TextCame text came.1.items (memory_disk came.0.medium).blocks came.0.ended)) }
 {
     let text = read_whole(alloc, reader)?;
     let script = session_script(alloc, text.as_slice())?;
+    let asked = losses_asked(alloc, script.feeds.as_slice())?;
     match run_script(rt, alloc, script) {
-        Ok(left) => Ok(left),
+        Ok(left) => Ok((left, asked)),
         Err(fault) => Err(fault_of(fault)),
     }
 }
@@ -123,8 +126,8 @@ fn session<T: Threads + Wait + Sync, R: Read, W: Write + Drop>(
     ensures sent { OnOk result (writer_buffer writer.new ≡ []) }
     ensures quiet { IfErr result (λ fault. fault_status fault ≡ 2 → writer.new ≡ writer.old) }
 {
-    let left = session_left(rt, alloc, reader)?;
-    let lines = session_text(alloc, &left.ended)?;
+    let (left, asked) = session_left(rt, alloc, reader)?;
+    let lines = session_text(alloc, asked.as_slice(), &left.ended)?;
     put(writer, lines.as_str())?;
     Ok(outcome(left.ended.audit))
 }
@@ -141,7 +144,7 @@ fn session_image<T: Threads + Wait + Sync, R: Read, W: Write + Drop>(
     ensures sent { OnOk result (writer_buffer writer.new ≡ []) }
     ensures quiet { IfErr result (λ fault. fault_status fault ≡ 2 → writer.new ≡ writer.old) }
 {
-    let left = session_left(rt, alloc, reader)?;
+    let (left, _) = session_left(rt, alloc, reader)?;
     let Left { ended, mut medium } = left;
     write_image(&mut medium, writer)?;
     Ok(outcome(ended.audit))

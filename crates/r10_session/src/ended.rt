@@ -4,13 +4,15 @@ use r10_body::Refusal;
 use r10_machine::Reply;
 use r10_medium::Memory;
 
-/// What became of the messages of a feed: how many were accepted and refused, and of the accepted ones how many erases took, the
-/// recorder's own files have, and the recorder did not take in.
+/// What became of the messages of a feed: how many were accepted, refused and lost, and of the accepted ones how many
+/// erases took, the recorder's own files have, and the recorder did not take in.
 #[derive(Drop)]
 pub struct FeedEnd {
     pub channel: u16,
     pub accepted: u64,
     pub refused: u64,
+    /// the messages that were lost: refused because the lane was full, or lost before they were offered
+    pub lost: u64,
     pub erased: u64,
     pub filed: u64,
     pub rest: usize,

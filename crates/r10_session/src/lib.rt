@@ -9,6 +9,7 @@ mod ends;
 mod fault;
 mod feeds;
 mod list_source;
+mod losses;
 mod readers;
 mod reports;
 mod running;

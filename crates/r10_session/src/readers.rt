@@ -3,7 +3,7 @@
 ghost use Rattle.std.specs.Prelude.{◌≡◌, ◌<◌, ◌≤◌, ◌+◌, ◌-◌, ◌^◌, ◌++◌, ◌∷◌, [], All, IfOk, List, OnOk};
 ghost use Rattle.std.specs.Prelude.{Option, drop, map, slice_index_or};
 ghost use Rattle.r10_body.specs.declared.refusal.Refusal.{Refusal as RefusalValue};
-ghost use Rattle.r10_session.specs.Readers.{AreOpened, BeginsReading, OpensCursor, cursors_in, fill, refusal_of};
+ghost use Rattle.r10_session.specs.Readers.{AreCursorsOpened, BeginsReading, OpensReader, cursors_in, fill, refusal_of};
 
 use crate::beginning::ask_all;
 use crate::ended::ReaderEnd;
@@ -30,7 +30,7 @@ fn open<M: BlockMedium, N: Rings>(
     held: &mut Held<M, N>,
     table: &ReaderTable,
 ) -> Result<Result<Cursor, Refusal>, AllocError>
-    ensures { IfOk result (λ opened. OpensCursor M.disk held.old table.now opened held.new) }
+    ensures { IfOk result (λ opened. OpensReader M.disk held.old table.now opened held.new) }
 {
     let channels = table.channels.duplicate(alloc)?;
     Ok(held.cursor(table.file, channels, table.from, table.to))
@@ -64,7 +64,7 @@ fn open_all<M: BlockMedium, N: Rings>(
     held: &mut Held<M, N>,
     tables: &[ReaderTable],
 ) -> Result<(Vec<Option<Refusal>>, Vec<Cursor>), AllocError>
-    ensures { IfOk result (λ r. AreOpened M.disk held.old tables.now r.0.items r.1.items held.new) }
+    ensures { IfOk result (λ r. AreCursorsOpened M.disk held.old tables.now r.0.items r.1.items held.new) }
 {
     let mut refused = Vec::new(alloc);
     let mut cursors = Vec::new(alloc);

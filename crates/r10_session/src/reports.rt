@@ -24,6 +24,7 @@ fn feed_end(report: &FeedReport) -> FeedEnd
         channel: report.channel,
         accepted: report.accepted,
         refused: report.refused,
+        lost: report.lost,
         erased: report.erased,
         filed: report.filed,
         rest: report.rest.len(),

@@ -47,8 +47,8 @@ pub(crate) fn run_to_end<N: Rings + Send + Sync, T: Threads + Wait + Sync>(
     requires { All (λ player. player.pass.cell ≡ cabinet.gauge) players.items }
     ensures feeds { IfOk result
         (λ report. (own : List EntryValue) × AreOwn report.recorder.kept (memory_disk report.recorder.medium).blocks own
-        × Zipped feeds.items report.feeds.items (λ feed told. (items : List TurnValue)
-        → IsSomeAnd feed.source (λ s. rest (s.vtable, s.value) ≡ items) → Comes own items feed.line told)) }
+        × Zipped feeds.items report.feeds.items (λ feed reported. (items : List TurnValue)
+        → IsSomeAnd feed.source (λ s. rest (s.vtable, s.value) ≡ items) → Comes own items feed.line reported)) }
     ensures readers { IfOk result
         (λ report. AllZip (λ player transcript. IsReadOf player.cursor transcript) players.items report.transcripts.items) }
 {

@@ -1,8 +1,8 @@
 //! The text of what came of a session.
 
 ghost use Rattle.std.specs.Prelude.{◌≡◌, ◌++◌, ℕ, List, IfOk, codes, string_bytes};
-ghost use Rattle.std.specs.List.{flat_map};
-ghost use Rattle.r10_session.specs.Text.{audit_line, feed_line, kept_text, offered_text, reader_line};
+ghost use Rattle.r10_session.specs.Text.{audit_line, feed_line, feed_lines, feed_part, is_asked, kept_text};
+ghost use Rattle.r10_session.specs.Text.{lost_line, offered_text, reader_line};
 ghost use Rattle.r10_session.specs.Text.{reader_lines, refused_line, session_text, step_lines};
 
 use crate::ended::{Ended, FeedEnd, ReaderEnd};
@@ -54,6 +54,36 @@ fn feed_line(alloc: Global, end: &FeedEnd) -> Result<String, AllocError>
     format!(in alloc; "{offered} {kept}\n")
 }
 
+/// The line of what a feed's channel lost.
+fn lost_line(alloc: Global, end: &FeedEnd) -> Result<String, AllocError>
+    ensures { IfOk result (λ line. string_bytes line ≡ lost_line end.now) }
+{
+    let (channel, lost) = (end.channel, end.lost);
+    format!(in alloc; "lost {channel} {lost}\n")
+}
+
+/// The line of a feed, and that of its losses if it is asked for.
+fn feed_part(alloc: Global, asked: bool, end: &FeedEnd) -> Result<String, AllocError>
+    ensures { IfOk result (λ text. string_bytes text ≡ feed_part asked end.now) }
+{
+    let line = feed_line(alloc, end)?;
+    if !asked {
+        return Ok(line);
+    }
+    let lost = lost_line(alloc, end)?;
+    format!(in alloc; "{line}{lost}")
+}
+
+/// Whether the losses of the feed of this number are asked for.
+fn is_asked(asked: &[bool], number: usize) -> bool
+    ensures { result ≡ is_asked asked.now number }
+{
+    match asked.get(number) {
+        Some(yes) => *yes,
+        None => false,
+    }
+}
+
 /// The line of a reader of this number.
 fn reader_line(alloc: Global, number: usize, end: &ReaderEnd) -> Result<String, AllocError>
     ensures { IfOk result (λ line. string_bytes line ≡ reader_line number end.now) }
@@ -87,14 +117,14 @@ fn steps_text(alloc: Global, replies: &[Reply]) -> Result<String, AllocError>
     Ok(lines)
 }
 
-/// The lines of feeds.
-fn feeds_text(alloc: Global, feeds: &[FeedEnd]) -> Result<String, AllocError>
-    ensures { IfOk result (λ lines. string_bytes lines ≡ flat_map feed_line feeds.now) }
+/// The lines of feeds, with their losses where these are asked for.
+fn feeds_text(alloc: Global, asked: &[bool], feeds: &[FeedEnd]) -> Result<String, AllocError>
+    ensures { IfOk result (λ lines. string_bytes lines ≡ feed_lines asked.now 0 feeds.now) }
 {
     let mut lines = String::new(alloc);
-    for end in feeds {
-        let line = feed_line(alloc, end)?;
-        lines.push_str(&line)?;
+    for (number, end) in feeds.iter().enumerate() {
+        let part = feed_part(alloc, is_asked(asked, number), end)?;
+        lines.push_str(&part)?;
     }
     Ok(lines)
 }
@@ -112,11 +142,12 @@ fn readers_text(alloc: Global, readers: &[ReaderEnd]) -> Result<String, AllocErr
 }
 
 /// The lines of what came of a session: of the replies to its steps, of its feeds and its readers, and of the audit.
-pub fn session_text(alloc: Global, ended: &Ended) -> Result<String, AllocError>
-    ensures { IfOk result (λ text. string_bytes text ≡ session_text ended.now) }
+/// After the line of a feed whose losses are asked for stands that of what its channel lost.
+pub fn session_text(alloc: Global, asked: &[bool], ended: &Ended) -> Result<String, AllocError>
+    ensures { IfOk result (λ text. string_bytes text ≡ session_text asked.now ended.now) }
 {
     let steps = steps_text(alloc, ended.replies.as_slice())?;
-    let feeds = feeds_text(alloc, ended.feeds.as_slice())?;
+    let feeds = feeds_text(alloc, asked, ended.feeds.as_slice())?;
     let readers = readers_text(alloc, ended.readers.as_slice())?;
     let audit = audit_line(alloc, ended.audit)?;
     let mut text = steps;

@@ -4,7 +4,7 @@ use Rattle.std.specs.Prelude.{IsSomeAnd}
 use Rattle.std.proofs.lemmas.List.{get_or-set_same, get_or-set_other, get_or_default, length-set}
 use Rattle.r10_shared.proofs.Apart.{Apart}
 
-module _ {F R L : Type 0} (channel : F → ℕ) (told : R → ℕ) (lane_of : ℕ → List L → Option L) (Moves : L → F → R → R → Type 0) (lanes : List L) (feeds : List F) (reports : List R) where
+module _ {F R L : Type 0} (channel : F → ℕ) (reported : R → ℕ) (lane_of : ℕ → List L → Option L) (Moves : L → F → R → R → Type 0) (lanes : List L) (feeds : List F) (reports : List R) where
   -- so many are done, and the others wait
   pub record DrainedTo (place : ℕ) (lanes' : List L) (feeds' : List F) (reports' : List R) : Type 0 where
     pub number : length reports' ≡ length reports
@@ -32,7 +32,7 @@ module _ {F R L : Type 0} (channel : F → ℕ) (told : R → ℕ) (lane_of : �
   lane_waits place lanes' feeds' reports' old so inside here =
       subst (λ (o : F). lane_of (channel o) lanes' ≡ lane_of (channel o) lanes) (sym (feed_waits place lanes' feeds' reports' old so here)) (so.lanes_wait place old (omega arith) inside)
 
-  module _ (number : length reports ≡ length feeds) (channels : (i : ℕ) (f : F) (r : R) → i < length feeds → told (get_or reports i r) ≡ channel (get_or feeds i f)) (apart : Apart told reports) where
+  module _ (number : length reports ≡ length feeds) (channels : (i : ℕ) (f : F) (r : R) → i < length feeds → reported (get_or reports i r) ≡ channel (get_or feeds i f)) (apart : Apart reported reports) where
     -- one more
     pub one_drained : (place : ℕ) (lanes' lanes'' : List L) (feeds' : List F) (reports' : List R) (old new : F) (report report' : R) → DrainedTo place lanes' feeds' reports' → place < length reports'
         → old ≡ get_or feeds' place old → report ≡ get_or reports' place report

@@ -3,7 +3,7 @@ use Rattle.std.proofs.Common.{inl, inr, ◌≡◌, ℕ, ◌+◌, ◌<◌, Bool, 
 use Rattle.std.proofs.lemmas.List.{append-nil, drop_more}
 use Rattle.r10_body.specs.declared.refusal.Refusal.{Refusal}
 use Rattle.r10_machine.specs.declared.reply.Reply.{Reply}
-use Rattle.r10_shared.specs.Asking.{Asks, goes_on}
+use Rattle.r10_shared.specs.WorkerCalls.{Asks, goes_on}
 use Rattle.r10_shared.specs.Giving.{Given, GivesInTurn}
 use Rattle.r10_shared.specs.Giving.Given.{Gives, Wakes}
 use Rattle.r10_shared.specs.declared.order.Order.{Order}
@@ -28,19 +28,19 @@ module _ {S : Type 0} (asked : S → List Given → S → Type 0) where
 
   module _ (joins : (a b c : S) (xs ys : List Given) → asked a xs b → asked b ys c → asked a (xs ++ ys) c) where
     pub given_on : (all left rest : List Order) (o : Order) (answer : Result Reply Refusal) (on : Bool) (a b c : S) → HasGiven all left a b → left ≡ o ∷ rest → asked b (Gives o answer ∷ Wakes ∷ []) c → on ≡ goes_on answer → on ≡ true → HasGiven all rest a c
-    given_on all left rest o answer on a b c (asks, first, so) is then told goes = (
+    given_on all left rest o answer on a b c (asks, first, so) is then reported goes = (
       asks ++ (Gives o answer ∷ Wakes ∷ []),
       joins a b c asks (Gives o answer ∷ Wakes ∷ []) first then,
       λ more gives.
           subst (λ (l : List Given). GivesInTurn all l) (sym (append_assoc asks (Gives o answer ∷ Wakes ∷ []) more))
-          (so (Gives o answer ∷ Wakes ∷ more) (subst (λ (l : List Order). GivesInTurn l (Gives o answer ∷ Wakes ∷ more)) (sym is) (gives_on o rest answer more (sym told ∙ goes) gives))),
+          (so (Gives o answer ∷ Wakes ∷ more) (subst (λ (l : List Order). GivesInTurn l (Gives o answer ∷ Wakes ∷ more)) (sym is) (gives_on o rest answer more (sym reported ∙ goes) gives))),
     )
 
     pub given_last : (all left rest : List Order) (o : Order) (answer : Result Reply Refusal) (on : Bool) (a b c : S) → HasGiven all left a b → left ≡ o ∷ rest → asked b (Gives o answer ∷ Wakes ∷ []) c → on ≡ goes_on answer → on ≡ false → Asks asked (GivesInTurn all) a c
-    given_last all left rest o answer on a b c (asks, first, so) is then told ends_it = (
+    given_last all left rest o answer on a b c (asks, first, so) is then reported ends_it = (
       asks ++ (Gives o answer ∷ Wakes ∷ []),
       joins a b c asks (Gives o answer ∷ Wakes ∷ []) first then,
-      so (Gives o answer ∷ Wakes ∷ []) (subst (λ (l : List Order). GivesInTurn l (Gives o answer ∷ Wakes ∷ [])) (sym is) (gives_last o rest answer (sym told ∙ ends_it))),
+      so (Gives o answer ∷ Wakes ∷ []) (subst (λ (l : List Order). GivesInTurn l (Gives o answer ∷ Wakes ∷ [])) (sym is) (gives_last o rest answer (sym reported ∙ ends_it))),
     )
 
 -- what is left begins with the next order

@@ -4,7 +4,7 @@ use Rattle.std.proofs.lemmas.List.{append-nil}
 use Rattle.std.proofs.lemmas.List.Concat.{flat_map-append}
 use Rattle.r10_body.specs.declared.refusal.Refusal.{Refusal}
 use Rattle.std.specs.List.{AllByRecursion}
-use Rattle.r10_shared.specs.Asking.{Asks, goes_on}
+use Rattle.r10_shared.specs.WorkerCalls.{Asks, goes_on}
 use Rattle.r10_shared.specs.Desk.{IsNoted, Worked}
 use Rattle.r10_shared.specs.Watching.{EachLook, Follows, IsLook, IsWatching, Look, Watched, asked_in}
 use Rattle.r10_shared.specs.Watching.Watched.{Announces, Ended, Reads, Shown, Sleeps}

@@ -27,8 +27,8 @@ module _ (channel : ℕ) (lanes : List Receiving) (at : ℕ) (old : Receiving) (
 -- where a channel's lane is, by other names
 pub place_is : (channel channel' : ℕ) (lanes lanes' : List Receiving) (result answer : Option ℕ) → result ≡ position (λ (lane : Receiving). lane.spec.id == channel') lanes' → channel' ≡ channel → lanes' ≡ lanes → result ≡ answer
     → position (λ (lane : Receiving). lane.spec.id == channel) lanes ≡ answer
-place_is channel channel' lanes lanes' result answer told same all is =
-    subst (λ (n : ℕ). position (λ (lane : Receiving). lane.spec.id == n) lanes ≡ answer) same (subst (λ (ls : List Receiving). position (λ (lane : Receiving). lane.spec.id == channel') ls ≡ answer) all (sym told ∙ is))
+place_is channel channel' lanes lanes' result answer reported same all is =
+    subst (λ (n : ℕ). position (λ (lane : Receiving). lane.spec.id == n) lanes ≡ answer) same (subst (λ (ls : List Receiving). position (λ (lane : Receiving). lane.spec.id == channel') ls ≡ answer) all (sym reported ∙ is))
 
 -- a channel without a lane
 pub nowhere : {T : Type 0} (channel : ℕ) (lanes : List Receiving) (P : Receiving → Type 0) → position (λ (lane : Receiving). lane.spec.id == channel) lanes ≡ None → IsSomeAnd (receiving_of channel lanes) P → T

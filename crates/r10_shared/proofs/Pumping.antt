@@ -4,8 +4,8 @@ use Rattle.std.specs.List.{list_any, list_all}
 use Rattle.std.proofs.lemmas.List.{append-nil}
 use Rattle.std.proofs.lemmas.List.Folds.{list_any-append, list_all-append}
 use Rattle.r10_body.specs.declared.refusal.Refusal.{Refusal}
-use Rattle.r10_shared.specs.Asking.{Asks, ends, goes_on}
-use Rattle.r10_shared.specs.Rounds.{ArePumps, Asked, IsRound, Shows, came_to, committed, has_moved, pumps_from}
+use Rattle.r10_shared.specs.WorkerCalls.{Asks, ends, goes_on}
+use Rattle.r10_shared.specs.Rounds.{ArePumps, Asked, IsRound, PublishesRound, came_to, committed, has_moved, pumps_from}
 use Rattle.r10_shared.specs.Rounds.Asked.{Commits, Pumps}
 use Rattle.r10_shared.specs.declared.rounds.Round.{Round}
 use Rattle.r10_shared.specs.declared.rounds.Turn.{Turn}
@@ -81,7 +81,7 @@ pub pumps_of : (channels : ℕ) (answers : List Answer) (moved : Bool) → lengt
 pumps_of channels answers true many on is = (many, on, is)
 pumps_of channels answers false many on is = (many, on, is)
 
-shows_moved : (last : Bool) (answer : Result (Unit {0}) Refusal) (round : Round) → round ≡ committed Moved answer → Shows last Moved (Commits answer ∷ []) round
+shows_moved : (last : Bool) (answer : Result (Unit {0}) Refusal) (round : Round) → round ≡ committed Moved answer → PublishesRound last Moved (Commits answer ∷ []) round
 shows_moved true answer round is = (answer, refl, is)
 shows_moved false answer round is = (answer, refl, is)
 
@@ -134,7 +134,7 @@ module _ {S : Type 0} (asked : S → List Asked → S → Type 0) where
 
   -- the pumps of a round, and what it shows after them
   module _ (joins : (a b c : S) (xs ys : List Asked) → asked a xs b → asked b ys c → asked a (xs ++ ys) c) where
-    pub round_of : (old mid new : S) (channels : ℕ) (last : Bool) (turn : Turn) (shows : List Asked) (round : Round) → (answers : List Answer) × asked old (pumps_from 0 answers) mid × ArePumps channels answers turn → Shows last turn shows round → asked mid shows new
+    pub round_of : (old mid new : S) (channels : ℕ) (last : Bool) (turn : Turn) (shows : List Asked) (round : Round) → (answers : List Answer) × asked old (pumps_from 0 answers) mid × ArePumps channels answers turn → PublishesRound last turn shows round → asked mid shows new
         → Asks asked (IsRound channels last round) old new
     round_of old mid new channels last turn shows round (answers, first, pumps) so then = (
       pumps_from 0 answers ++ shows,
@@ -143,7 +143,7 @@ module _ {S : Type 0} (asked : S → List Asked → S → Type 0) where
     )
 
     -- it shows nothing
-    pub round_silent : (old new : S) (channels : ℕ) (last : Bool) (turn : Turn) (round : Round) → (answers : List Answer) × asked old (pumps_from 0 answers) new × ArePumps channels answers turn → Shows last turn [] round
+    pub round_silent : (old new : S) (channels : ℕ) (last : Bool) (turn : Turn) (round : Round) → (answers : List Answer) × asked old (pumps_from 0 answers) new × ArePumps channels answers turn → PublishesRound last turn [] round
         → Asks asked (IsRound channels last round) old new
     round_silent old new channels last turn round (answers, first, pumps) so = (
       pumps_from 0 answers,
@@ -155,7 +155,7 @@ module _ {S : Type 0} (asked : S → List Asked → S → Type 0) where
     pub round_moved : (old mid new : S) (channels : ℕ) (last : Bool) (turn : Turn) (round : Round) → (answers : List Answer) × asked old (pumps_from 0 answers) mid × ArePumps channels answers turn → turn ≡ Moved
         → (answer : Result (Unit {0}) Refusal) × asked mid (Commits answer ∷ []) new × (round ≡ committed turn answer) → Asks asked (IsRound channels last round) old new
     round_moved old mid new channels last turn round pumps is (answer, then, so) =
-        round_of old mid new channels last turn (Commits answer ∷ []) round pumps (subst (λ (t : Turn). Shows last t (Commits answer ∷ []) round) (sym is) (shows_moved last answer round (so ∙ ap (λ (u : Turn). committed u answer) is))) then
+        round_of old mid new channels last turn (Commits answer ∷ []) round pumps (subst (λ (t : Turn). PublishesRound last t (Commits answer ∷ []) round) (sym is) (shows_moved last answer round (so ∙ ap (λ (u : Turn). committed u answer) is))) then
 
     pub round_last : (old mid new : S) (channels : ℕ) (last : Bool) (turn : Turn) (round : Round) → (answers : List Answer) × asked old (pumps_from 0 answers) mid × ArePumps channels answers turn → turn ≡ Idle → last ≡ true
         → (answer : Result (Unit {0}) Refusal) × asked mid (Commits answer ∷ []) new × (round ≡ committed turn answer) → Asks asked (IsRound channels last round) old new

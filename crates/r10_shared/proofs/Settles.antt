@@ -15,7 +15,7 @@ use Rattle.r10_port.specs.Ends.{Receiving, Ring, sent, unreceived}
 use Rattle.r10_shared.specs.Naming.{SendingLine}
 use Rattle.r10_machine.specs.Machine.{saturated}
 use Rattle.r10_held.proofs.Accounts.{all_within}
-use Rattle.r10_shared.specs.Failing.{AreMoved, FailedSettles, IsFailedReport}
+use Rattle.r10_shared.specs.Failing.{AreMovedToReports, FailedSettles, IsFailedReport}
 use Rattle.r10_shared.specs.Settling.{AreReady, Drains, HasDrained, IsReportReady, IsSettledReport, MayDrain, Settles, TellsKept, receiving_of}
 use Rattle.r10_shared.specs.declared.report.FeedReport.{FeedReport}
 use Rattle.r10_shared.specs.declared.source.Tally.{Tally}
@@ -163,10 +163,10 @@ module _ {M F : Type 0} (disk : M → Disk) (rings : List ChannelRing) (r : Reco
   pub may_drain_out : (reports : List FeedReport) → AreReady line_of tally_of rings r.kept feeds reports → MayDrain line_of r.lanes feeds reports
   may_drain_out reports ready = may_drain rings r.kept r.lanes bounds known.named line_of tally_of feeds reports ready
 
-  pub failed_out : (later : List FeedReport) → AreMoved line_of tally_of rings r feeds later → FailedSettles line_of tally_of r.kept r.lanes feeds later
+  pub failed_out : (later : List FeedReport) → AreMovedToReports line_of tally_of rings r feeds later → FailedSettles line_of tally_of r.kept r.lanes feeds later
   failed_out later moved = failed_settles rings r.kept r.lanes bounds known.named line_of tally_of feeds moved.ready moved.are_ready later moved.moved
 
-  pub settles_out : (r.kept.work ≡ failed → ⊥) → (later : List FeedReport) → AreMoved line_of tally_of rings r feeds later → Settles line_of tally_of r.kept (disk r.medium).blocks feeds later
+  pub settles_out : (r.kept.work ≡ failed → ⊥) → (later : List FeedReport) → AreMovedToReports line_of tally_of rings r feeds later → Settles line_of tally_of r.kept (disk r.medium).blocks feeds later
   settles_out works later moved =
       let accounted : IsAccounted disk outlet_spec outlet_received r = ⊎_elim (λ bounded. absurd (works bounded.fails)) (λ a. a) known.accounted in
       settles rings r.kept r.lanes accounted.own accounted.each line_of tally_of feeds moved.ready moved.are_ready (disk r.medium).blocks later accounted.is_own moved.moved

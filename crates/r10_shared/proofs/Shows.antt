@@ -118,7 +118,7 @@ last_shown : (g : List Glance) (p q : Sending) (tried : List Tried) (shown : Lis
 last_shown g p q [] shown (same, none) tells =
     subst (λ (x : Sending × List Glance). TellsNumbers (last_triple x.1) x.0) (λ i. (sym same i, (sym (append-nil g) ∙ ap (λ (l : List Glance). g ++ l) (sym none)) i)) tells
 last_shown g p q (t ∷ tried) shown (next, rest, offers, is, more) tells =
-    by (is_level p next) refl (λ told. last_shown g next q tried rest more told) (last_shown (g ++ level_of next ∷ []) next q tried rest more (tells_level g next))
+    by (is_level p next) refl (λ reported. last_shown g next q tried rest more reported) (last_shown (g ++ level_of next ∷ []) next q tried rest more (tells_level g next))
   where
     by : (b : Bool) → is_level p next ≡ b → (TellsNumbers (last_triple g) next → TellsNumbers (last_triple (g ++ rest)) q) → TellsNumbers (last_triple ((g ++ level_of next ∷ []) ++ rest)) q → TellsNumbers (last_triple (g ++ shown)) q
     by true same later after =

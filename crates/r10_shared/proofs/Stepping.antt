@@ -4,8 +4,8 @@ use Rattle.std.specs.List.{AllByRecursion}
 use Rattle.std.proofs.lemmas.List.{append-nil}
 use Rattle.std.proofs.lemmas.List.Concat.{flat_map-append}
 use Rattle.r10_machine.proofs.Growing.{all_joined}
-use Rattle.r10_shared.specs.Asking.{Asks}
-use Rattle.r10_shared.specs.Rounds.{IsStep, IsTurn, IsWait, IsWriting, Turned, all_of, tells_of, turn_after}
+use Rattle.r10_shared.specs.WorkerCalls.{Asks}
+use Rattle.r10_shared.specs.Rounds.{IsWriterStep, IsTurn, IsWait, IsWriterRun, Turned, all_of, tells_of, turn_after}
 use Rattle.r10_shared.specs.Rounds.Turned.{Announces, Goes, Looks, Sleeps}
 use Rattle.r10_shared.specs.declared.rounds.Round.{Round}
 use Rattle.r10_shared.specs.declared.rounds.Turn.{Turn}
@@ -17,7 +17,7 @@ all_more steps step = flat_map-append (λ (s : List Turned). s) steps (step ∷ 
 module _ {S : Type 0} (asked : S → List Turned → S → Type 0) where
   -- the writer has made steps, and goes on
   abbrev pub HasGone : S → S → Type 0
-  HasGone old new = (steps : List (List Turned)) × asked old (all_of steps) new × AllByRecursion (IsStep true) steps
+  HasGone old new = (steps : List (List Turned)) × asked old (all_of steps) new × AllByRecursion (IsWriterStep true) steps
 
   pub gone_none : (old : S) → asked old [] old → HasGone old old
   gone_none old stays = ([], stays, tt)
@@ -39,20 +39,20 @@ module _ {S : Type 0} (asked : S → List Turned → S → Type 0) where
     waits_over a b c turn first (asks, then, is) over = (Announces ∷ asks, joins a b c (Announces ∷ []) asks first then, (asks, subst (λ (t : Turn). IsTurn t asks) over is, refl))
 
     -- a turn, and then a wait
-    pub steps_wait : (a b c : S) (turn : Turn) (on : Bool) → Asks asked (IsTurn turn) a b → turn ≡ Idle → Asks asked (IsWait on) b c → Asks asked (IsStep on) a c
+    pub steps_wait : (a b c : S) (turn : Turn) (on : Bool) → Asks asked (IsTurn turn) a b → turn ≡ Idle → Asks asked (IsWait on) b c → Asks asked (IsWriterStep on) a c
     steps_wait a b c turn true (asks, first, is) idle (more, then, waits) = (asks ++ more, joins a b c asks more first then, inr (asks, more, subst (λ (t : Turn). IsTurn t asks) idle is, waits, refl))
     steps_wait a b c turn false (asks, first, is) idle (more, then, waits) = (asks ++ more, joins a b c asks more first then, inr (asks, more, subst (λ (t : Turn). IsTurn t asks) idle is, waits, refl))
 
-    pub gone_on : (a b c : S) (on : Bool) → HasGone a b → Asks asked (IsStep on) b c → on ≡ true → HasGone a c
+    pub gone_on : (a b c : S) (on : Bool) → HasGone a b → Asks asked (IsWriterStep on) b c → on ≡ true → HasGone a c
     gone_on a b c on (steps, first, all) (asks, then, is) goes = (
       steps ++ asks ∷ [],
       subst (λ (l : List Turned). asked a l c) (sym (all_more steps asks)) (joins a b c (all_of steps) asks first then),
-      all_joined (IsStep true) steps (asks ∷ []) all (subst (λ (b : Bool). IsStep b asks) goes is, tt),
+      all_joined (IsWriterStep true) steps (asks ∷ []) all (subst (λ (b : Bool). IsWriterStep b asks) goes is, tt),
     )
 
-    pub gone : (a b c : S) (on : Bool) → HasGone a b → Asks asked (IsStep on) b c → on ≡ false → Asks asked IsWriting a c
+    pub gone : (a b c : S) (on : Bool) → HasGone a b → Asks asked (IsWriterStep on) b c → on ≡ false → Asks asked IsWriterRun a c
     gone a b c on (steps, first, all) (asks, then, is) ends_it = (
       all_of steps ++ asks,
       joins a b c (all_of steps) asks first then,
-      record { steps = steps; last = asks; go_on = all; ends = subst (λ (b : Bool). IsStep b asks) ends_it is; asks_are = refl },
+      record { steps = steps; last = asks; go_on = all; ends = subst (λ (b : Bool). IsWriterStep b asks) ends_it is; asks_are = refl },
     )

@@ -128,7 +128,7 @@ fed_shut answers stops a p q tally answer answered is same none = subst (λ (s :
   none = λ shut. refl;
 }))
 
--- a stop that is never asked leaves nothing of a source
+-- a power loss that is never asked leaves nothing of a source
 pub until_whole : (answers : Bool → Type 0) (a : List SourceItem) (p q : Sending) (tally : Tally) → FedUntil answers never a p q tally → FedBehind answers a p q tally
 until_whole answers a p q tally f = record {
   fed = f.fed;

@@ -6,23 +6,23 @@ use Rattle.std.proofs.lemmas.List.{append-nil, drop_all, get_or-map, length-map,
 use Rattle.r10_held.specs.Advancing.{TakesInstalment}
 use Rattle.r10_held.specs.Recorder.{Cursor, Reading as CursorReading}
 use Rattle.r10_held.specs.declared.player.Player.{Player}
-use Rattle.r10_shared.specs.Readings.{EachGoesOn, HasReadAll, HasTaken, IsAlike, IsTakenFrom, ReadsFrom, ReadsOn}
+use Rattle.r10_shared.specs.Readings.{EachGoesOn, HasReadAll, HasReadOn, IsAlike, IsTakenFrom, ReadsFrom, ReadsOn}
 use Rattle.r10_shared.specs.declared.reading.Transcribing.{Transcribing}
 use Rattle.r10_held.specs.declared.transcript.Instalment.{Instalment}
 use Rattle.r10_shared.specs.ReadingLaws.{alike_stays}
 
 -- nothing is taken
-pub took_none : (player later : Player) (all : List Instalment) → later.pass.cell ≡ player.pass.cell → IsAlike player.cursor later.cursor → later.cursor.reading.covered ≡ player.cursor.reading.covered → HasTaken player all later all
+pub took_none : (player later : Player) (all : List Instalment) → later.pass.cell ≡ player.pass.cell → IsAlike player.cursor later.cursor → later.cursor.reading.covered ≡ player.cursor.reading.covered → HasReadOn player all later all
 took_none player later all gauge alike covered = record { gauge = gauge; alike = alike; more = []; written = sym (append-nil all); goes_on = covered; taken = tt }
 
 -- what was still to be given is dropped
-pub passes_over : (player later : Player) (all : List Instalment) → later.pass ≡ player.pass → later.cursor ≡ record player.cursor { reading = record player.cursor.reading { queue = [] } } → HasTaken player all later all
+pub passes_over : (player later : Player) (all : List Instalment) → later.pass ≡ player.pass → later.cursor ≡ record player.cursor { reading = record player.cursor.reading { queue = [] } } → HasReadOn player all later all
 passes_over player later all same left =
     took_none player later all (ap (λ p. p.cell) same) (subst (IsAlike player.cursor) (sym left) (record { file = refl; generation = refl; channels = refl; first = refl; last = refl })) (ap (λ (c : Cursor). c.reading.covered) left)
 
-pub took_nothing : (player later : Player) (before all : List Instalment) → later.pass.cell ≡ player.pass.cell → later.cursor ≡ player.cursor → all ≡ before → HasTaken player before later all
+pub took_nothing : (player later : Player) (before all : List Instalment) → later.pass.cell ≡ player.pass.cell → later.cursor ≡ player.cursor → all ≡ before → HasReadOn player before later all
 took_nothing player later before all gauge same as_before =
-    subst (λ (l : List Instalment). HasTaken player before later l) (sym as_before) (took_none player later before gauge (subst (IsAlike player.cursor) (sym same) (alike_stays player.cursor)) (ap (λ (c : Cursor). c.reading.covered) same))
+    subst (λ (l : List Instalment). HasReadOn player before later l) (sym as_before) (took_none player later before gauge (subst (IsAlike player.cursor) (sym same) (alike_stays player.cursor)) (ap (λ (c : Cursor). c.reading.covered) same))
 
 module _ (player : Player) (b : Cursor) (n : ℕ) (takes : TakesInstalment player.cursor b n) where
   alike_then : IsAlike player.cursor b
@@ -39,7 +39,7 @@ module _ (player : Player) (b : Cursor) (n : ℕ) (takes : TakesInstalment playe
 
   -- an instalment is written
   pub took_one : (before : List Instalment) (i : Instalment) (later : Player) (all : List Instalment) → i.from ≡ player.cursor.reading.covered → i.to ≡ b.reading.covered → i.entries ≡ b.reading.queue
-      → later.pass.cell ≡ player.pass.cell → later.cursor ≡ record b { reading = record b.reading { queue = [] } } → all ≡ before ++ i ∷ [] → HasTaken player before later all
+      → later.pass.cell ≡ player.pass.cell → later.cursor ≡ record b { reading = record b.reading { queue = [] } } → all ≡ before ++ i ∷ [] → HasReadOn player before later all
   took_one before i later all begins ends has gauge same written = record {
     gauge = gauge;
     alike = subst (IsAlike player.cursor) (sym same) alike_emptied;
@@ -58,9 +58,9 @@ module _ (player : Player) (b : Cursor) (n : ℕ) (takes : TakesInstalment playe
 
   -- nothing came to it
   pub took_idle : (before : List Instalment) (later : Player) (all : List Instalment) → b.reading.covered ≡ player.cursor.reading.covered → later.pass.cell ≡ player.pass.cell → later.cursor ≡ record b { reading = record b.reading { queue = [] } }
-      → all ≡ before → HasTaken player before later all
+      → all ≡ before → HasReadOn player before later all
   took_idle before later all covered gauge same as_before =
-      subst (λ (l : List Instalment). HasTaken player before later l) (sym as_before) (took_none player later before gauge (subst (IsAlike player.cursor) (sym same) alike_emptied) (ap (λ (c : Cursor). c.reading.covered) same ∙ covered))
+      subst (λ (l : List Instalment). HasReadOn player before later l) (sym as_before) (took_none player later before gauge (subst (IsAlike player.cursor) (sym same) alike_emptied) (ap (λ (c : Cursor). c.reading.covered) same ∙ covered))
 
 -- ---- players, at first and at last
 

@@ -1,5 +1,6 @@
 -- What workers asked of the recorder that they share, and what was done then to what the lock kept at the time.
-use Rattle.std.specs.Prelude.{◌≡◌, ℕ, ◌+◌, ◌%◌, ◌^◌, Bool, true, false, List, [], ◌∷◌, length, slice_index_or, Result, None, IfErr, OnOk}
+use Rattle.std.specs.Prelude.{◌≡◌, ℕ, ◌+◌, ◌%◌, ◌^◌, Bool, true, false, List, [], ◌∷◌, length, slice_index_or, Result, None, IfErr}
+use Rattle.std.specs.Prelude.{OnOk}
 use Rattle.std.specs.List.{AllByRecursion}
 use Rattle.r10_body.specs.declared.refusal.Refusal.{Refusal}
 use Rattle.r10_body.specs.declared.spec.ChannelSpec.{ChannelSpec}
@@ -14,7 +15,7 @@ use Rattle.r10_machine.specs.declared.reply.Reply.{Reply}
 use Rattle.r10_machine.specs.declared.reply.Reply.TheVariants as replies
 use Rattle.r10_medium.specs.Disk.{Disk}
 use Rattle.r10_port.specs.Ends.{TookReceived}
-use Rattle.r10_shared.specs.Asking.{Asks}
+use Rattle.r10_shared.specs.WorkerCalls.{Asks}
 use Rattle.r10_shared.specs.Giving.{Given}
 use Rattle.r10_shared.specs.Giving.Given.{Gives, Wakes}
 use Rattle.r10_shared.specs.Orders.{HasDone, LanesStayBut, LeavesAs, OwnsAs, Performs, PublishesAs, RefusesAs, event_of}
@@ -26,11 +27,13 @@ use Rattle.r10_shared.specs.declared.order.Order.{Order}
 use Rattle.r10_shared.specs.declared.rounds.Round.{Round}
 
 -- a pump of the channel at a place of the settings: its lane alone gives, at most so many messages, and nothing is published
-pub record PumpsPlace {M : Type 0} (disk : M → Disk) (place most : ℕ) (answer : Result ℕ Refusal) (old new : HeldState M) : Type 0 where
+pub record PumpsPlace {M : Type 0} (disk : M → Disk) (place most : ℕ) (answer : Result ℕ Refusal)
+    (old new : HeldState M) : Type 0 where
   pub channel : ℕ
   pub is : (d : ChannelSpec) → (slice_index_or old.recorder.kept.config.channels place d).id ≡ channel
   pub passed : OnOk answer (recorder_refusal old.recorder.kept (events.Pump channel most) ≡ None)
-  pub takes : StepsByTaking TookReceived outlet_quiet outlet_spec (channel ∷ []) (λ _. most) CountsMoved HadRoom old.recorder.kept (disk old.recorder.medium).blocks (disk old.recorder.medium).failures (events.Pump channel most) (λ n. replies.Moved n) answer
+  pub takes : StepsByTaking TookReceived outlet_quiet outlet_spec (channel ∷ []) (λ _. most) CountsMoved HadRoom old.recorder.kept
+      (disk old.recorder.medium).blocks (disk old.recorder.medium).failures (events.Pump channel most) (λ n. replies.Moved n) answer
       new.recorder.kept (disk new.recorder.medium).blocks (disk new.recorder.medium).failures old.recorder.lanes new.recorder.lanes
   pub effect : OnOk answer (PumpEffect old.recorder.kept (disk old.recorder.medium) new.recorder.kept (disk new.recorder.medium))
   pub gauge : StaysPublished old new
@@ -39,7 +42,9 @@ pub record PumpsPlace {M : Type 0} (disk : M → Disk) (place most : ℕ) (answe
 -- a commit
 pub record CommitsNow {M : Type 0} (disk : M → Disk) (answer : Result (Unit {0}) Refusal) (old new : HeldState M) : Type 0 where
   pub passed : OnOk answer (recorder_refusal old.recorder.kept events.Commit ≡ None)
-  pub steps : CallStepsTaking none_taken old.recorder.kept (disk old.recorder.medium).blocks (disk old.recorder.medium).failures events.Commit (λ _. replies.Done) answer new.recorder.kept (disk new.recorder.medium).blocks (disk new.recorder.medium).failures
+  pub steps : CallStepsTaking none_taken old.recorder.kept (disk old.recorder.medium).blocks
+      (disk old.recorder.medium).failures events.Commit (λ _. replies.Done) answer new.recorder.kept
+      (disk new.recorder.medium).blocks (disk new.recorder.medium).failures
   pub effect : OnOk answer (CommitEffect old.recorder.kept (disk old.recorder.medium) new.recorder.kept (disk new.recorder.medium))
   pub publishes : Publishes answer old new
   pub lanes : new.recorder.lanes ≡ old.recorder.lanes
@@ -55,18 +60,19 @@ DoesAll disk old [] new = new ≡ old
 DoesAll {M} disk old (ask ∷ asks) new = (mid : HeldState M) × DoesAsked disk ask old mid × DoesAll disk mid asks new
 
 -- how many channels there are
-abbrev pub channels_of : {M : Type 0} → HeldState M → ℕ
-channels_of held = length held.recorder.kept.config.channels
+abbrev pub channel_count : {M : Type 0} → HeldState M → ℕ
+channel_count held = length held.recorder.kept.config.channels
 
 -- a round, of what the lock kept at the time
 pub record WentRound {M : Type 0} (disk : M → Disk) (rings : List ChannelRing) (last : Bool) (came : Round) : Type 0 where
   pub old : HeldState M
   pub new : HeldState M
   pub known : LockFact disk rings old.recorder old.published
-  pub round : Asks (DoesAll disk) (IsRound (channels_of old) last came) old new
+  pub round : Asks (DoesAll disk) (IsRound (channel_count old) last came) old new
 
 -- an order, to what the lock kept at the time
-pub record WasGiven {M : Type 0} (disk : M → Disk) (rings : List ChannelRing) (order : Order) (answer : Result Reply Refusal) : Type 0 where
+pub record WasGiven {M : Type 0} (disk : M → Disk) (rings : List ChannelRing) (order : Order)
+    (answer : Result Reply Refusal) : Type 0 where
   pub old : HeldState M
   pub new : HeldState M
   pub known : LockFact disk rings old.recorder old.published

@@ -12,14 +12,18 @@ use Rattle.r10_shared.specs.declared.report.FeedReport.{FeedReport}
 use Rattle.r10_shared.specs.declared.source.Tally.{Tally}
 
 -- the reports had room, and of each feed what was left is moved into its report
-pub record AreMoved {M F : Type 0} (line_of : F → SendingLine) (tally_of : F → Tally) (rings : List ChannelRing) (r : RecorderState M Receiving) (feeds : List F) (reports : List FeedReport) : Type 0 where
+pub record AreMovedToReports {M F : Type 0} (line_of : F → SendingLine) (tally_of : F → Tally) (rings : List ChannelRing)
+    (r : RecorderState M Receiving) (feeds : List F) (reports : List FeedReport) : Type 0 where
   pub ready : List FeedReport
   pub are_ready : AreReady line_of tally_of rings r.kept feeds ready
   pub moved : HasDrained line_of r.lanes feeds ready reports
 
--- Of a feed that was refused so many messages: what was sent on its line is what the recorder took from its lane, and then the rest, each once and in order. The report tells how many were sent, and fewer than 2^64 - 1 were, so that the number
--- that the recorder took is known too. As erased and as filed it tells the numbers that the recorder kept, which are no more than what it took; what its last call took is in neither.
-pub record IsFailedReport (k : Kept) (lanes : List Receiving) (line : SendingLine) (tally : Tally) (report : FeedReport) : Type 0 where
+-- Of a feed that was refused so many messages: what was sent on its line is what the recorder took from its lane, and then the
+-- rest, each once and in order. The report tells how many were sent, and fewer than 2^64 - 1 were, so that the number
+-- that the recorder took is known too. As erased and as filed it tells the numbers that the recorder kept, which are no more
+-- than what it took; what its last call took is in neither.
+pub record IsFailedReport (k : Kept) (lanes : List Receiving) (line : SendingLine) (tally : Tally)
+    (report : FeedReport) : Type 0 where
   pub channel_is : report.channel ≡ line.channel
   pub front : List Sample
   pub received_is : IsSomeAnd (receiving_of line.channel lanes) (λ lane. lane.received ≡ front)
@@ -35,9 +39,12 @@ pub record IsFailedReport (k : Kept) (lanes : List Receiving) (line : SendingLin
   pub within : (report.erased ≤ taken) × (taken ≤ length front)
 
 -- each feed has its report
-pub record FailedSettles {F : Type 0} (line_of : F → SendingLine) (tally_of : F → Tally) (k : Kept) (lanes : List Receiving) (feeds : List F) (reports : List FeedReport) : Type 0 where
+pub record FailedSettles {F : Type 0} (line_of : F → SendingLine) (tally_of : F → Tally) (k : Kept) (lanes : List Receiving)
+    (feeds : List F) (reports : List FeedReport) : Type 0 where
   pub number : length reports ≡ length feeds
-  pub each : (place : ℕ) (f : F) (r : FeedReport) → place < length feeds → IsFailedReport k lanes (line_of (slice_index_or feeds place f)) (tally_of (slice_index_or feeds place f)) (slice_index_or reports place r)
+  pub each : (place : ℕ) (f : F) (r : FeedReport) → place < length feeds
+      → IsFailedReport k lanes (line_of (slice_index_or feeds place f)) (tally_of (slice_index_or feeds place f))
+      (slice_index_or reports place r)
 
 -- such an end is refused where the recorder works; else for want of memory
 abbrev pub IsNotEnded : Work → NotEnded → Type 0

@@ -25,7 +25,8 @@ shown_by old new = cond (is_level old new) [] (level_of new ∷ [])
 -- of these, tried one after the other, each is shown so, in order, and nothing else is
 abbrev pub ShowsEach : Sending → List Tried → List Glance → Sending → Type 0
 ShowsEach old [] shown new = (new ≡ old) × (shown ≡ [])
-ShowsEach old (t ∷ tried) shown new = (next : Sending) × (rest : List Glance) × OffersAll old (t ∷ []) next × (shown ≡ shown_by old next ++ rest) × ShowsEach next tried rest new
+ShowsEach old (t ∷ tried) shown new = (next : Sending) × (rest : List Glance) × OffersAll old (t ∷ []) next
+    × (shown ≡ shown_by old next ++ rest) × ShowsEach next tried rest new
 
 -- a gauge, where there is one, has published these too
 abbrev pub GrewBy : Option PublishingEnd → Option PublishingEnd → List Glance → Type 0
@@ -42,9 +43,10 @@ abbrev pub TellsLast : Option PublishingEnd → Sending → Type 0
 TellsLast None port = Unit {0}
 TellsLast (Some g) port = TellsNumbers (last_triple g.published) port
 
--- A feed with a gauge: each thing tried that sent or lost a message was followed by the lane's level, and nothing else was shown. So if the last that
--- was published had the sender's numbers before, the last has its numbers now.
-pub record FedShowing (before : List SourceItem) (old new : Sending) (tally : Tally) (gauge later : Option PublishingEnd) : Type 0 where
+-- A feed with a gauge: each thing tried that sent or lost a message was followed by the lane's level, and nothing else was shown.
+-- So if the last that was published had the sender's numbers before, the last has its numbers now.
+pub record FedShowing (before : List SourceItem) (old new : Sending) (tally : Tally)
+    (gauge later : Option PublishingEnd) : Type 0 where
   pub fed : FedFrom before old new tally
   pub shown : List Glance
   pub shows : ShowsEach old fed.tried shown new
@@ -52,6 +54,7 @@ pub record FedShowing (before : List SourceItem) (old new : Sending) (tally : Ta
   pub last : TellsLast gauge old → TellsLast later new
 
 -- a source that waited was shown so; where none waited the gauge is as it was
-abbrev pub HasShown : {S : Type 0} → (S → List SourceItem) → Option S → SendingLine → Option PublishingEnd → SendingLine → Tally → Option PublishingEnd → Type 0
+abbrev pub HasShown : {S : Type 0} → (S → List SourceItem) → Option S → SendingLine → Option PublishingEnd → SendingLine → Tally
+    → Option PublishingEnd → Type 0
 HasShown rest_of (Some source) line gauge line' tally' gauge' = FedShowing (rest_of source) line.port line'.port tally' gauge gauge'
 HasShown rest_of None line gauge line' tally' gauge' = gauge' ≡ gauge

@@ -1,5 +1,5 @@
 pub mod Naming
-pub mod Asking
+pub mod WorkerCalls
 pub mod Rounds
 pub mod Giving
 pub mod Watching

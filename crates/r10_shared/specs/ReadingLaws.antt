@@ -6,7 +6,7 @@ use Rattle.r10_held.specs.Recorder.{Cursor}
 use Rattle.r10_held.specs.declared.player.Player.{Player}
 use Rattle.r10_held.specs.declared.transcript.Instalment.{Instalment}
 use Rattle.r10_shared.specs.DeskLaws.{all_join}
-use Rattle.r10_shared.specs.Readings.{EachGoesOn, HasTaken, IsAlike, IsTakenFrom, ReadsOn}
+use Rattle.r10_shared.specs.Readings.{EachGoesOn, HasReadOn, IsAlike, IsTakenFrom, ReadsOn}
 use Rattle.r10_shared.specs.declared.reading.Transcribing.{Transcribing}
 
 goes_join : (a b c : ℕ) (xs ys : List Instalment) → EachGoesOn a xs b → EachGoesOn b ys c → EachGoesOn a (xs ++ ys) c
@@ -26,25 +26,40 @@ alike_joins a b c one other = record {
 }
 
 -- nothing was taken
-pub taken_stays : (player : Player) (all : List Instalment) → HasTaken player all player all
-taken_stays player all = record { gauge = refl; alike = alike_stays player.cursor; more = []; written = sym (append-nil all); goes_on = refl; taken = tt }
+pub taken_stays : (player : Player) (all : List Instalment) → HasReadOn player all player all
+taken_stays player all = record {
+  gauge = refl;
+  alike = alike_stays player.cursor;
+  more = [];
+  written = sym (append-nil all);
+  goes_on = refl;
+  taken = tt;
+}
 
 -- one turn, and then others
-pub taken_joins : (player : Player) (before : List Instalment) (mid : Player) (then : List Instalment) (later : Player) (all : List Instalment) → HasTaken player before mid then → HasTaken mid then later all → HasTaken player before later all
+pub taken_joins : (player : Player) (before : List Instalment) (mid : Player) (then : List Instalment) (later : Player)
+    (all : List Instalment) → HasReadOn player before mid then → HasReadOn mid then later all → HasReadOn player before later all
 taken_joins player before mid then later all first second = record {
   gauge = second.gauge ∙ first.gauge;
   alike = alike_joins player.cursor mid.cursor later.cursor first.alike second.alike;
   more = first.more ++ second.more;
-  written = second.written ∙ ap (λ (l : List Instalment). l ++ second.more) first.written ∙ append_assoc before first.more second.more;
-  goes_on = goes_join player.cursor.reading.covered mid.cursor.reading.covered later.cursor.reading.covered first.more second.more first.goes_on second.goes_on;
-  taken = all_join (IsTakenFrom player.cursor.reading.channels player.cursor.reading.from player.cursor.reading.to) first.more second.more first.taken
-      (subst (λ (cs : List ℕ). AllByRecursion (IsTakenFrom cs player.cursor.reading.from player.cursor.reading.to) second.more) first.alike.channels
-      (subst (λ (n : ℕ). AllByRecursion (IsTakenFrom mid.cursor.reading.channels n player.cursor.reading.to) second.more) first.alike.first
-      (subst (λ (n : ℕ). AllByRecursion (IsTakenFrom mid.cursor.reading.channels mid.cursor.reading.from n) second.more) first.alike.last second.taken)));
+  written = second.written ∙ ap (λ (l : List Instalment). l ++ second.more) first.written
+      ∙ append_assoc before first.more second.more;
+  goes_on = goes_join player.cursor.reading.covered mid.cursor.reading.covered later.cursor.reading.covered first.more second.more
+      first.goes_on second.goes_on;
+  taken = all_join (IsTakenFrom player.cursor.reading.channels player.cursor.reading.from player.cursor.reading.to) first.more
+      second.more first.taken
+      (subst (λ (cs : List ℕ). AllByRecursion (IsTakenFrom cs player.cursor.reading.from player.cursor.reading.to) second.more)
+      first.alike.channels
+      (subst (λ (n : ℕ). AllByRecursion (IsTakenFrom mid.cursor.reading.channels n player.cursor.reading.to) second.more)
+      first.alike.first
+      (subst (λ (n : ℕ). AllByRecursion (IsTakenFrom mid.cursor.reading.channels mid.cursor.reading.from n) second.more)
+      first.alike.last second.taken)));
 }
 
 pub reads_stay : (r : Transcribing) → ReadsOn r r
 reads_stay r = taken_stays r.player r.instalments.items
 
 pub reads_both : (r s t : Transcribing) → ReadsOn r s → ReadsOn s t → ReadsOn r t
-reads_both r s t first then = taken_joins r.player r.instalments.items s.player s.instalments.items t.player t.instalments.items first then
+reads_both r s t first then = taken_joins r.player r.instalments.items s.player s.instalments.items t.player t.instalments.items
+    first then

@@ -28,7 +28,7 @@ EachGoesOn at [] end = end ≡ at
 EachGoesOn at (i ∷ instalments) end = (i.from ≡ at) × EachGoesOn i.to instalments end
 
 -- a player has read on, at the same gauge, and what it took stands after these
-pub record HasTaken (player : Player) (before : List Instalment) (later : Player) (all : List Instalment) : Type 0 where
+pub record HasReadOn (player : Player) (before : List Instalment) (later : Player) (all : List Instalment) : Type 0 where
   pub gauge : later.pass.cell ≡ player.pass.cell
   pub alike : IsAlike player.cursor later.cursor
   pub more : List Instalment
@@ -38,7 +38,7 @@ pub record HasTaken (player : Player) (before : List Instalment) (later : Player
 
 -- and is written down there
 abbrev pub ReadsFrom : Player → List Instalment → Transcribing → Type 0
-ReadsFrom player before new = HasTaken player before new.player new.instalments.items
+ReadsFrom player before new = HasReadOn player before new.player new.instalments.items
 
 abbrev pub ReadsOn : Transcribing → Transcribing → Type 0
 ReadsOn old new = ReadsFrom old.player old.instalments.items new

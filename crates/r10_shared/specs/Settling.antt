@@ -1,5 +1,6 @@
 -- What became of the messages of a session.
-use Rattle.std.specs.Prelude.{◌≡◌, ℕ, ◌<◌, ◌-◌, ◌^◌, ◌==◌, Bool, List, ◌++◌, [], length, take, drop, Option, Some, IsSomeAnd, find, slice_index_or, vec_capacity}
+use Rattle.std.specs.Prelude.{◌≡◌, ℕ, ◌<◌, ◌-◌, ◌^◌, ◌==◌, Bool, List, ◌++◌, [], length, take, drop, Option, Some, IsSomeAnd, find}
+use Rattle.std.specs.Prelude.{slice_index_or, vec_capacity}
 use Rattle.r10_body.specs.Files.{on_channel}
 use Rattle.r10_body.specs.declared.entry.Entry.{Entry}
 use Rattle.r10_body.specs.declared.entry.Sample.{Sample}
@@ -18,8 +19,8 @@ use Rattle.r10_held.specs.declared.transcript.Transcript.{Transcript}
 
 -- ---- what a report says
 
--- Of a feed that was refused so many messages: what was sent on its line is what erases took, then what the recorder's own files have of the channel, and then the
--- rest, each once and in order; and the report tells how many of each.
+-- Of a feed that was refused so many messages: what was sent on its line is what erases took, then what the recorder's own files
+-- have of the channel, and then the rest, each once and in order; and the report tells how many of each.
 pub record IsSettledReport (own : List Entry) (line : SendingLine) (tally : Tally) (report : FeedReport) : Type 0 where
   pub channel_is : report.channel ≡ line.channel
   pub gone : List Sample
@@ -32,8 +33,10 @@ pub record IsSettledReport (own : List Entry) (line : SendingLine) (tally : Tall
   pub refused_is : report.refused ≡ tally.refused
   pub lost_is : report.lost ≡ line.port.lane.lost
 
--- The report's numbers are those that the recorder kept: so many erased of the feed's channel, and as filed what it took in there less those. Fewer than 2^64 - 1 were sent, so that none of these numbers represents a larger one:
--- it is known then how many are gone and how many kept, and the rest is what stands after them, all that was sent and not taken in. A message that was left in a ring can't be reported as erased.
+-- The report's numbers are those that the recorder kept: so many erased of the feed's channel, and as filed what it took in
+-- there less those. Fewer than 2^64 - 1 were sent, so that none of these numbers represents a larger one:
+-- it is known then how many are gone and how many kept, and the rest is what stands after them, all that was sent and not
+-- taken in. A message that was left in a ring can't be reported as erased.
 pub record TellsKept (k : Kept) (line : SendingLine) (report : FeedReport) : Type 0 where
   pub few : report.accepted < 2 ^ 64 - 1
   pub erased_is : number_on line.channel k.config.channels k.erased ≡ Some report.erased
@@ -43,12 +46,16 @@ pub record TellsKept (k : Kept) (line : SendingLine) (report : FeedReport) : Typ
   pub rest_is : report.rest.items ≡ drop taken (sent line.port)
 
 -- each feed has its report, by the entries of the recorder's own files and by the numbers that it kept
-pub record Settles {F : Type 0} (line_of : F → SendingLine) (tally_of : F → Tally) (k : Kept) (image : Image) (feeds : List F) (reports : List FeedReport) : Type 0 where
+pub record Settles {F : Type 0} (line_of : F → SendingLine) (tally_of : F → Tally) (k : Kept) (image : Image) (feeds : List F)
+    (reports : List FeedReport) : Type 0 where
   pub own : List Entry
   pub is_own : AreOwn k image own
   pub number : length reports ≡ length feeds
-  pub each : (place : ℕ) (f : F) (r : FeedReport) → place < length feeds → IsSettledReport own (line_of (slice_index_or feeds place f)) (tally_of (slice_index_or feeds place f)) (slice_index_or reports place r)
-  pub numbers : (place : ℕ) (f : F) (r : FeedReport) → place < length feeds → TellsKept k (line_of (slice_index_or feeds place f)) (slice_index_or reports place r)
+  pub each : (place : ℕ) (f : F) (r : FeedReport) → place < length feeds
+      → IsSettledReport own (line_of (slice_index_or feeds place f)) (tally_of (slice_index_or feeds place f))
+      (slice_index_or reports place r)
+  pub numbers : (place : ℕ) (f : F) (r : FeedReport) → place < length feeds
+      → TellsKept k (line_of (slice_index_or feeds place f)) (slice_index_or reports place r)
 
 -- an end is refused Failed where the recorder failed; else for want of memory
 abbrev pub IsEndRefusal : Work → Refusal → Type 0
@@ -74,16 +81,19 @@ IsWrittenDown reading transcript = IsTranscriptOf reading transcript × (transcr
 
 pub record AreBegun (readings : List Transcribing) (transcripts : List Transcript) : Type 0 where
   pub number : length transcripts ≡ length readings
-  pub each : (place : ℕ) (a : Transcribing) (b : Transcript) → place < length readings → IsTranscriptOf (slice_index_or readings place a) (slice_index_or transcripts place b)
+  pub each : (place : ℕ) (a : Transcribing) (b : Transcript) → place < length readings
+      → IsTranscriptOf (slice_index_or readings place a) (slice_index_or transcripts place b)
 
 pub record AreWrittenDown (readings : List Transcribing) (transcripts : List Transcript) : Type 0 where
   pub number : length transcripts ≡ length readings
-  pub each : (place : ℕ) (a : Transcribing) (b : Transcript) → place < length readings → IsWrittenDown (slice_index_or readings place a) (slice_index_or transcripts place b)
+  pub each : (place : ℕ) (a : Transcribing) (b : Transcript) → place < length readings
+      → IsWrittenDown (slice_index_or readings place a) (slice_index_or transcripts place b)
 
 -- ---- room, before anything is moved
 
 -- a report of a feed that has room for all that was sent and not taken in
-pub record IsReportReady (rings : List ChannelRing) (k : Kept) (line : SendingLine) (tally : Tally) (report : FeedReport) : Type 0 where
+pub record IsReportReady (rings : List ChannelRing) (k : Kept) (line : SendingLine) (tally : Tally)
+    (report : FeedReport) : Type 0 where
   pub named : ring_for line.channel rings ≡ Some line.port.ring
   pub channel_is : report.channel ≡ line.channel
   pub accepted_is : report.accepted ≡ saturated (length (sent line.port))
@@ -99,11 +109,15 @@ pub record IsReportReady (rings : List ChannelRing) (k : Kept) (line : SendingLi
 
 -- no two reports are of one channel
 abbrev pub ReportsAreApart : List FeedReport → Type 0
-ReportsAreApart reports = (i j : ℕ) (r s : FeedReport) → i < j → j < length reports → (slice_index_or reports i r).channel ≡ (slice_index_or reports j s).channel → ⊥
+ReportsAreApart reports = (i j : ℕ) (r s : FeedReport) → i < j → j < length reports
+    → (slice_index_or reports i r).channel ≡ (slice_index_or reports j s).channel → ⊥
 
-pub record AreReady {F : Type 0} (line_of : F → SendingLine) (tally_of : F → Tally) (rings : List ChannelRing) (k : Kept) (feeds : List F) (reports : List FeedReport) : Type 0 where
+pub record AreReady {F : Type 0} (line_of : F → SendingLine) (tally_of : F → Tally) (rings : List ChannelRing) (k : Kept)
+    (feeds : List F) (reports : List FeedReport) : Type 0 where
   pub number : length reports ≡ length feeds
-  pub each : (place : ℕ) (f : F) (r : FeedReport) → place < length feeds → IsReportReady rings k (line_of (slice_index_or feeds place f)) (tally_of (slice_index_or feeds place f)) (slice_index_or reports place r)
+  pub each : (place : ℕ) (f : F) (r : FeedReport) → place < length feeds
+      → IsReportReady rings k (line_of (slice_index_or feeds place f)) (tally_of (slice_index_or feeds place f))
+      (slice_index_or reports place r)
   pub apart : ReportsAreApart reports
 
 -- ---- what is moved
@@ -119,14 +133,21 @@ pub record Drains (lane : Receiving) (port : Sending) (old new : FeedReport) : T
   pub moved : new.rest.items ≡ old.rest.items ++ take (vec_capacity old.rest - length old.rest.items) (unreceived lane port)
 
 -- each feed has its report, no two of one channel, and its line is that of its channel's lane
-pub record MayDrain {F : Type 0} (line_of : F → SendingLine) (lanes : List Receiving) (feeds : List F) (reports : List FeedReport) : Type 0 where
+pub record MayDrain {F : Type 0} (line_of : F → SendingLine) (lanes : List Receiving) (feeds : List F)
+    (reports : List FeedReport) : Type 0 where
   pub number : length reports ≡ length feeds
-  pub channels : (place : ℕ) (f : F) (r : FeedReport) → place < length feeds → (slice_index_or reports place r).channel ≡ (line_of (slice_index_or feeds place f)).channel
+  pub channels : (place : ℕ) (f : F) (r : FeedReport) → place < length feeds
+      → (slice_index_or reports place r).channel ≡ (line_of (slice_index_or feeds place f)).channel
   pub apart : ReportsAreApart reports
-  pub rings : (place : ℕ) (f : F) (r : FeedReport) → place < length feeds → IsSomeAnd (receiving_of (line_of (slice_index_or feeds place f)).channel lanes) (λ lane. lane.ring ≡ (line_of (slice_index_or feeds place f)).port.ring)
+  pub rings : (place : ℕ) (f : F) (r : FeedReport) → place < length feeds
+      → IsSomeAnd (receiving_of (line_of (slice_index_or feeds place f)).channel lanes)
+      (λ lane. lane.ring ≡ (line_of (slice_index_or feeds place f)).port.ring)
 
 -- of each feed what was left is moved into its report
-pub record HasDrained {F : Type 0} (line_of : F → SendingLine) (lanes : List Receiving) (feeds : List F) (reports later : List FeedReport) : Type 0 where
+pub record HasDrained {F : Type 0} (line_of : F → SendingLine) (lanes : List Receiving) (feeds : List F)
+    (reports later : List FeedReport) : Type 0 where
   pub number : length later ≡ length reports
   pub each : (place : ℕ) (f : F) (r s : FeedReport) → place < length feeds
-      → IsSomeAnd (receiving_of (line_of (slice_index_or feeds place f)).channel lanes) (λ lane. Drains lane (line_of (slice_index_or feeds place f)).port (slice_index_or reports place r) (slice_index_or later place s))
+      → IsSomeAnd (receiving_of (line_of (slice_index_or feeds place f)).channel lanes)
+      (λ lane. Drains lane (line_of (slice_index_or feeds place f)).port (slice_index_or reports place r)
+      (slice_index_or later place s))

@@ -1,9 +1,10 @@
 -- What a reader asks: looks and instalments.
 use Rattle.std.specs.Prelude.{◌≡◌, ℕ, ◌==◌, ◌||◌, ◌&&◌, ◌^◌, ◌-◌, Bool, true, false, not, List, [], ◌∷◌, ◌++◌, flat_map, Result}
 use Rattle.r10_body.specs.declared.refusal.Refusal.{Refusal}
-use Rattle.r10_shared.specs.Asking.{goes_on}
+use Rattle.r10_shared.specs.WorkerCalls.{goes_on}
 
--- the reader announces that it waits; it looks whether the writer has ended, and how often it has committed; it sleeps; it takes an instalment
+-- the reader announces that it waits; it looks whether the writer has ended, and how often it has committed; it sleeps; it
+-- takes an instalment
 pub data Watched : Type 0 where
   Announces : Watched
   Ended : Bool → Watched
@@ -11,12 +12,14 @@ pub data Watched : Type 0 where
   Sleeps : Watched
   Reads : Result (Unit {0}) Refusal → Watched
 
--- What follows on a look. If nothing is due the reader sleeps. Else it takes an instalment, and goes on unless the writer had ended or the refusal ends a worker.
+-- What follows on a look. If nothing is due the reader sleeps. Else it takes an instalment, and goes on unless the writer had
+-- ended or the refusal ends a worker.
 abbrev pub Follows : Bool → Bool → List Watched → Bool → Type 0
 Follows false last rest on = (rest ≡ Sleeps ∷ []) × (on ≡ true)
 Follows true last rest on = (answer : Result (Unit {0}) Refusal) × (rest ≡ Reads answer ∷ []) × (on ≡ (goes_on answer && not last))
 
--- A look, after so many commits were seen and when so many were made. An instalment is due if more was shown since, or the writer has ended.
+-- A look, after so many commits were seen and when so many were made. An instalment is due if more was shown since, or the
+-- writer has ended.
 pub record IsLook (seen shown : ℕ) (on : Bool) (asks : List Watched) : Type 0 where
   pub last : Bool
   pub rest : List Watched
@@ -36,7 +39,8 @@ EachLook seen (l ∷ looks) now = IsLook seen l.shown true l.asks × EachLook l.
 abbrev pub asked_in : List Look → List Watched
 asked_in looks = flat_map (λ (l : Look). l.asks) looks
 
--- all that a reader asks: looks after which it goes on, and then one that ends it. At first it has seen 2^64 - 1 commits, which are never made.
+-- all that a reader asks: looks after which it goes on, and then one that ends it. At first it has seen 2^64 - 1 commits,
+-- which are never made.
 pub record IsWatching (asks : List Watched) : Type 0 where
   pub looks : List Look
   pub seen : ℕ

@@ -3,7 +3,7 @@
 ghost use Rattle.std.specs.Prelude.{◌≡◌, refl};
 ghost use Rattle.std.proofs.Common.{◌∙◌, ap, sym};
 ghost use Rattle.std.specs.List.{AllByRecursion};
-ghost use Rattle.r10_shared.specs.Desk.{DoesAll, WasAsked, WasTurned, channels_of};
+ghost use Rattle.r10_shared.specs.Desk.{DoesAll, WasAsked, WasTurned, channel_count};
 ghost use Rattle.r10_shared.specs.DeskLaws.{all_join, does_join, does_keep, does_none};
 
 use crate::giving::Control;
@@ -22,7 +22,7 @@ use std::alloc::Global;
 use std::sync::Wait;
 
 impl<M: BlockMedium, N: Rings> Recording for Held<M, N> {
-    ghost number = { λ held. channels_of held };
+    ghost number = { λ held. channel_count held };
 
     ghost asked = { DoesAll M.disk };
 

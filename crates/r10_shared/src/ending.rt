@@ -2,7 +2,7 @@
 
 ghost use Rattle.std.specs.Prelude.{◌≡◌, IfErr, IfOk};
 ghost use Rattle.r10_held.specs.Recorder.{failed};
-ghost use Rattle.r10_shared.specs.Failing.{AreMoved};
+ghost use Rattle.r10_shared.specs.Failing.{AreMovedToReports};
 ghost use Rattle.r10_shared.specs.Settling.{AreWrittenDown, IsEndRefusal, Settles, end_refusal};
 
 use crate::report::SessionReport;
@@ -22,7 +22,8 @@ pub(crate) fn settle<M: BlockMedium, N: Rings>(
     session: Session<N>,
 ) -> Result<SessionReport<M>, (Held<M, N>, Session<N>)>
     ensures moved { IfOk result
-        (λ report. AreMoved (λ feed. feed.line) (λ feed. feed.tally) N.rings held.recorder session.feeds.items report.feeds.items) }
+        (λ report. AreMovedToReports (λ feed. feed.line) (λ feed. feed.tally) N.rings held.recorder session.feeds.items
+        report.feeds.items) }
     ensures recorder { IfOk result
         (λ report. (report.recorder.kept ≡ held.recorder.kept) × (report.recorder.medium ≡ held.recorder.medium)) }
     ensures lanes { IfOk result (λ report. report.lanes.value.items ≡ held.recorder.lanes) }

@@ -3,7 +3,7 @@
 ghost use Rattle.std.specs.Prelude.{◌≡◌, ◌++◌, List, [], ◌∷◌, Result};
 ghost use Rattle.r10_body.specs.declared.refusal.Refusal.{Refusal as RefusalValue};
 ghost use Rattle.r10_machine.specs.declared.reply.Reply.{Reply as ReplyValue};
-ghost use Rattle.r10_shared.specs.Asking.{Asks, goes_on as passes};
+ghost use Rattle.r10_shared.specs.WorkerCalls.{Asks, goes_on as passes};
 ghost use Rattle.r10_shared.specs.Giving.{Given, GivesInTurn};
 ghost use Rattle.r10_shared.specs.Giving.Given.{Gives, Wakes};
 

@@ -2,7 +2,7 @@
 
 ghost use Rattle.std.specs.Prelude.{◌≡◌, []};
 ghost use Rattle.r10_shared.specs.SinkLaws.{hands_at, hands_both, hands_stay};
-ghost use Rattle.r10_shared.specs.Sinks.{HandsOn, HandsTo};
+ghost use Rattle.r10_shared.specs.Sinks.{HandsOnInstalments, HandsTo};
 
 use crate::reader::SessionReader;
 use crate::reading::{Transcribing, pass_over};
@@ -91,7 +91,7 @@ fn take_next<M: BlockMedium, N: Rings, R: Wait, K: Sink>(
     sink: &mut Option<K>,
 ) -> Result<(), Refusal>
     requires { reading.old.player.pass.cell ≡ cabinet.now.gauge }
-    ensures { HandsOn K.accepted K.has_refused reading.old sink.old reading.new sink.new }
+    ensures { HandsOnInstalments K.accepted K.has_refused reading.old sink.old reading.new sink.new }
 {
     match sink {
         Some(sink) => hand_next(rt, alloc, cabinet, reading, sink),
@@ -102,7 +102,7 @@ fn take_next<M: BlockMedium, N: Rings, R: Wait, K: Sink>(
 impl<K: Sink> SessionReader for Handing<K> {
     ghost gauge = { λ handing. handing.reading.player.pass.cell };
 
-    ghost reads_on = { λ old new. HandsOn K.accepted K.has_refused old.reading old.sink new.reading new.sink };
+    ghost reads_on = { λ old new. HandsOnInstalments K.accepted K.has_refused old.reading old.sink new.reading new.sink };
 
     ghost queue = { λ handing. handing.reading.player.cursor.reading.queue };
 

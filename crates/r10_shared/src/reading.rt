@@ -3,7 +3,7 @@
 ghost use Rattle.std.specs.Prelude.{◌≡◌, ◌≤◌, ◌+◌, [], List, length};
 ghost use Rattle.r10_held.specs.declared.transcript.Instalment.{Instalment as InstalmentValue};
 ghost use Rattle.r10_shared.specs.ReadingLaws.{reads_both, reads_stay};
-ghost use Rattle.r10_shared.specs.Readings.{HasTaken, ReadsOn};
+ghost use Rattle.r10_shared.specs.Readings.{HasReadOn, ReadsOn};
 
 use crate::reader::SessionReader;
 use r10_body::Refusal;
@@ -15,7 +15,7 @@ use std::sync::Wait;
 
 /// Drops what a player was still to give.
 pub(crate) fn pass_over(alloc: Global, player: &mut Player)
-    ensures taken { (all : List InstalmentValue) → HasTaken player.old all player.new all }
+    ensures taken { (all : List InstalmentValue) → HasReadOn player.old all player.new all }
     ensures none { player.new.cursor.reading.queue ≡ [] }
 {
     let _passed_over = player.rest(alloc);

@@ -2,7 +2,7 @@
 
 ghost use Rattle.std.specs.Prelude.{◌≡◌, ◌+◌, ◌<◌, ◌++◌, ℕ, List, [], ◌∷◌, Result};
 ghost use Rattle.r10_body.specs.declared.refusal.Refusal.{Refusal as RefusalValue};
-ghost use Rattle.r10_shared.specs.Asking.{Asks, ends};
+ghost use Rattle.r10_shared.specs.WorkerCalls.{Asks, ends};
 ghost use Rattle.r10_shared.specs.Rounds.{ArePumps, Asked, IsRound, came_to, committed, pumps_from};
 ghost use Rattle.r10_shared.specs.Rounds.Asked.{Commits, Pumps};
 

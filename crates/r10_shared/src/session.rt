@@ -7,8 +7,8 @@ ghost use Rattle.r10_shared.specs.Feeding.{HasRun, HasRunUntil, HasRunWhole};
 ghost use Rattle.r10_shared.specs.Giving.{GivesInTurn};
 ghost use Rattle.r10_shared.specs.Levels.{HasShown};
 ghost use Rattle.r10_shared.specs.Readings.{HasReadAll};
-ghost use Rattle.r10_shared.specs.Rounds.{IsWriting};
-ghost use Rattle.r10_shared.specs.Sinks.{HandsOn};
+ghost use Rattle.r10_shared.specs.Rounds.{IsWriterRun};
+ghost use Rattle.r10_shared.specs.Sinks.{HandsOnInstalments};
 ghost use Rattle.r10_shared.specs.Watching.{IsWatching};
 
 use crate::feed::Feed;
@@ -75,7 +75,7 @@ fn write_and_read<
     progress: &Progress,
 )
     requires { All (λ reading. D.gauge reading ≡ cabinet.now.gauge) readings.old }
-    ensures writes { Worked (G.answers gate.now first) IsWriting (WasTurned M.disk N.rings) }
+    ensures writes { Worked (G.answers gate.now first) IsWriterRun (WasTurned M.disk N.rings) }
     ensures gives { Worked (G.answers gate.now (number_after first 1)) (GivesInTurn orders.now) (WasAsked M.disk N.rings) }
     ensures watch { (i : ℕ) → i < length readings.old
         → Worked (G.answers gate.now (number_after (number_after first 2) i)) IsWatching IsNoted }
@@ -83,7 +83,7 @@ fn write_and_read<
         → D.reads_on (slice_index_or readings.old i d) (slice_index_or readings.new i d) }
 {
     let mut writing = ||
-        ensures { Worked (G.answers gate.entry.now first) IsWriting (WasTurned M.disk N.rings)
+        ensures { Worked (G.answers gate.entry.now first) IsWriterRun (WasTurned M.disk N.rings)
             × Worked (G.answers gate.entry.now (number_after first 1)) (GivesInTurn orders.entry.now) (WasAsked M.disk N.rings) }
     {
         thread::join(
@@ -140,7 +140,7 @@ fn run_all<
     ensures shown { (i : ℕ) (d : _) → i < length feeds.old → HasShown (λ s. rest s) (slice_index_or feeds.old i d).source
         (slice_index_or feeds.old i d).line (slice_index_or feeds.old i d).gauge (slice_index_or feeds.new i d).line
         (slice_index_or feeds.new i d).tally (slice_index_or feeds.new i d).gauge }
-    ensures writes { Worked (G.answers gate.now (length feeds.old)) IsWriting (WasTurned M.disk N.rings) }
+    ensures writes { Worked (G.answers gate.now (length feeds.old)) IsWriterRun (WasTurned M.disk N.rings) }
     ensures gives { Worked (G.answers gate.now (number_after (length feeds.old) 1))
         (GivesInTurn orders.now) (WasAsked M.disk N.rings) }
     ensures watch { (i : ℕ) → i < length readings.old
@@ -166,7 +166,7 @@ fn run_all<
     { run_feeds(rt, gate, stop, feeds, along) };
     let mut others = ||
         requires { All (λ reading. D.gauge reading ≡ cabinet.now.gauge) readings.now }
-        ensures { Worked (G.answers gate.entry.now first) IsWriting (WasTurned M.disk N.rings)
+        ensures { Worked (G.answers gate.entry.now first) IsWriterRun (WasTurned M.disk N.rings)
             × Worked (G.answers gate.entry.now (number_after first 1)) (GivesInTurn orders.entry.now) (WasAsked M.disk N.rings)
             × ((i : ℕ) → i < length readings.entry.now
             → Worked (G.answers gate.entry.now (number_after (number_after first 2) i)) IsWatching IsNoted)
@@ -221,7 +221,7 @@ pub fn run_session_handing<
         → HasRun (λ s. rest s) (slice_index_or feeds.old i d).source (slice_index_or feeds.old i d).line
         (slice_index_or feeds.old i d).tally (slice_index_or feeds.new i d).line (slice_index_or feeds.new i d).tally }
     ensures hands { (i : ℕ) (d : _) → i < length players.old
-        → HandsOn K.accepted K.has_refused (slice_index_or players.old i d).reading (slice_index_or players.old i d).sink
+        → HandsOnInstalments K.accepted K.has_refused (slice_index_or players.old i d).reading (slice_index_or players.old i d).sink
         (slice_index_or players.new i d).reading (slice_index_or players.new i d).sink }
     ensures shown { (i : ℕ) (d : _) → i < length feeds.old → HasShown (λ s. rest s) (slice_index_or feeds.old i d).source
         (slice_index_or feeds.old i d).line (slice_index_or feeds.old i d).gauge (slice_index_or feeds.new i d).line
@@ -229,7 +229,7 @@ pub fn run_session_handing<
     ensures until { (i : ℕ) (d : _) → i < length feeds.old
         → HasRunUntil (G.answers gate.now i) (S.answers stop.now) (λ s. rest s) (slice_index_or feeds.old i d).source
         (slice_index_or feeds.old i d).line (slice_index_or feeds.new i d).line (slice_index_or feeds.new i d).tally }
-    ensures writes { Worked (G.answers gate.now (length feeds.old)) IsWriting (WasTurned M.disk N.rings) }
+    ensures writes { Worked (G.answers gate.now (length feeds.old)) IsWriterRun (WasTurned M.disk N.rings) }
     ensures gives { Worked (G.answers gate.now (number_after (length feeds.old) 1))
         (GivesInTurn orders.now) (WasAsked M.disk N.rings) }
     ensures watch { (i : ℕ) → i < length players.old
@@ -273,7 +273,7 @@ pub fn run_session_until<
     ensures until { IfOk result (λ session. (i : ℕ) (d : _) → i < length feeds.items → HasRunUntil (G.answers gate.now i)
         (S.answers stop.now) (λ s. rest s) (slice_index_or feeds.items i d).source (slice_index_or feeds.items i d).line
         (slice_index_or session.feeds.items i d).line (slice_index_or session.feeds.items i d).tally) }
-    ensures writes { OnOk result (Worked (G.answers gate.now (length feeds.items)) IsWriting (WasTurned M.disk N.rings)) }
+    ensures writes { OnOk result (Worked (G.answers gate.now (length feeds.items)) IsWriterRun (WasTurned M.disk N.rings)) }
     ensures gives { OnOk result
         (Worked (G.answers gate.now (number_after (length feeds.items) 1)) (GivesInTurn orders.items) (WasAsked M.disk N.rings)) }
     ensures watch { OnOk result ((i : ℕ) → i < length players.items
@@ -336,7 +336,7 @@ pub fn run_session<
     ensures whole { IfOk result (λ session. (i : ℕ) (d : _) → i < length feeds.items → HasRunWhole (G.answers gate.now i)
         (λ s. rest s) (slice_index_or feeds.items i d).source (slice_index_or feeds.items i d).line
         (slice_index_or session.feeds.items i d).line (slice_index_or session.feeds.items i d).tally) }
-    ensures writes { OnOk result (Worked (G.answers gate.now (length feeds.items)) IsWriting (WasTurned M.disk N.rings)) }
+    ensures writes { OnOk result (Worked (G.answers gate.now (length feeds.items)) IsWriterRun (WasTurned M.disk N.rings)) }
     ensures gives { OnOk result
         (Worked (G.answers gate.now (number_after (length feeds.items) 1)) (GivesInTurn orders.items) (WasAsked M.disk N.rings)) }
     ensures watch { OnOk result ((i : ℕ) → i < length players.items

@@ -15,7 +15,7 @@ pub trait Stop {
         ensures { answers self.now result };
 }
 
-/// A stop that is never asked.
+/// A power loss that is never asked.
 #[derive(Clone, Copy)]
 pub struct Never;
 
@@ -29,7 +29,7 @@ impl Stop for Never {
     }
 }
 
-/// A stop that any thread may ask, once and for all.
+/// A power loss that any thread may ask, once and for all.
 #[derive(Drop)]
 pub struct StopFlag {
     asked: AtomicBool,

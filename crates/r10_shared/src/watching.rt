@@ -1,7 +1,7 @@
 //! A reader: instalment after instalment, until the writer has ended.
 
 ghost use Rattle.std.specs.Prelude.{◌≡◌, ◌==◌, ◌||◌, ◌&&◌, not, ◌++◌, ℕ, List, [], ◌∷◌};
-ghost use Rattle.r10_shared.specs.Asking.{Asks, goes_on as passes};
+ghost use Rattle.r10_shared.specs.WorkerCalls.{Asks, goes_on as passes};
 ghost use Rattle.r10_shared.specs.Watching.{IsLook, IsWatching, Watched};
 ghost use Rattle.r10_shared.specs.Watching.Watched.{Announces, Ended, Reads, Shown, Sleeps};
 

@@ -2,7 +2,7 @@
 
 ghost use Rattle.r10_shared.specs.Desk.{WasAsked, WasTurned, Worked};
 ghost use Rattle.r10_shared.specs.Giving.{GivesInTurn};
-ghost use Rattle.r10_shared.specs.Rounds.{IsWriting};
+ghost use Rattle.r10_shared.specs.Rounds.{IsWriterRun};
 
 use crate::desk::SharedRecorder;
 use crate::gate::Gate;
@@ -22,7 +22,7 @@ pub(crate) fn write_on<M: BlockMedium, N: Rings, R: Wait, G: Gate>(
     worker: usize,
     progress: &Progress,
 )
-    ensures { Worked (G.answers gate.now worker) IsWriting (WasTurned M.disk N.rings) }
+    ensures { Worked (G.answers gate.now worker) IsWriterRun (WasTurned M.disk N.rings) }
 {
     if gate.pass(worker) {
         let mut desk = SharedRecorder {

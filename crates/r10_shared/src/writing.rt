@@ -1,8 +1,8 @@
 //! The writer: round after round, until nothing more comes.
 
 ghost use Rattle.std.specs.Prelude.{◌≡◌, ◌++◌, List, [], ◌∷◌};
-ghost use Rattle.r10_shared.specs.Asking.{Asks};
-ghost use Rattle.r10_shared.specs.Rounds.{IsStep, IsTurn, IsWait, IsWriting, Turned, tells_of, turn_after};
+ghost use Rattle.r10_shared.specs.WorkerCalls.{Asks};
+ghost use Rattle.r10_shared.specs.Rounds.{IsWriterStep, IsTurn, IsWait, IsWriterRun, Turned, tells_of, turn_after};
 ghost use Rattle.r10_shared.specs.Rounds.Turned.{Announces, Goes, Looks, Sleeps, Tells};
 
 use crate::rounds::{Round, Turn};
@@ -90,7 +90,7 @@ fn wait_for_more<W: Writing>(at: &mut W) -> bool
 
 /// A turn, and a wait after one that moved nothing. Whether the writer goes on.
 fn step<W: Writing>(at: &mut W) -> bool
-    ensures { Asks W.asked (IsStep result) at.old at.new }
+    ensures { Asks W.asked (IsWriterStep result) at.old at.new }
 {
     match writer_turn(at) {
         Turn::Moved => true,
@@ -104,7 +104,7 @@ fn step<W: Writing>(at: &mut W) -> bool
 /// control were over before a round that moves nothing, that one commits too, and is the last. A round that meets Failed or
 /// OutOfMemory is the last as well.
 pub fn write<W: Writing, R: Wait>(rt: &R, at: &mut W)
-    ensures { Asks W.asked IsWriting at.old at.new }
+    ensures { Asks W.asked IsWriterRun at.old at.new }
 {
     for _ in rt.forever() {
         if !step(at) {

@@ -1,5 +1,6 @@
 -- What becomes at a port of what a source gives.
-use Rattle.std.specs.Prelude.{◌≡◌, ℕ, ◌+◌, ◌≤◌, Bool, true, false, List, [], ◌∷◌, ◌++◌, map, length, count_by, is_ok, is_err, Result, Ok, Err, if◌then◌else◌}
+use Rattle.std.specs.Prelude.{◌≡◌, ℕ, ◌+◌, ◌≤◌, Bool, true, false, List, [], ◌∷◌, ◌++◌, map, length, count_by, is_ok, is_err}
+use Rattle.std.specs.Prelude.{Result, Ok, Err, if◌then◌else◌}
 use Rattle.r10_body.specs.Gaps.{gap_after}
 use Rattle.r10_body.specs.declared.entry.Sample.{Sample}
 use Rattle.r10_body.specs.declared.entry.Timed.{Timed}
@@ -24,7 +25,8 @@ turn_of (counts n) = brings.Lost n
 -- all of them were offered, or counted, one after the other
 abbrev pub OffersAll : Sending → List Tried → Sending → Type 0
 OffersAll old [] new = new ≡ old
-OffersAll old (tries item answer ∷ tried) new = (next : Sending) × Offered old item.count item.message answer next × OffersAll next tried new
+OffersAll old (tries item answer ∷ tried) new = (next : Sending) × Offered old item.count item.message answer next
+    × OffersAll next tried new
 OffersAll old (counts n ∷ tried) new = OffersAll (with_losses n old) tried new
 
 abbrev pub is_accepted : Tried → Bool

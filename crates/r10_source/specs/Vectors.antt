@@ -54,11 +54,16 @@ the_end : GivesNext End [] []
 the_end = (refl, refl)
 
 -- in two turns two are accepted
-two_turns : (ring : Ring) → PumpsSource 2 (turn 1 ∷ turn 2 ∷ turn 3 ∷ []) (turn 3 ∷ []) (port ring [] None 0 2) (port ring (sample 1 Whole ∷ sample 2 Whole ∷ []) (Some 2) 0 0) (record { accepted = 2; refused = 0; ended = false })
+two_turns : (ring : Ring) → PumpsSource 2 (turn 1 ∷ turn 2 ∷ turn 3 ∷ []) (turn 3 ∷ []) (port ring [] None 0 2)
+    (port ring (sample 1 Whole ∷ sample 2 Whole ∷ []) (Some 2) 0 0) (record { accepted = 2; refused = 0; ended = false })
 two_turns ring = record {
   tried = tried 1 (Ok tt) ∷ tried 2 (Ok tt) ∷ [];
   given = refl;
-  offers = (port ring (sample 1 Whole ∷ []) (Some 1) 0 1, (refl, lit≤ tt), (port ring (sample 1 Whole ∷ sample 2 Whole ∷ []) (Some 2) 0 0, (refl, lit≤ tt), refl));
+  offers = (
+    port ring (sample 1 Whole ∷ []) (Some 1) 0 1,
+    (refl, lit≤ tt),
+    (port ring (sample 1 Whole ∷ sample 2 Whole ∷ []) (Some 2) 0 0, (refl, lit≤ tt), refl),
+  );
   same = (refl, refl);
   sent = refl;
   accepted = refl;
@@ -68,7 +73,8 @@ two_turns ring = record {
 }
 
 -- and in ten the third is refused, and the source ends
-ten_turns : (ring : Ring) → PumpsSource 10 (turn 3 ∷ []) [] (port ring (sample 1 Whole ∷ sample 2 Whole ∷ []) (Some 2) 0 0) (port ring (sample 1 Whole ∷ sample 2 Whole ∷ []) (Some 2) 1 0) (record { accepted = 0; refused = 1; ended = true })
+ten_turns : (ring : Ring) → PumpsSource 10 (turn 3 ∷ []) [] (port ring (sample 1 Whole ∷ sample 2 Whole ∷ []) (Some 2) 0 0)
+    (port ring (sample 1 Whole ∷ sample 2 Whole ∷ []) (Some 2) 1 0) (record { accepted = 0; refused = 1; ended = true })
 ten_turns ring = record {
   tried = tried 3 (Err Overflow) ∷ [];
   given = refl;
@@ -82,14 +88,17 @@ ten_turns ring = record {
 }
 
 -- only a loss makes a gap, and only of the next that is accepted, which tells how many were lost
-marks : accepted_of 0 (tried 1 (Err BadMessage) ∷ tried 2 (Ok tt) ∷ tried 3 (Err Overflow) ∷ tried 4 (Err BadMessage) ∷ tried 5 (Err Overflow) ∷ tried 6 (Ok tt) ∷ tried 7 (Ok tt) ∷ [])
+marks : accepted_of 0 (tried 1 (Err BadMessage) ∷ tried 2 (Ok tt) ∷ tried 3 (Err Overflow) ∷ tried 4 (Err BadMessage)
+    ∷ tried 5 (Err Overflow) ∷ tried 6 (Ok tt) ∷ tried 7 (Ok tt) ∷ [])
     ≡ sample 2 Whole ∷ sample 6 (Lost 2) ∷ sample 7 Whole ∷ []
 marks = refl
 
 -- those that were lost before count too, and the number stays at the greatest of 64 bits
-lost_before : accepted_of 18446744073709551614 (tried 1 (Err Overflow) ∷ tried 2 (Err Overflow) ∷ tried 3 (Ok tt) ∷ []) ≡ sample 3 (Lost 18446744073709551615) ∷ []
+lost_before : accepted_of 18446744073709551614 (tried 1 (Err Overflow) ∷ tried 2 (Err Overflow) ∷ tried 3 (Ok tt) ∷ []) ≡ sample 3
+    (Lost 18446744073709551615) ∷ []
 lost_before = refl
 
 -- losses that the source knows of count with them, before the first message and between
-losses_told : accepted_of 0 (counts 40 ∷ counts 2 ∷ tried 1 (Ok tt) ∷ tried 2 (Err Overflow) ∷ counts 5 ∷ tried 3 (Ok tt) ∷ tried 4 (Ok tt) ∷ counts 7 ∷ []) ≡ sample 1 (Lost 42) ∷ sample 3 (Lost 6) ∷ sample 4 Whole ∷ []
+losses_told : accepted_of 0 (counts 40 ∷ counts 2 ∷ tried 1 (Ok tt) ∷ tried 2 (Err Overflow) ∷ counts 5 ∷ tried 3 (Ok tt)
+    ∷ tried 4 (Ok tt) ∷ counts 7 ∷ []) ≡ sample 1 (Lost 42) ∷ sample 3 (Lost 6) ∷ sample 4 Whole ∷ []
 losses_told = refl

@@ -114,13 +114,13 @@ fn call<N: Rings, R: Wait>(
     let (cabinet, _pass) = cabinet_of::<N>(gauged);
     let wrong = otherwise(rt, &cabinet, asks);
     let (mut held, _watch) = cabinet.into_parts();
-    let told = tell(&mut held)?;
+    let reported = tell(&mut held)?;
     let read = (
         number_from(&mut held),
         count_at(&mut held),
         take_to(&mut held, alloc, 2),
     );
-    Ok(((wrong, told, read), held.into_recorder().into_medium()))
+    Ok(((wrong, reported, read), held.into_recorder().into_medium()))
 }
 
 /// The same over a medium.

@@ -7,4 +7,5 @@ use Rattle.r10_text.specs.declared.fault.ScriptFault.TheVariants as script_fault
 abbrev pub IsLocated : ScriptFault → ScriptFault → Type 0
 IsLocated (script_faults.OutOfMemory error) new = new ≡ script_faults.OutOfMemory error
 IsLocated (script_faults.Wrong spot wrong) new =
-    (line : Option ℕ) × (new ≡ script_faults.Wrong (record { line = line; place = spot.place }) wrong) × IfSome spot.line (λ known. line ≡ Some known)
+    (line : Option ℕ) × (new ≡ script_faults.Wrong (record { line = line; place = spot.place }) wrong)
+    × IfSome spot.line (λ known. line ≡ Some known)

@@ -19,7 +19,8 @@ use Rattle.r10_text.specs.Words.{spaced, line_of}
 
 -- a file's number, its name, its size in bytes, its blocks, and whether it is closed
 abbrev pub file_line : ℕ → FileInfo → List ℕ
-file_line number f = line_of (codes "file" ∷ decimal number ∷ map shown_byte f.name ∷ decimal f.size ∷ decimal f.blocks ∷ flag_text f.closed ∷ [])
+file_line number f = line_of (codes "file" ∷ decimal number ∷ map shown_byte f.name ∷ decimal f.size ∷ decimal f.blocks
+    ∷ flag_text f.closed ∷ [])
 
 -- the lines of the files from this number on
 abbrev pub file_lines : ℕ → List FileInfo → List ℕ
@@ -41,7 +42,8 @@ tick_text (Some count) = decimal count
 
 -- the mode, the last tick, the number of files and the free bytes
 abbrev pub status_text : Status → List ℕ
-status_text status = spaced (codes "status" ∷ mode_text status.mode ∷ tick_text status.tick ∷ decimal status.files ∷ decimal status.free ∷ [])
+status_text status = spaced (codes "status" ∷ mode_text status.mode ∷ tick_text status.tick ∷ decimal status.files
+    ∷ decimal status.free ∷ [])
 
 -- a channel's ID, what waits, what was lost and what was erased
 abbrev pub channel_line : ChannelStatus → List ℕ

@@ -111,13 +111,15 @@ pub recording-lines : reply_lines 7 (replies.Status (record {
   tick = Some 1000;
   files = 1;
   free = 30964;
-  channels = record { channel = 5; waiting = 2; lost = 1; erased = 0 } ∷ record { channel = 6; waiting = 0; lost = 0; erased = 3 } ∷ [];
+  channels = record { channel = 5; waiting = 2; lost = 1; erased = 0 } ∷ record { channel = 6; waiting = 0; lost = 0; erased = 3 }
+      ∷ [];
 }))
     ≡ codes "7 status recording 1000 1 30964\nchannel 5 2 1 0\nchannel 6 0 0 3\n"
 unfolding digits
 recording-lines = refl
 
-pub unmounted-lines : reply_lines 1 (replies.Status (record { mode = modes.Unmounted; tick = None; files = 0; free = 0; channels = [] }))
+pub unmounted-lines : reply_lines 1
+    (replies.Status (record { mode = modes.Unmounted; tick = None; files = 0; free = 0; channels = [] }))
     ≡ codes "1 status unmounted - 0 0\n"
 unfolding digits
 unmounted-lines = refl
@@ -140,7 +142,8 @@ unfolding digits
 next-lines = refl
 
 -- after so many lost ones, and after some of which a file doesn't tell how many
-pub behind-lost-lines : reply_lines 9 (replies.Next (Some (empty_behind (Lost 70000) 2000))) ≡ codes "9 entry 5 2000 70000 uart 0 0 -\n"
+pub behind-lost-lines : reply_lines 9 (replies.Next (Some (empty_behind (Lost 70000) 2000)))
+    ≡ codes "9 entry 5 2000 70000 uart 0 0 -\n"
 unfolding digits
 behind-lost-lines = refl
 
@@ -148,7 +151,8 @@ pub behind-unknown-lines : reply_lines 9 (replies.Next (Some (empty_behind Unkno
 unfolding digits
 behind-unknown-lines = refl
 
-pub found-lines : reply_lines 11 (replies.Found (Some (record { number = 1; entry = empty_entry 2000 }))) ≡ codes "11 found 1 entry 5 2000 0 uart 0 0 -\n"
+pub found-lines : reply_lines 11 (replies.Found (Some (record { number = 1; entry = empty_entry 2000 })))
+    ≡ codes "11 found 1 entry 5 2000 0 uart 0 0 -\n"
 unfolding digits
 found-lines = refl
 
@@ -166,5 +170,6 @@ no_count-lines = refl
 
 -- ---- times
 
-pub early-text : civil_text (record { year = 7; month = 2; day = 9; hour = 2; minute = 4; second = 6; centi = 8 }) ≡ codes "0007-02-09 02:04:06.08"
+pub early-text : civil_text (record { year = 7; month = 2; day = 9; hour = 2; minute = 4; second = 6; centi = 8 })
+    ≡ codes "0007-02-09 02:04:06.08"
 early-text = refl

@@ -34,7 +34,15 @@ told_number digits = digits / 16 * 10 + digits % 16
 abbrev pub told_parts : List ℕ → Parts
 told_parts body =
     let number : ℕ → ℕ = λ place. told_number (slice_index body place) in
-    record { year = number 11 * 100 + number 10; month = number 9; day = number 8; hour = number 7; minute = number 6; second = number 5; centi = number 4 }
+    record {
+      year = number 11 * 100 + number 10;
+      month = number 9;
+      day = number 8;
+      hour = number 7;
+      minute = number 6;
+      second = number 5;
+      centi = number 4;
+    }
 
 -- whoever wrote it: a word, and four words of digits that are not judged
 abbrev pub IsForeignTime : List ℕ → Type 0

@@ -14,7 +14,7 @@ use std::alloc::{AllocError, Global};
 /// More calls of the medium than any judgement here makes.
 const MOST: u64 = 1000;
 
-/// What a stop may leave, and the lines before what a new recorder does on it.
+/// What a power loss may leave, and the lines before what a new recorder does on it.
 const LEFT: [(Choice, &str); 4] = [
     (Choice::Synced, "a new recorder, on what was synced\n"),
     (Choice::Read, "a new recorder, on what was read\n"),
@@ -152,7 +152,7 @@ pub fn judge_spoilt(
         }
         Err(refusal) => push_replies(alloc, course.events.len(), &[Reply::Refused(refusal)], text),
     }
-    let (mut failed, mut told) = (0u64, 0u64);
+    let (mut failed, mut reported) = (0u64, 0u64);
     for call in 1..MOST {
         let mut medium = Faulty::new(medium_of(alloc, image.as_slice())?, call);
         let said = judge(alloc, &mut medium);
@@ -161,11 +161,11 @@ pub fn judge_spoilt(
         }
         failed = failed.saturating_add(1);
         if matches!(said, Err(Refusal::Medium)) {
-            told = told.saturating_add(1);
+            reported = reported.saturating_add(1);
         }
     }
     push_number(alloc, failed, " calls fail, ", text);
-    push_number(alloc, told, " are told as Medium\n", text);
+    push_number(alloc, reported, " are told as Medium\n", text);
     Ok(())
 }
 

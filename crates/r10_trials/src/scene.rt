@@ -75,7 +75,7 @@ pub fn image_recorded(
     }
 }
 
-/// The bytes of an image that a stop may leave.
+/// The bytes of an image that a power loss may leave.
 pub fn image_left(alloc: Global, medium: &Crashing, choice: Choice) -> Result<Vec<u8>, AllocError> {
     let left = medium.image(alloc, choice)?;
     left.image(alloc)

@@ -1,4 +1,5 @@
--- The body of a UART packet: the channel specific data word, then for each message an intra-packet time stamp, an intra-packet data header and the bytes.
+-- The body of a UART packet: the channel specific data word, then for each message an intra-packet time stamp, an intra-packet
+-- data header and the bytes.
 use Rattle.std.specs.Prelude.{◌≡◌, ℕ, ◌+◌, ◌*◌, ◌%◌, ◌^◌, ◌<◌, Bool, not, ◌&&◌, nat_le, List, ◌++◌, length}
 use Rattle.std.specs.List.{flat_map, AllByRecursion, concat}
 use Rattle.r10_count.specs.Bytes.{le_bytes, flag_at, u32_at, bit_of}
@@ -15,21 +16,21 @@ abbrev pub uart_word : List ℕ
 uart_word = le_bytes 4 0x80000000
 
 -- the 32 bits of a header: parity error, a bit that must be 0, subchannel and length
-abbrev pub header_bits : UartHeader → ℕ
-header_bits h = flag_at 31 h.parity + 2 ^ 16 * h.sub + h.length
+abbrev pub uart_header_bits : UartHeader → ℕ
+uart_header_bits h = flag_at 31 h.parity + 2 ^ 16 * h.sub + h.length
 
 -- the ranges of its parts
-pub record FitsHeader (h : UartHeader) : Type 0 where
+pub record FitsUartHeader (h : UartHeader) : Type 0 where
   pub sub : h.sub < 2 ^ 14
   pub length : h.length < 2 ^ 16
 
 -- the header of an entry
-abbrev pub header_of : UartEntry → UartHeader
-header_of e = record { parity = e.message.parity; sub = e.message.sub; length = length e.message.bytes }
+abbrev pub header_of_uart : UartEntry → UartHeader
+header_of_uart e = record { parity = e.message.parity; sub = e.message.sub; length = length e.message.bytes }
 
 -- and its bits
 abbrev pub uart_header : UartEntry → ℕ
-uart_header e = header_bits (header_of e)
+uart_header e = uart_header_bits (header_of_uart e)
 
 -- a zero byte stands after an odd number of bytes
 abbrev pub uart_entry : UartEntry → List ℕ

@@ -1,7 +1,7 @@
 //! The intra-packet data header of a UART message.
 
 ghost use Rattle.std.specs.Prelude.{◌≡◌, IfSome, IfNone};
-ghost use Rattle.r10_uart.specs.Uart.{FitsHeader, header_bits};
+ghost use Rattle.r10_uart.specs.Uart.{FitsUartHeader, uart_header_bits};
 ghost use Rattle.r10_uart.specs.declared.header.UartHeader.{UartHeader as UartHeaderValue};
 
 /// The parts of an intra-packet data header of 32 bits: the parity error is bit 31, bit 30 must be 0, the subchannel has bits
@@ -21,8 +21,8 @@ impl UartHeader {
     /// The parts of a header, where the bit that must be 0 is 0.
     #[inline(always)]
     pub fn of(bits: u32) -> Option<UartHeader>
-        ensures found { IfSome result (λ h. FitsHeader h × (bits ≡ header_bits h)) }
-        ensures none { IfNone result ((h : UartHeaderValue) → FitsHeader h → bits ≡ header_bits h → ⊥) }
+        ensures found { IfSome result (λ h. FitsUartHeader h × (bits ≡ uart_header_bits h)) }
+        ensures none { IfNone result ((h : UartHeaderValue) → FitsUartHeader h → bits ≡ uart_header_bits h → ⊥) }
     {
         if bits / 0x4000_0000 % 2 == 1 {
             return None;

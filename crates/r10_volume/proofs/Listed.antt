@@ -9,7 +9,7 @@ use Rattle.r10_dirblock.specs.declared.entry.Entry.{Entry}
 use Rattle.r10_dirchain.specs.declared.chain.ChainBlock.{ChainBlock}
 use Rattle.r10_dirchain.specs.Chain.{listed_files}
 use Rattle.r10_dirchain.specs.Mount.{stands}
-use Rattle.r10_dirchain.proofs.Standing.{Stand, usable_of}
+use Rattle.r10_dirchain.proofs.RulesAsFacts.{Stand, usable_of}
 use Rattle.r10_dirchain.proofs.Unique.{one_directory}
 use Rattle.r10_volume.specs.Holding.{HoldsFiles, OpenState}
 use Rattle.r10_machine.specs.Checks.{is_sealed, is_taken}

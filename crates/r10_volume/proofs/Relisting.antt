@@ -14,14 +14,14 @@ use Rattle.r10_dirchain.specs.Mount.{blocks_in, mount_rules, stands}
 use Rattle.r10_dirchain.specs.OnMedium.{Turned}
 use Rattle.r10_dirchain.specs.Steps.{last_listing, updated}
 use Rattle.r10_dirchain.proofs.FileLists.{files-updated, last_listing_is, last_of}
-use Rattle.r10_dirchain.proofs.Standing.{Stand, usable_of}
+use Rattle.r10_dirchain.proofs.RulesAsFacts.{Stand, usable_of}
 use Rattle.r10_dirchain.proofs.Staying.{usable-updated}
 use Rattle.r10_dirchain.proofs.Unique.{one_directory}
 use Rattle.r10_dirchain.proofs.Usable.{placed}
 use Rattle.r10_blockout.specs.Blocks.{bytes_from}
 use Rattle.r10_volume.specs.Holding.{OthersAreFound}
 use Rattle.r10_volume.proofs.Ends.{all_front, all_with}
-use Rattle.r10_volume.proofs.Found.{found_stays}
+use Rattle.r10_volume.proofs.OtherFilesStay.{found_stays}
 use Rattle.r10_volume.proofs.Staying.{bytes_behind}
 use Rattle.r10_machine.specs.Config.{Config}
 use Rattle.r10_machine.specs.Machine.{File}

@@ -13,7 +13,7 @@ use Rattle.r10_dirchain.proofs.Unique.{not_both, one_directory, one_fault}
 use Rattle.r10_machine.specs.Config.{Config}
 use Rattle.r10_machine.specs.Machine.{File}
 use Rattle.r10_machine.specs.Says.{MediumSays}
-use Rattle.r10_volume.specs.Mounting.{IsMountError, IsNamed, IsUnusable, IsUsable, not_taken, not_used}
+use Rattle.r10_volume.specs.Mounting.{IsMountError, NamesBlock, IsUnusable, IsUsable, not_taken, not_used}
 
 abbrev broken_in : ℕ → Image → List ChainBlock → Option ℕ
 broken_in reserved image chain = first_broken (mount_rules reserved (length image) chain)
@@ -49,7 +49,7 @@ no_error reserved image (BadDirectory n) bad chain usable = none_unusable reserv
 no_error reserved image Medium bad chain usable = tt
 no_error reserved image OutOfMemory bad chain usable = tt
 
-pub named_error : (reserved : ℕ) (image : Image) (error : ChainError) → IsMountError reserved image error → (n : ℕ) → IsUnusable reserved image n → IsNamed n error
+pub named_error : (reserved : ℕ) (image : Image) (error : ChainError) → IsMountError reserved image error → (n : ℕ) → IsUnusable reserved image n → NamesBlock n error
 named_error reserved image (BadDirectory m) bad n unusable = one_unusable reserved image m n bad unusable
 named_error reserved image Medium bad n unusable = tt
 named_error reserved image OutOfMemory bad n unusable = tt

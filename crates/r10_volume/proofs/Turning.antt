@@ -5,7 +5,7 @@ use Rattle.std.proofs.lemmas.List.Elements.{All-nil, All-cons}
 use Rattle.r10_count.specs.Checks.{first_broken}
 use Rattle.r10_medium.specs.Disk.{Disk, Image, MayLeave, Unchanged, block_at}
 use Rattle.r10_medium.specs.Stop.{ComesBy, Leaves, Settled}
-use Rattle.r10_medium.proofs.Stops.{joined, settled_reads, stayed, weakened, whole_reads}
+use Rattle.r10_medium.proofs.PowerLoss.{joined, settled_reads, stayed, weakened, whole_reads}
 use Rattle.r10_dirblock.specs.declared.entry.Entry.{Entry as DirectoryEntry}
 use Rattle.r10_dirchain.specs.declared.chain.ChainBlock.{ChainBlock}
 use Rattle.r10_dirchain.specs.Chain.{IsDirectory, at, listed_files, link, Linked}
@@ -18,7 +18,7 @@ use Rattle.r10_dirchain.proofs.Turning.{on_ok, same_in, turns_of}
 use Rattle.r10_dirchain.proofs.Unique.{one_directory}
 use Rattle.r10_dirchain.proofs.Usable.{place_rules_hold, placed}
 use Rattle.r10_volume.specs.Holding.{HoldsFiles, OthersAreFound}
-use Rattle.r10_volume.proofs.Found.{found_stays}
+use Rattle.r10_volume.proofs.OtherFilesStay.{found_stays}
 use Rattle.r10_machine.specs.Config.{Config}
 use Rattle.r10_machine.specs.Machine.{File}
 use Rattle.r10_machine.specs.Bytes.{KeepBytes}

@@ -10,7 +10,7 @@ use Rattle.r10_dirchain.specs.declared.chain.ChainBlock.{ChainBlock}
 use Rattle.r10_dirchain.specs.Chain.{IsDirectory, listed_files}
 use Rattle.r10_dirchain.specs.Mount.{blocks_in, stands}
 use Rattle.r10_dirchain.specs.Steps.{updated}
-use Rattle.r10_dirchain.proofs.Standing.{Stand, usable_of}
+use Rattle.r10_dirchain.proofs.RulesAsFacts.{Stand, usable_of}
 use Rattle.r10_dirchain.proofs.Staying.{usable-updated}
 use Rattle.r10_volume.specs.Mounting.{IsUsable}
 use Rattle.r10_volume.proofs.Listed.{placed_at}

@@ -19,7 +19,8 @@ pub record OpenState : Type 0 where
   pub recording : Recording
   pub shown : ℕ
 
--- Whatever files the medium has: over the image the file carries this setup and these entries, and the first of its packets, as many as are shown, stand there.
+-- Whatever files the medium has: over the image the file carries this setup and these entries, and the first of its packets,
+-- as many as are shown, stand there.
 pub record IsCarried (image : Image) (o : OpenState) (text : List ℕ) (entries : List Entry) : Type 0 where
   pub carries : Records o.recording image text entries
   pub within : o.shown ≤ length carries.packets
@@ -43,7 +44,8 @@ abbrev pub OthersAreFound : Image → List File → Type 0
 OthersAreFound image files = AllByRecursion (λ (f : File). f.own ≡ false → IsFound image f) files
 
 -- the medium says these files, by this directory, and the last of them is the one that is written, where one is
-pub record HoldsFiles (s : Config) (image : Image) (chain : List ChainBlock) (written : Option OpenState) (files : List File) : Type 0 where
+pub record HoldsFiles (s : Config) (image : Image) (chain : List ChainBlock) (written : Option OpenState)
+    (files : List File) : Type 0 where
   pub says : MediumSays s image files
   pub directory : IsDirectory image chain
   pub found : OthersAreFound image files

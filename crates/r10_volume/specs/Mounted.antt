@@ -12,11 +12,14 @@ use Rattle.r10_medium.specs.Stop.{Leaves, Settled}
 use Rattle.r10_volume.specs.Holding.{HoldsFiles, OthersAreFound}
 use Rattle.r10_volume.specs.Settling.{IsSettled}
 
--- A recorder of its settings holds the files, and no directory is at fault. They stay stated, with their bytes; where a stop left them before, it leaves them at every moment since, and after an Ok it does.
+-- A recorder of its settings holds the files, and no directory is at fault. They stay stated, with their bytes; where a power loss
+-- left them before, it leaves them at every moment since, and after an Ok it does.
 pub record MountsFiles (reserved : ℕ) (old new : Disk) (result : Result Directory ChainError) : Type 0 where
-  pub holds : (s : Config) (files : List File) → MediumSays s old.blocks files → OthersAreFound old.blocks files → reserved ≡ s.directory
+  pub holds : (s : Config) (files : List File) → MediumSays s old.blocks files → OthersAreFound old.blocks files
+      → reserved ≡ s.directory
       → MatchResult result (λ (directory : Directory). HoldsFiles s new.blocks directory None files) IsNoFault
   pub says : (s : Config) (files : List File) → MediumSays s old.blocks files → MediumSays s new.blocks files
   pub bytes : (s : Config) (files : List File) → MediumSays s old.blocks files → KeepBytes old.blocks new.blocks files
-  pub moments : (s : Config) (files : List File) → Settled (λ image. MediumSays s image files) old → Leaves (λ image. MediumSays s image files) old new
+  pub moments : (s : Config) (files : List File) → Settled (λ image. MediumSays s image files) old
+      → Leaves (λ image. MediumSays s image files) old new
   pub settled : (s : Config) (files : List File) → MediumSays s old.blocks files → OnOk result (IsSettled s files new)

@@ -18,7 +18,8 @@ pub record IsUsable (reserved : ℕ) (image : Image) (chain : List ChainBlock) :
 -- this is the first block that the directory's chain can't take, or that a recorder can't use in it
 pub data IsUnusable (reserved : ℕ) (image : Image) (n : ℕ) : Type 0 where
   not_taken : IsBad image n → IsUnusable reserved image n
-  not_used : (chain : List ChainBlock) → IsDirectory image chain → first_broken (mount_rules reserved (length image) chain) ≡ Some n → IsUnusable reserved image n
+  not_used : (chain : List ChainBlock) → IsDirectory image chain → first_broken (mount_rules reserved (length image) chain) ≡ Some n
+      → IsUnusable reserved image n
 
 -- the medium's directory was usable, and this is it, not properly dismounted
 pub record IsMounted (reserved : ℕ) (image : Image) (made : List ChainBlock) : Type 0 where
@@ -33,14 +34,15 @@ IsMountError reserved image Medium = Unit {0}
 IsMountError reserved image OutOfMemory = Unit {0}
 
 -- where the directory is named, it is by this block
-abbrev pub IsNamed : ℕ → ChainError → Type 0
-IsNamed n (BadDirectory m) = m ≡ n
-IsNamed n Medium = Unit {0}
-IsNamed n OutOfMemory = Unit {0}
+abbrev pub NamesBlock : ℕ → ChainError → Type 0
+NamesBlock n (BadDirectory m) = m ≡ n
+NamesBlock n Medium = Unit {0}
+NamesBlock n OutOfMemory = Unit {0}
 
--- A medium can't be used, because of this block: an error that names a block names this one, and nothing is written, also where the medium fails.
+-- A medium can't be used, because of this block: an error that names a block names this one, and nothing is written, also
+-- where the medium fails.
 pub record IsSpared {T : Type 0} (n : ℕ) (old new : Disk) (result : Result T ChainError) : Type 0 where
-  pub named : MatchResult result (λ _. ⊥) (IsNamed n)
+  pub named : MatchResult result (λ _. ⊥) (NamesBlock n)
   pub same : Unchanged old new
 
 -- the medium is as it was, where it did not fail

@@ -1,4 +1,4 @@
--- What a stop leaves of a medium's files.
+-- What a power loss leaves of a medium's files.
 use Rattle.std.specs.Prelude.{List}
 use Rattle.r10_machine.specs.Config.{Config}
 use Rattle.r10_machine.specs.Machine.{File}
@@ -12,6 +12,6 @@ pub record SaysAs (s : Config) (files : List File) (read image : Image) : Type 0
   pub says : MediumSays s image files
   pub bytes : KeepBytes read image files
 
--- a stop now leaves these files as they are read
+-- a power loss now leaves these files as they are read
 abbrev pub IsSettled : Config → List File → Disk → Type 0
 IsSettled s files disk = Settled (SaysAs s files disk.blocks) disk

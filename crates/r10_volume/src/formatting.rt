@@ -21,12 +21,12 @@ use r10_medium::BlockMedium;
 /// # Errors
 ///
 /// `Refusal::Medium` where a call of the medium failed, and no other refusal: settings within the limits have a volume name that a
-/// directory takes, and no memory is asked for. The medium then is as a stop could have left it before, or formatted.
+/// directory takes, and no memory is asked for. The medium then is as a power loss could have left it before, or formatted.
 pub fn format<M: BlockMedium>(medium: &mut M, settings: &Settings) -> Result<(), Refusal>
     requires { length (M.disk medium.old).blocks ≡ settings.now.blocks }
     // A new recorder of these settings finds no files.
     ensures has { OnOk result (MediumHas settings.now (M.disk medium.new).blocks []) }
-    ensures sure { OnOk result (IsSynced (M.disk medium.new)) }
+    ensures durable { OnOk result (IsSynced (M.disk medium.new)) }
     ensures settled { OnOk result (Settled (IsFormatted settings.now (M.disk medium.old).blocks) (M.disk medium.new)) }
     // Block 1 is byte for byte the one that this recorder writes.
     ensures bytes { OnOk result (block_at (M.disk medium.new).blocks 1 ≡ block_bytes (at (formatted settings.now.volume) 0).block) }

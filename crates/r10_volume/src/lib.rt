@@ -1,5 +1,5 @@
 //! The directory of a medium for one recorder: formatted, mounted, dismounted and erased, what it tells of the files, and what
-//! a recorder holds by it; a stop at any moment leaves the files from before or those that the call makes.
+//! a recorder holds by it; a power loss at any moment leaves the files from before or those that the call makes.
 #![tactic(auto)]
 
 mod formatting;

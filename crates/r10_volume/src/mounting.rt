@@ -30,7 +30,7 @@ pub fn mount<M: BlockMedium>(
     // What can't be used is as it was, also where the medium fails.
     ensures unusable { (n : ℕ) → IsUnusable reserved (M.disk medium.old).blocks n
         → IsSpared n (M.disk medium.old) (M.disk medium.new) result }
-    // What is kept is the medium's directory, and a stop then leaves what is read.
+    // What is kept is the medium's directory, and a power loss then leaves what is read.
     ensures directory { IfOk result (λ directory. IsPublished directory (M.disk medium.new)) }
     ensures ready { IfOk result (IsUsable reserved (M.disk medium.new).blocks) }
     ensures left { IfErr result (IsLeftAsWas (M.disk medium.old) (M.disk medium.new)) }

@@ -10,7 +10,7 @@ use Rattle.r10_body.specs.declared.entry.Sample.{Sample}
 use Rattle.r10_body.specs.declared.refusal.Refusal.{Refusal}
 use Rattle.r10_body.proofs.ChannelLists.{none_on_any}
 use Rattle.r10_body.specs.declared.refusal.Refusal.TheVariants as refusals
-use Rattle.r10_medium.proofs.Stops.{unchanged}
+use Rattle.r10_medium.proofs.PowerLoss.{unchanged}
 use Rattle.r10_medium.specs.Disk.{Disk, Image, Unchanged}
 use Rattle.r10_machine.specs.Checks.{Check, mounted_checks}
 use Rattle.r10_machine.specs.Machine.{Lane}
@@ -22,7 +22,7 @@ use Rattle.r10_cursor.specs.declared.cursor.Cursor.{Cursor}
 use Rattle.r10_lane.specs.Lanes.{TookWaiting}
 use Rattle.r10_control.specs.Taking.{Part, TellsWaiting, TookAll, entries_of, samples_on, GoesInto, RefusesReadied, StepsByTaking}
 use Rattle.r10_refinement.specs.Grown.{AreGrown}
-use Rattle.r10_refinement.specs.Kept.{Kept, Work, mode_of, unmounted, idle, recording, failed}
+use Rattle.r10_refinement.specs.KeptState.{Kept, Work, mode_of, unmounted, idle, recording, failed}
 use Rattle.r10_control.specs.Refused.{IsSameKept, IsSameWork, RefusesCall, RefusesOpen}
 use Rattle.r10_control.specs.Own.{AreOwn, OwnGrow, OwnStay}
 use Rattle.r10_control.specs.Reading.{OnlyReads}
@@ -178,7 +178,7 @@ pub takes_parts : {T : Type 0} (order : List ℕ) (most : ℕ → ℕ) (says : T
     → TakesParts order most (says v) k old lanes later new lanes'
 takes_parts {T} order most says bare k old event reply result later new lanes lanes' takes v is =
     let whole : takes.passed ≡ [] = subst (λ (r : Result T Refusal). OnOk r (takes.passed ≡ [])) is takes.whole in
-    let known : takes.known ≡ takes.parts = ⊎_elim (λ same. same) (λ none. absurd (apart result v refusals.Medium is none.1)) takes.told in
+    let known : takes.known ≡ takes.parts = ⊎_elim (λ same. same) (λ none. absurd (apart result v refusals.Medium is none.1)) takes.reported in
     record {
       parts = takes.parts;
       order_is = sym (append-nil (map (λ (p : Part). p.channel) takes.parts)) ∙ subst (λ (xs : List ℕ). map (λ (p : Part). p.channel) takes.parts ++ xs ≡ order) whole takes.order_is;

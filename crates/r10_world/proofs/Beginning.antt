@@ -9,10 +9,10 @@ use Rattle.r10_machine.specs.Machine.{File, Lane, fresh, fresh_lane}
 use Rattle.r10_medium.specs.Disk.{Disk, Image}
 use Rattle.r10_cursor.specs.declared.cursor.Cursor.{Cursor}
 use Rattle.r10_control.specs.State.{RecorderState}
-use Rattle.r10_world.specs.Telling.{RecorderStandsFor}
-use Rattle.r10_refinement.specs.Kept.{Kept}
+use Rattle.r10_world.specs.WorldSteps.{RecorderStandsFor}
+use Rattle.r10_refinement.specs.KeptState.{Kept}
 use Rattle.r10_control.specs.Lanes.{unerased}
-use Rattle.r10_world.specs.Standing.{PartsStandFor}
+use Rattle.r10_world.specs.RepresentedParts.{PartsStandFor}
 use Rattle.r10_machine.specs.Says.{MediumHas, MediumSays}
 use Rattle.r10_medium.specs.Stop.{Settled}
 use Rattle.r10_refinement.specs.Safe.{IsSafe}
@@ -38,7 +38,7 @@ pub new_world : {M : Type 0} (disk : M → Disk) → BeginsLaw → (s : Config) 
 new_world disk law s r slots medium files limits kept left same none has =
     rw (same, none) (new_stands law s r.kept (disk medium).blocks (disk medium).failures r.lanes files limits kept left has)
 
--- a new recorder's files are safe where a stop leaves them
+-- a new recorder's files are safe where a power loss leaves them
 pub new_safe : {M : Type 0} (disk : M → Disk) (s : Config) (r : RecorderState M Lane) (medium : M) (files : List File) → r.kept ≡ new_kept s → r.medium ≡ medium → Settled (λ image. MediumSays s image files) (disk medium)
     → IsSafe r.kept.config r.kept.work files (disk r.medium)
 new_safe disk s r medium files kept same settled = rw (kept, same) settled

@@ -5,13 +5,13 @@ use Rattle.std.proofs.lemmas.List.{take_more, take-append-le}
 use Rattle.r10_machine.specs.Config.{Config}
 use Rattle.r10_machine.specs.Limits.{IsConfig}
 use Rattle.r10_machine.specs.Machine.{Lane, Machine}
-use Rattle.r10_refinement.specs.Kept.{Kept}
+use Rattle.r10_refinement.specs.KeptState.{Kept}
 use Rattle.r10_medium.specs.Disk.{Disk, Image}
 use Rattle.r10_cursor.specs.declared.cursor.Cursor.{Cursor}
 use Rattle.r10_world.specs.Answering.{AnswersEach, IsAnswered}
-use Rattle.r10_world.specs.Standing.{PartsStepTo, PartsRunTo, PartsStandFor}
+use Rattle.r10_world.specs.RepresentedParts.{PartsStepTo, PartsRunTo, PartsStandFor}
 use Rattle.r10_world.specs.State.{WorldState}
-use Rattle.r10_world.specs.Telling.{WorldRuns, RecorderStepsTo}
+use Rattle.r10_world.specs.WorldSteps.{WorldRuns, RecorderStepsTo}
 use Rattle.r10_machine.specs.Says.{MediumSays}
 use Rattle.r10_machine.specs.Step.{Run, Step}
 use Rattle.r10_machine.specs.declared.event.Event.{Event as EventValue}

@@ -19,9 +19,9 @@ use Rattle.r10_cursor.specs.declared.cursor.Cursor.{Cursor}
 use Rattle.r10_cursor.specs.Read.{HaveRead, KeepsBytes}
 use Rattle.r10_cursor.specs.Staying.{NoneShrinks}
 use Rattle.r10_cursor.proofs.Sizes.{none_shrinks}
-use Rattle.r10_cursor.specs.Standing.{SlotsStandFor}
+use Rattle.r10_cursor.specs.RepresentedCursors.{SlotsStandFor}
 use Rattle.r10_cursor.specs.Steps.{StepsTo}
-use Rattle.r10_refinement.specs.Kept.{Kept, Work, unmounted, idle, recording, failed}
+use Rattle.r10_refinement.specs.KeptState.{Kept, Work, unmounted, idle, recording, failed}
 use Rattle.r10_refinement.specs.Means.{HasFiles, KeptStepsTo}
 use Rattle.r10_world.specs.Joined.{KeptAndSlotsStandFor, SlotsStepTo, KeptAndSlotsStepTo}
 

@@ -13,9 +13,9 @@ use Rattle.r10_machine.specs.declared.event.Event.{Event as EventValue}
 use Rattle.r10_machine.specs.declared.event.Event.TheVariants as events
 use Rattle.r10_machine.specs.declared.reply.Reply.{Reply as ReplyValue}
 use Rattle.r10_machine.specs.declared.reply.Reply.TheVariants as replies
-use Rattle.r10_cursor.specs.Standing.{PutsSlot, SlotStandsFor, SlotsStandFor, fresh_slot, read_checks, slot_at, with_queue}
+use Rattle.r10_cursor.specs.RepresentedCursors.{PutsSlot, SlotStandsFor, SlotsStandFor, fresh_slot, read_checks, slot_at, with_queue}
 use Rattle.r10_cursor.specs.declared.cursor.Cursor.{Cursor}
-use Rattle.r10_refinement.specs.Kept.{Kept, mode_of}
+use Rattle.r10_refinement.specs.KeptState.{Kept, mode_of}
 use Rattle.r10_control.specs.Reading.{IsReadFileRefusal}
 use Rattle.r10_control.specs.Refused.{RefusesCall}
 use Rattle.r10_control.specs.State.{RecorderState}

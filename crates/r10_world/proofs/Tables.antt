@@ -5,7 +5,7 @@ use Rattle.r10_count.specs.Checks.{first_broken}
 use Rattle.r10_body.specs.declared.refusal.Refusal.{Refusal}
 use Rattle.r10_body.specs.declared.refusal.Refusal.TheVariants.{OutOfMemory}
 use Rattle.r10_cursor.specs.Read.{HasRead, IsReadTo, TakesNext}
-use Rattle.r10_cursor.specs.Standing.{SlotStandsFor, SlotsStandFor, slot_at}
+use Rattle.r10_cursor.specs.RepresentedCursors.{SlotStandsFor, SlotsStandFor, slot_at}
 use Rattle.r10_cursor.specs.Steps.{StepsTo}
 use Rattle.r10_world.specs.Joined.{KeptAndSlotsStandFor, SlotsStepTo}
 use Rattle.r10_machine.specs.Calls.{Advances, Opens}
@@ -15,7 +15,7 @@ use Rattle.r10_machine.specs.Config.{Config}
 use Rattle.r10_machine.specs.declared.mode.Mode.{Mode}
 use Rattle.r10_machine.specs.Limits.{IsConfig}
 use Rattle.r10_machine.specs.Machine.{Cursor as MachineCursor, File, Lane, Machine, cursor_at, cursor_of}
-use Rattle.r10_refinement.specs.Kept.{Kept, mode_of}
+use Rattle.r10_refinement.specs.KeptState.{Kept, mode_of}
 use Rattle.r10_refinement.specs.Means.{KeptStepsTo, KeptStandsFor}
 use Rattle.r10_medium.specs.Disk.{Disk, Image}
 use Rattle.r10_cursor.specs.declared.cursor.Cursor.{Cursor}
@@ -23,9 +23,9 @@ use Rattle.r10_control.specs.Checks.{files_of, recorder_refusal}
 use Rattle.r10_control.specs.Lanes.{unerased}
 use Rattle.r10_control.specs.Reading.{MayOpen}
 use Rattle.r10_control.specs.State.{RecorderState}
-use Rattle.r10_world.specs.Standing.{PartsStepTo, PartsStandFor}
-use Rattle.r10_world.specs.Telling.{RecorderStandsFor}
-use Rattle.r10_world.proofs.Telling.{Stays}
+use Rattle.r10_world.specs.RepresentedParts.{PartsStepTo, PartsStandFor}
+use Rattle.r10_world.specs.WorldSteps.{RecorderStandsFor}
+use Rattle.r10_world.proofs.CallsAsSteps.{Stays}
 use Rattle.r10_machine.specs.EventChecks.{refusal}
 use Rattle.r10_machine.specs.Says.{MediumSays}
 use Rattle.r10_machine.specs.Step.{after_refusal, asks_memory, entry_has_room}
@@ -121,9 +121,9 @@ reads image m slots id c stand read is same = by (cursor_at m.cursors id) refl (
     (subst (λ (o : Option Cursor). HasRead image m.files m.generation o (cursor_at m.cursors id)) is (read id))
   where
     by : (o : Option MachineCursor) → cursor_at m.cursors id ≡ o → SlotStandsFor (Some c) o → HasRead image m.files m.generation (Some c) o → Reads image m id c
-    by None at fits told = absurd fits
-    by (Some reader) at fits told =
-        let one = found m.files c.file (λ f. IsReadTo image f c.reading.covered reader.covered) (told same) in
+    by None at fits reported = absurd fits
+    by (Some reader) at fits reported =
+        let one = found m.files c.file (λ f. IsReadTo image f c.reading.covered reader.covered) (reported same) in
         record { reader = reader; reader_is = at; file = one.file; file_is = one.is; same = sym fits.file; there = within m.files c.file one.file one.is; read = one.holds }
 
 -- a slot that gets what it has
@@ -148,12 +148,12 @@ pub opens_on : {M : Type 0} (disk : M → Disk) (old new : RecorderState M Lane)
     → (disk new.medium).blocks ≡ (disk old.medium).blocks → new.lanes ≡ old.lanes → (disk old.medium).failures ≤ (disk new.medium).failures → generation ≡ new.kept.generation → from' ≡ from → to' ≡ to
     → OpensSlot generation file channels from' to' id slots later → (m : Machine) → RecorderStandsFor disk old slots m → MayOpen old.kept (disk old.medium).blocks m file channels from to
     → PartsStepTo old.kept m (events.Cursor file channels from to) (replies.Cursor id) new.kept (disk new.medium).blocks (disk new.medium).failures new.lanes later
-opens_on disk old new law file channels from to from' to' id generation slots later kept reads left more told first last opens m stands may =
+opens_on disk old new law file channels from to from' to' id generation slots later kept reads left more reported first last opens m stands may =
     let k = old.kept in
     let before = disk old.medium in
     let now = disk new.medium in
     let again : Machine = record m { failures = now.failures } in
-    let same : m.generation ≡ generation = may.generation ∙ ap (λ (x : Kept). x.generation) (sym kept) ∙ sym told in
+    let same : m.generation ≡ generation = may.generation ∙ ap (λ (x : Kept). x.generation) (sym kept) ∙ sym reported in
     let leads : StepsTo (Opens again file channels from to id) again before.blocks slots later = rw (sym first, sym last) (opens k.config before.blocks again stands.joined.stand same may.there may.says) in
     same_goes k m (events.Cursor file channels from to) (replies.Cursor id) k new.kept before.blocks now.blocks now.failures old.lanes new.lanes later kept reads left
     (set_on k before.blocks before.failures now.failures m (events.Cursor file channels from to) (replies.Cursor id) old.lanes slots later stands

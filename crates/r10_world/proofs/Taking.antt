@@ -10,8 +10,8 @@ use Rattle.r10_control.specs.Taking.{HasWaiting, StepsByTaking, taken_of, Part, 
 use Rattle.r10_control.specs.Lanes.{unerased}
 use Rattle.r10_control.specs.Leading.{AreLeft, MachinesKeepShown, KeptStepsTaking}
 use Rattle.r10_control.specs.State.{RecorderState}
-use Rattle.r10_world.specs.Telling.{RecorderStepsAlone}
-use Rattle.r10_world.proofs.Telling.{Moves, leads_on, told}
+use Rattle.r10_world.specs.WorldSteps.{RecorderStepsAlone}
+use Rattle.r10_world.proofs.CallsAsSteps.{Moves, leads_on, reported}
 use Rattle.r10_machine.specs.declared.event.Event.{Event as EventValue}
 use Rattle.r10_machine.specs.declared.reply.Reply.{Reply as ReplyValue}
 use Rattle.r10_machine.specs.declared.reply.Reply.TheVariants as replies
@@ -69,6 +69,6 @@ telling_taken disk old new law order most says bare event reply result said take
     let now = disk new.medium in
     let means = stands.joined.means in
     let leads : KeptStepsTaking (taken_of takes.parts) old.kept m event said new.kept now.blocks now.failures =
-    told (λ (r : ReplyValue). KeptStepsTaking (taken_of takes.parts) old.kept m event r new.kept now.blocks now.failures) reply result said (takes.steps m means (waiting takes.known old.lanes m.lanes stands.lanes_are takes.waits)) is in
+    reported (λ (r : ReplyValue). KeptStepsTaking (taken_of takes.parts) old.kept m event r new.kept now.blocks now.failures) reply result said (takes.steps m means (waiting takes.known old.lanes m.lanes stands.lanes_are takes.waits)) is in
     leads_on law (taken_of takes.parts) old.kept new.kept before.blocks now.blocks before.failures now.failures m event said slots old.lanes new.lanes stands leads (keeps m means) config
     (λ machine left. all_gave takes.parts old.lanes new.lanes m.lanes machine.lanes stands.lanes_are takes.taken left)

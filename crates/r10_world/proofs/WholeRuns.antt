@@ -3,7 +3,7 @@ use Rattle.std.proofs.Common.{◌≡◌, ◌⊎◌, ◌≤◌, ℕ, true, false,
 use Rattle.std.specs.List.{AllByRecursion, list_any}
 use Rattle.r10_account.specs.Accepted.{accepted_entries}
 use Rattle.r10_account.specs.Account.{IsAccount}
-use Rattle.r10_account.specs.Found.{AreStillFirst, may_erase}
+use Rattle.r10_account.specs.FilesOfOthers.{AreStillFirst, may_erase}
 use Rattle.r10_body.specs.Channels.{spec_of}
 use Rattle.r10_machine.specs.Checks.{is_working}
 use Rattle.r10_machine.specs.Config.{Config}
@@ -17,17 +17,17 @@ use Rattle.r10_machine.specs.declared.event.Event.{Event as EventValue}
 use Rattle.r10_machine.specs.declared.mode.Mode.{Mode}
 use Rattle.r10_machine.specs.declared.mode.Mode.TheVariants as modes
 use Rattle.r10_machine.specs.declared.reply.Reply.{Reply as ReplyValue}
-use Rattle.r10_medium.proofs.Stops.{joined, weakened}
+use Rattle.r10_medium.proofs.PowerLoss.{joined, weakened}
 use Rattle.r10_medium.specs.Disk.{Disk, Image, MayLeave}
 use Rattle.r10_medium.specs.Stop.{Leaves, Settled}
 use Rattle.r10_refinement.proofs.Keeping.{safe_says}
 use Rattle.r10_refinement.specs.Again.{AreAgain}
-use Rattle.r10_refinement.specs.Kept.{Work, mode_of, unmounted, idle, recording, failed}
-use Rattle.r10_refinement.specs.Left.{IsLeft}
+use Rattle.r10_refinement.specs.KeptState.{Work, mode_of, unmounted, idle, recording, failed}
+use Rattle.r10_refinement.specs.PowerLossInCalls.{IsLeft}
 use Rattle.r10_refinement.specs.Safe.{IsSafeOrFailed}
 use Rattle.r10_world.specs.State.{WorldState}
 use Rattle.r10_volume.specs.Formatted.{IsFormatted}
-use Rattle.r10_world.specs.Stopping.{IsLeftNew, IsSafeIn, RecordsNew, RecordsRun, Recovers, RunsSafely}
+use Rattle.r10_world.specs.PowerLoss.{IsLeftNew, IsSafeIn, RecordsNew, RecordsRun, Recovers, RunsSafely}
 
 -- the laws of files that are found, and of what was accepted
 abbrev pub FilesAreFound : Type 0
@@ -41,7 +41,7 @@ abbrev pub FoundFilesStay : Type 0
 FoundFilesStay = (s : Config) (files : List File) (failures : ℕ) (events : List EventValue) (replies : List ReplyValue) (images : List Image) (new : Machine) → IsConfig s → AllByRecursion IsFoundFile files → length files ≤ most_files s
     → Run s (fresh s.channels files failures) events replies images new → list_any may_erase (zip events replies) ≡ false → AreStillFirst files new.files
 
--- ---- what a stop leaves then
+-- ---- what a power loss leaves then
 
 safe_in : (s : Config) (work : Work) (mode : Mode) (files : List File) (disk : Disk) → mode ≡ mode_of work → IsSafeOrFailed s work files disk → IsSafeIn s mode files disk
 safe_in s unmounted mode files disk is (inr safe) = subst (λ (m : Mode). IsSafeIn s m files disk) (sym is) safe
@@ -88,7 +88,7 @@ records_so are_found account stay disk s medium old new files events replies rec
       left = λ settled. subst (λ (k : Config). Leaves (IsLeft k m events replies) (disk medium) ended) config
           (subst (λ (x : _). Leaves (IsLeft old.recorder.kept.config m events replies) (disk x) ended) same (all.left (recovers.safe settled)));
       settled = λ settled works. settled_in s later.work ran.machine.mode ran.machine.files ended means.mode works (held settled);
-      sure = λ settled. safe_in s later.work ran.machine.mode ran.machine.files ended means.mode (held settled);
+      durable = λ settled. safe_in s later.work ran.machine.mode ran.machine.files ended means.mode (held settled);
     }
 
 -- ---- on a medium that was formatted for it
@@ -118,5 +118,5 @@ records_new s events replies old mid new no_fewer formats formatted ran =
       left = joined so old mid new (weakened (λ image. MayLeave old image ⊎ IsFormatted s old.blocks image) so old mid (λ image is. inl is) formats)
           (weakened (IsLeft s m events replies) so mid new (λ image is. inr is) (subst (λ (x : Machine). Leaves (IsLeft s x events replies) mid new) first (ran.left none)));
       settled = ran.settled none;
-      sure = ran.sure none;
+      durable = ran.durable none;
     }

@@ -1,8 +1,8 @@
-pub mod Standing
+pub mod RepresentedParts
 pub mod State
-pub mod Telling
+pub mod WorldSteps
 pub mod Copies
 pub mod Joined
-pub mod Stopping
+pub mod PowerLoss
 pub mod Answering
 pub mod Waiting

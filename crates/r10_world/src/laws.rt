@@ -20,7 +20,7 @@ ghost use Rattle.r10_cursor.specs.declared.cursor.Cursor.{Cursor};
 ghost use Rattle.r10_cursor.specs.Staying.{NoneShrinks};
 ghost use Rattle.r10_cursor.specs.Read.{KeepsBytes};
 ghost use Rattle.r10_cursor.specs.Steps.{StepsTo};
-ghost use Rattle.r10_refinement.specs.Kept.{Kept};
+ghost use Rattle.r10_refinement.specs.KeptState.{Kept};
 ghost use Rattle.r10_refinement.specs.Means.{KeptStepsTo};
 ghost use Rattle.r10_world.specs.Answering.{AnswersSo, ChangesNothing};
 ghost use Rattle.r10_world.specs.Joined.{KeptAndSlotsStandFor, SlotsStepTo, KeptAndSlotsStepTo, new_kept};

@@ -2,13 +2,13 @@
 
 ghost use Rattle.std.specs.Prelude.{◌≡◌, ℕ, List};
 ghost use Rattle.r10_machine.specs.Machine.{Lane, Machine};
-ghost use Rattle.r10_refinement.specs.Kept.{Kept};
+ghost use Rattle.r10_refinement.specs.KeptState.{Kept};
 ghost use Rattle.r10_medium.specs.Disk.{Image};
 ghost use Rattle.r10_control.specs.Fronts.{Spares};
 ghost use Rattle.r10_world.specs.Answering.{AnswersClose, AnswersNext, AnswersSo};
-ghost use Rattle.r10_world.specs.Standing.{PartsStepTo, PartsStandFor};
-ghost use Rattle.r10_world.specs.Stopping.{Survives};
-ghost use Rattle.r10_world.specs.Telling.{RecorderStepsTo};
+ghost use Rattle.r10_world.specs.RepresentedParts.{PartsStepTo, PartsStandFor};
+ghost use Rattle.r10_world.specs.PowerLoss.{Survives};
+ghost use Rattle.r10_world.specs.WorldSteps.{RecorderStepsTo};
 ghost use Rattle.r10_machine.specs.declared.event.Event.TheVariants as events;
 ghost use Rattle.r10_machine.specs.declared.reply.Reply.TheVariants as replies;
 

@@ -3,8 +3,8 @@
 ghost use Rattle.std.specs.Prelude.{◌≡◌, ◌<◌, ◌≤◌, ◌+◌, [], ◌∷◌, Ok, Err, IfOk, OnErr, length, take, drop, vec_len};
 ghost use Rattle.r10_world.specs.Answering.{AnswersEach};
 ghost use Rattle.r10_world.specs.Copies.{IsCopy};
-ghost use Rattle.r10_world.specs.Stopping.{RunsSafely};
-ghost use Rattle.r10_world.specs.Telling.{WorldRuns};
+ghost use Rattle.r10_world.specs.PowerLoss.{RunsSafely};
+ghost use Rattle.r10_world.specs.WorldSteps.{WorldRuns};
 
 use crate::world::World;
 use r10_body::Message;

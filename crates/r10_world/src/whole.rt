@@ -5,7 +5,7 @@ ghost use Rattle.r10_machine.specs.Machine.{File};
 ghost use Rattle.r10_machine.specs.Says.{MediumSays};
 ghost use Rattle.r10_world.specs.Answering.{AnswersEach};
 ghost use Rattle.r10_world.specs.Joined.{begun_world};
-ghost use Rattle.r10_world.specs.Stopping.{RecordsNew, RecordsNone, RecordsRun, Recovers, RunsSafely};
+ghost use Rattle.r10_world.specs.PowerLoss.{RecordsNew, RecordsNone, RecordsRun, Recovers, RunsSafely};
 
 use crate::running::run;
 use crate::world::World;
@@ -55,11 +55,12 @@ pub fn run_over_any_medium<M: BlockMedium + Drop>(
 /// The theorem of a whole recording. It does events on a new world over a medium that has files, and gives how many it did and
 /// the medium that they leave. Their replies are added to those that are there, and are a run of the model from these files. The
 /// medium has the files that the run ends with, and has failed as often as the run says. Of each channel the accepted messages
-/// are in the files that the run began, wait, or were erased: each once, in order. If the medium failed, these files show the
-/// first of them, after what was erased, and the last wait. A loss of power leaves the files of a state of the run, or those that
-/// the next event makes of them. This asks that one before the run would have left the old files. It does some events if there
-/// are any. If memory is refused before the first event, the medium comes back as it was. What is answered over a medium with a
-/// file at fault is stated by `run_over_any_medium`.
+/// are in the files that the run began, wait, or were erased: each once, in order. What waits, and entries that no file shows yet,
+/// are not on the medium. If the recorder is Failed at the end, these files show the first of the messages, after what was erased,
+/// and the last wait. A loss of power leaves the files of a state of the run, or those that the next event makes of them. This
+/// asks that one before the run would have left the old files. It does some events if there are any. If memory is refused before
+/// the first event, the medium comes back as it was. What is answered over a medium with a file at fault is stated by
+/// `run_over_any_medium`.
 pub fn record_all<M: BlockMedium + Drop>(
     alloc: Global,
     settings: Settings,

@@ -12,8 +12,8 @@ ghost use Rattle.r10_refinement.specs.Safe.{IsSafe};
 ghost use Rattle.r10_control.specs.Fronts.{Spares};
 ghost use Rattle.r10_control.specs.Lanes.{TakesWaiting};
 ghost use Rattle.r10_world.specs.Answering.{AnswersSo};
-ghost use Rattle.r10_world.specs.Stopping.{Recovers, Survives};
-ghost use Rattle.r10_world.specs.Telling.{WorldStandsFor, RecorderStepsTo};
+ghost use Rattle.r10_world.specs.PowerLoss.{Recovers, Survives};
+ghost use Rattle.r10_world.specs.WorldSteps.{WorldStandsFor, RecorderStepsTo};
 ghost use Rattle.r10_machine.specs.Says.{MediumHas, MediumSays};
 ghost use Rattle.r10_world.specs.State.{number_on, with_lanes, with_medium};
 ghost use Rattle.r10_world.specs.Waiting.{StandsOn};
@@ -113,7 +113,7 @@ impl<M: BlockMedium> World<M> {
         requires { length (M.disk medium).blocks ≡ settings.blocks }
         ensures stands { (files : List File) → MediumHas settings (M.disk medium).blocks files
             → IfOk result (λ w. WorldStandsFor M.disk w (fresh settings.channels files (M.disk medium).failures)) }
-        // So it does over what a stop left of a medium that stated files: it finds these again.
+        // So it does over what a power loss left of a medium that stated files: it finds these again.
         ensures recovers { (files : List File) → MediumSays settings (M.disk medium).blocks files
             → IfOk result (Recovers M.disk settings (M.disk medium) files) }
         ensures safe { (files : List File) → Settled (λ image. MediumSays settings image files) (M.disk medium)

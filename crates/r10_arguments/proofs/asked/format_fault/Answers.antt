@@ -1,8 +1,8 @@
 use Rattle.std.proofs.Common.{rules, map, string_bytes}
-use Rattle.r10_arguments.specs.Found.{found_words}
+use Rattle.r10_arguments.specs.FoundOptions.{found_words}
 use Rattle.r10_arguments.specs.Options.{HasOnlyOptions}
 use Rattle.r10_arguments.specs.Words.{OptionsOfFormat, format_options}
-use Rattle.r10_arguments.proofs.Told.{format_differs}
+use Rattle.r10_arguments.proofs.OptionsByWords.{format_differs}
 use Rattle.r10_arguments.proofs.asked.format_fault.Goals as goal
 
 pub returns-clause-numbers : goal.returns-clause-numbers

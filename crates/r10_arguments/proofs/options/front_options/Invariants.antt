@@ -1,6 +1,6 @@
 use Rattle.std.proofs.Common.{length, map, string_bytes}
 use Rattle.r10_arguments.specs.Options.{BeginsWithOptions}
-use Rattle.r10_arguments.specs.Found.{found_words}
+use Rattle.r10_arguments.specs.FoundOptions.{found_words}
 use Rattle.r10_arguments.proofs.options.front_options.Given as goal
 
 -- the options so far stand at the front, and what is left after them

@@ -1,6 +1,6 @@
 use Rattle.std.proofs.Common.{refl}
 use Rattle.r10_arguments.specs.Words.{format_options, play_options}
-use Rattle.r10_arguments.proofs.Told.{told_once}
+use Rattle.r10_arguments.proofs.OptionsByWords.{told_once}
 use Rattle.r10_arguments.proofs.options.options_are_told.Goals as goal
 
 pub returns-clause-format : goal.returns-clause-format

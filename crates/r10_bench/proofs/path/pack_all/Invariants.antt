@@ -1,6 +1,6 @@
 use Rattle.std.proofs.Common.{◌≡◌, List, length}
 use Rattle.r10_body.specs.declared.entry.Sample.{Sample as SampleValue}
-use Rattle.r10_bench.specs.Behind.{IsBehind}
+use Rattle.r10_bench.specs.BuilderAfterLane.{IsBehind}
 use Rattle.r10_bench.proofs.path.pack_all.Given as goal
 
 abbrev pub invariant-loop : goal.invariant-loop

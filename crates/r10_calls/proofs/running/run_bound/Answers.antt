@@ -1,7 +1,7 @@
 use Rattle.std.proofs.Common.{◌≡◌, sym, subst, ◌∙◌}
 use Rattle.r10_world.specs.State.{WorldState}
-use Rattle.r10_calls.proofs.Telling.{put_back}
-use Rattle.r10_calls.specs.Told.{StepsToReply}
+use Rattle.r10_calls.proofs.OneEvent.{put_back}
+use Rattle.r10_calls.specs.EventCalls.{StepsToReply}
 use Rattle.r10_calls.proofs.running.run_bound.Goals as goal
 
 pub returns-clause-steps : goal.returns-clause-steps

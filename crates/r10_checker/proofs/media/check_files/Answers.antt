@@ -1,5 +1,5 @@
 use Rattle.std.proofs.Common.{rules, ◌≡◌, ◌∷◌, [], ◌++◌, arith}
-use Rattle.r10_medium.proofs.Stops.{unchanged_twice}
+use Rattle.r10_medium.proofs.PowerLoss.{unchanged_twice}
 use Rattle.r10_checker.proofs.Saying.{one_more}
 use Rattle.r10_checker.proofs.media.check_files.Goals as goal
 

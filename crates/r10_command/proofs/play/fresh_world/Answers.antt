@@ -1,6 +1,6 @@
 use Rattle.std.proofs.Common.{[], sym, subst}
 use Rattle.r10_machine.specs.Machine.{fresh}
-use Rattle.r10_world.specs.Telling.{WorldStandsFor}
+use Rattle.r10_world.specs.WorldSteps.{WorldStandsFor}
 use Rattle.r10_command.proofs.play.fresh_world.Goals as goal
 
 -- the medium that was formatted has no files

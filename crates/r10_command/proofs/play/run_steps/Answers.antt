@@ -1,6 +1,6 @@
 use Rattle.std.proofs.Common.{rules, arith, ◌≡◌, ◌+◌, ◌≤◌, ◌-◌, [], length, length-drop, take, drop, vec_len, refl}
 use Rattle.std.proofs.lemmas.List.{take_all}
-use Rattle.r10_world.specs.Telling.{WorldRuns}
+use Rattle.r10_world.specs.WorldSteps.{WorldRuns}
 use Rattle.r10_command.specs.Lines.{WritesLines}
 use Rattle.r10_command.proofs.Rounds.{no_lines}
 use Rattle.r10_command.proofs.Running.{round_more}

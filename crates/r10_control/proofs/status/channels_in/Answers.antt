@@ -1,6 +1,6 @@
 use Rattle.std.proofs.Common.{List, [], ◌∷◌, ◌++◌, take, ap, ◌∙◌, arith}
 use Rattle.r10_machine.specs.declared.reply.ChannelStatus.{ChannelStatus}
-use Rattle.r10_control.specs.Told.{channels_in}
+use Rattle.r10_control.specs.RecorderStatus.{channels_in}
 use Rattle.r10_control.proofs.Statuses.{one_channel}
 use Rattle.r10_control.proofs.status.channels_in.Goals as goal
 

@@ -1,5 +1,5 @@
 use Rattle.std.proofs.Common.{◌≡◌, take}
-use Rattle.r10_control.specs.Told.{channels_in}
+use Rattle.r10_control.specs.RecorderStatus.{channels_in}
 use Rattle.r10_control.proofs.status.channels_in.Given as goal
 
 abbrev pub invariant-loop-place : goal.invariant-loop-place

@@ -2,11 +2,11 @@ use Rattle.std.proofs.Common.{◌≡◌, ℕ, sym, ap, ◌∙◌, arith, subst}
 use Rattle.r10_dirchain.specs.Chain.{listed_files}
 use Rattle.r10_machine.specs.Machine.{Machine}
 use Rattle.r10_machine.specs.Room.{area_from}
-use Rattle.r10_refinement.specs.Kept.{mode_of}
+use Rattle.r10_refinement.specs.KeptState.{mode_of}
 use Rattle.r10_refinement.specs.Means.{HasFiles}
 use Rattle.r10_medium.specs.Disk.{Image}
 use Rattle.r10_machine.specs.Finding.{free_bytes}
-use Rattle.r10_control.specs.Told.{free_in}
+use Rattle.r10_control.specs.RecorderStatus.{free_in}
 use Rattle.r10_control.specs.Work.{work_of}
 use Rattle.r10_control.specs.declared.work.Doing.{Doing}
 use Rattle.r10_volume.specs.Listing.{block_behind}

@@ -1,5 +1,5 @@
 use Rattle.std.proofs.Common.{ℕ, Bool, List, subst, sym, arith}
-use Rattle.r10_medium.proofs.Stops.{whole_reads}
+use Rattle.r10_medium.proofs.PowerLoss.{whole_reads}
 use Rattle.r10_judge.specs.Files.{file_at}
 use Rattle.r10_judge.specs.Judgements.{IsJudged}
 use Rattle.r10_judge.specs.declared.judgement.Judgement.TheVariants.{Strict}

@@ -1,5 +1,5 @@
 use Rattle.std.proofs.Common.{List, ℕ, ap, ◌∙◌}
-use Rattle.r10_cursor.specs.Standing.{fresh_slot}
+use Rattle.r10_cursor.specs.RepresentedCursors.{fresh_slot}
 use Rattle.r10_cursor.proofs.Slots.{opened}
 use Rattle.r10_cursor.proofs.table.open_cursor.Goals as goal
 

@@ -4,7 +4,7 @@ use Rattle.std.proofs.lemmas.List.{flat_map_more, take_more, get_or_default}
 use Rattle.std.proofs.lemmas.List.Elements.{All-more, All-same}
 use Rattle.r10_dirblock.specs.declared.entry.Entry.{Entry}
 use Rattle.r10_dirblock.specs.Block.{blank, entry_bytes, head_bytes, FitsEntry, HasRooms, IsBlock}
-use Rattle.r10_dirblock.proofs.Found.{only}
+use Rattle.r10_dirblock.proofs.BlockFields.{only}
 use Rattle.r10_dirblock.proofs.block.encode.Goals as goal
 use Rattle.r10_dirblock.proofs.block.encode.Goals.{After-into_bytes}
 

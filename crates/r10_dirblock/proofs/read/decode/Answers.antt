@@ -2,7 +2,7 @@ use Rattle.std.proofs.Common.{Ok, sym, ap, ◌∙◌, subst}
 use Rattle.std.specs.List.{All}
 use Rattle.r10_dirblock.specs.declared.block.DirBlock.{DirBlock}
 use Rattle.r10_dirblock.specs.Block.{IsBlock, FitsEntry, FitsHead}
-use Rattle.r10_dirblock.proofs.Found.{found, only, read_ok, read_err}
+use Rattle.r10_dirblock.proofs.BlockFields.{found, only, read_ok, read_err}
 use Rattle.r10_dirblock.proofs.read.decode.Goals as goal
 
 pub returns-in-Some-clause-only : goal.returns-in-Some-clause-only

@@ -1,4 +1,4 @@
-use Rattle.r10_medium.proofs.Stops.{write_but}
+use Rattle.r10_medium.proofs.PowerLoss.{write_but}
 use Rattle.r10_dirchain.proofs.put.put_unlinked.Goals as goal
 
 pub returns-clause-moments : goal.returns-clause-moments

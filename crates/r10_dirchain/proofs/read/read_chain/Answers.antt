@@ -1,6 +1,6 @@
 use Rattle.std.proofs.Common.{◌≡◌, ℕ, map, ◌+◌, ◌++◌, ◌∷◌, [], List, length, length-append, ap, ◌∙◌, subst, sym, rules, arith}
 use Rattle.r10_medium.specs.Disk.{Image}
-use Rattle.r10_medium.proofs.Stops.{unchanged_twice}
+use Rattle.r10_medium.proofs.PowerLoss.{unchanged_twice}
 use Rattle.r10_dirchain.specs.declared.chain.ChainBlock.{ChainBlock}
 use Rattle.r10_dirchain.specs.declared.read.ChainError.TheVariants.{BadDirectory}
 use Rattle.r10_dirchain.specs.Chain.{link, HoldsBlock, IsDirectory, blank_block}

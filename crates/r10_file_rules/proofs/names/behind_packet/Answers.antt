@@ -22,9 +22,9 @@ returns-clause-none c =
     let e = c.args.entry.now in
     let word : c.to_le_bytes.result ≡ le_bytes 4 (65536 * e.data_type + e.channel) = c.to_le_bytes.ensures ∙ ap (le_bytes 4) c.packet_word-packet.ensures in
     let at : List ℕ = stamp e.counter in
-    let told : List ℕ = le_bytes 4 (65536 * e.data_type + e.channel) in
+    let reported : List ℕ = le_bytes 4 (65536 * e.data_type + e.channel) in
     let place : List ℕ = le_bytes 8 e.offset in
-    if_none_map c.behind-3.result (Missing c.in_ok-rest-2.rest.now c.to_le_bytes-2.result) (Missing c.args.bytes.now (at ++ (told ++ place)))
-    (λ missing. missing_then c.args.bytes.now c.stamp.result c.in_ok-rest.rest.now at (told ++ place) c.stamp.ensures c.in_ok-rest.ensures.found
-    (missing_then c.in_ok-rest.rest.now c.to_le_bytes.result c.in_ok-rest-2.rest.now told place word c.in_ok-rest-2.ensures.found (missing_same c.in_ok-rest-2.rest.now c.to_le_bytes-2.result place c.to_le_bytes-2.ensures missing)))
+    if_none_map c.behind-3.result (Missing c.in_ok-rest-2.rest.now c.to_le_bytes-2.result) (Missing c.args.bytes.now (at ++ (reported ++ place)))
+    (λ missing. missing_then c.args.bytes.now c.stamp.result c.in_ok-rest.rest.now at (reported ++ place) c.stamp.ensures c.in_ok-rest.ensures.found
+    (missing_then c.in_ok-rest.rest.now c.to_le_bytes.result c.in_ok-rest-2.rest.now reported place word c.in_ok-rest-2.ensures.found (missing_same c.in_ok-rest-2.rest.now c.to_le_bytes-2.result place c.to_le_bytes-2.ensures missing)))
     c.behind-3.ensures.none

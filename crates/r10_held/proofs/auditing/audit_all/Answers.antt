@@ -1,9 +1,9 @@
 use Rattle.std.proofs.Common.{◌≡◌, Bool, true≢false, None, refl, sym, ap, ◌∙◌, subst, arith}
 use Rattle.std.specs.Prelude.{IsTrue}
 use Rattle.r10_control.specs.Refused.{RefusesCall}
-use Rattle.r10_refinement.specs.Kept.{Kept, Work}
+use Rattle.r10_refinement.specs.KeptState.{Kept, Work}
 use Rattle.r10_medium.specs.Disk.{Image}
-use Rattle.r10_medium.proofs.Stops.{unchanged_twice}
+use Rattle.r10_medium.proofs.PowerLoss.{unchanged_twice}
 use Rattle.r10_held.specs.Auditing.{IsAbsentOrRead, IsAuditRefusal, IsFirstRefused, audit_refusal}
 use Rattle.r10_held.specs.Transcripts.{Agrees}
 use Rattle.r10_held.proofs.Refusing.{other_checks, refused_behind}

@@ -10,7 +10,7 @@ use Rattle.r10_held.proofs.auditing.read_instalment.Goals as goal
 
 -- numbers that differ aren't written as the same
 apart : (a b : ℕ) → (a ≡ b → ⊥) → (a == b) ≡ true → ⊥
-apart a b away told = away (grind (arith, nat_tests))
+apart a b away reported = away (grind (arith, nat_tests))
 
 pub returns-after-covered-instalment : goal.returns-after-covered-instalment
 returns-after-covered-instalment g c =

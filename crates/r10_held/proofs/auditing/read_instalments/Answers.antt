@@ -1,8 +1,8 @@
 use Rattle.std.proofs.Common.{◌≡◌, Bool, true≢false, [], drop, refl, sym, ap, ◌∙◌, subst, arith}
 use Rattle.std.specs.Prelude.{IsTrue}
 use Rattle.std.proofs.lemmas.List.{drop_all}
-use Rattle.r10_refinement.specs.Kept.{Kept}
-use Rattle.r10_medium.proofs.Stops.{unchanged_twice}
+use Rattle.r10_refinement.specs.KeptState.{Kept}
+use Rattle.r10_medium.proofs.PowerLoss.{unchanged_twice}
 use Rattle.r10_held.proofs.Comparing.{all_came, came_further, came_to, came_within, next_of_all, still_shown}
 use Rattle.r10_held.proofs.auditing.read_instalments.Goals as goal
 

@@ -3,7 +3,7 @@ use Rattle.std.proofs.KnownBytes.{Appends-trans}
 use Rattle.std.specs.List.{concat}
 use Rattle.std.specs.Io.KnownBytes.{Appends}
 use Rattle.r10_medium.specs.Disk.{Image, block_at}
-use Rattle.r10_medium.proofs.Stops.{unchanged_twice}
+use Rattle.r10_medium.proofs.PowerLoss.{unchanged_twice}
 use Rattle.r10_images.proofs.Blocks.{blocks_more}
 use Rattle.r10_images.proofs.writing.write_blocks.Goals as goal
 

@@ -2,7 +2,7 @@ use Rattle.std.proofs.Common.{◌≡◌, ℕ, List, length, subst}
 use Rattle.r10_body.specs.Faults.{IsAtFault}
 use Rattle.r10_judge.specs.Judged.{TracksStrictFile}
 use Rattle.r10_judge.specs.Walks.{EndsWithFault}
-use Rattle.r10_judge.proofs.Parts.{all_taken}
+use Rattle.r10_judge.proofs.PartsOfBytes.{all_taken}
 use Rattle.r10_judge.proofs.judgement.judgement_of.Goals as goal
 
 pub returns-in-Ok : goal.returns-in-Ok

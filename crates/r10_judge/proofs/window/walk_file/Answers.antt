@@ -1,11 +1,11 @@
 use Rattle.std.proofs.Common.{◌+◌, ◌∙◌, length, take, drop, arith, sym, ap, subst, IfSome}
 use Rattle.std.proofs.lemmas.List.{length-drop, take-append-drop}
 use Rattle.r10_medium.specs.Disk.{Image}
-use Rattle.r10_medium.proofs.Stops.{unchanged_twice, whole_reads}
+use Rattle.r10_medium.proofs.PowerLoss.{unchanged_twice, whole_reads}
 use Rattle.r10_body.specs.declared.fault.FileFault.{FileFault}
 use Rattle.r10_judge.specs.Files.{file_at}
 use Rattle.r10_judge.specs.Walks.{TracksWalked, IsFaultTold}
-use Rattle.r10_judge.proofs.Parts.{ends_some, falls, file_size, none_is, some_on}
+use Rattle.r10_judge.proofs.PartsOfBytes.{ends_some, falls, file_size, none_is, some_on}
 use Rattle.r10_judge.proofs.window.walk_file.Goals as goal
 
 pub take_window-requires-clause-walked : goal.take_window-requires-clause-walked
@@ -23,14 +23,14 @@ returns-then-is_some-clause-walked g c =
     let file = file_at (disk c.args.medium.now).blocks c.args.extent in
     let at = c.loop-at.at + c.in-Ok.taken.length in
     let tracks = c.take_window.new.walk.judge.tracks in
-    let told = subst (λ (i : Image). IfSome c.in-Ok.taken.fault (IsFaultTold (file_at i c.args.extent) at c.in-Ok.taken.answered tracks)) now.same.reads c.in-Ok.ensures.fault in
+    let reported = subst (λ (i : Image). IfSome c.in-Ok.taken.fault (IsFaultTold (file_at i c.args.extent) at c.in-Ok.taken.answered tracks)) now.same.reads c.in-Ok.ensures.fault in
     record {
       before = take at file;
       rest = drop at file;
       bytes_are = sym (take-append-drop at file);
       stands = subst (λ (i : Image). TracksWalked c.take_window.new.walk (take at (file_at i c.args.extent))) now.same.reads c.in-Ok.ensures.stands;
-      ends = ends_some c.in-Ok.taken.fault (drop at file) (sym c.is_some.ensures ∙ c.if-is_some.true) (some_on c.in-Ok.taken.fault (λ (f : FileFault) (t : IsFaultTold file at c.in-Ok.taken.answered tracks f). t.ends) told);
-      answered = some_on c.in-Ok.taken.fault (λ (f : FileFault) (t : IsFaultTold file at c.in-Ok.taken.answered tracks f). t.answered) told;
+      ends = ends_some c.in-Ok.taken.fault (drop at file) (sym c.is_some.ensures ∙ c.if-is_some.true) (some_on c.in-Ok.taken.fault (λ (f : FileFault) (t : IsFaultTold file at c.in-Ok.taken.answered tracks f). t.ends) reported);
+      answered = some_on c.in-Ok.taken.fault (λ (f : FileFault) (t : IsFaultTold file at c.in-Ok.taken.answered tracks f). t.answered) reported;
     }
 
 pub loop-at-preserved : goal.loop-at-preserved

@@ -1,7 +1,7 @@
 use Rattle.std.proofs.Common.{◌≡◌, ◌⊎◌, ◌<◌, inl, inr, length, subst, sym, ap, slice_set}
 use Rattle.r10_medium.specs.Disk.{Image, MayLeave}
 use Rattle.r10_medium.specs.Stop.{Leaves}
-use Rattle.r10_medium.proofs.Stops.{stayed, then_stays, then_writes_synced}
+use Rattle.r10_medium.proofs.PowerLoss.{stayed, then_stays, then_writes_synced}
 use Rattle.r10_medium.proofs.runs.publish.Goals as goal
 use Rattle.r10_medium.proofs.runs.publish.Goals.{After-write}
 use Rattle.r10_medium.proofs.runs.publish.Given.{Over}
@@ -19,7 +19,7 @@ written g c =
     let P = λ (image : Image). MayLeave old image ⊎ (image ≡ slice_set old.blocks c.args.n c.args.block.now) in
     then_writes_synced P c.args.n c.args.block.now old synced (disk c.write.new.self)
     (stayed P old synced c.sync.ensures.same (λ image now. inl now))
-    (subst (λ (l : Image). c.args.n < length l) (sym reads) c.requires) c.in_ok-sync.ensures.sure
+    (subst (λ (l : Image). c.args.n < length l) (sym reads) c.requires) c.in_ok-sync.ensures.durable
     (inr (ap (λ (l : Image). slice_set l c.args.n c.args.block.now) reads)) c.write.ensures.wrote
 
 pub returns-in_err-write-clause-moments : goal.returns-in_err-write-clause-moments

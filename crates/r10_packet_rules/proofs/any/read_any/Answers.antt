@@ -5,16 +5,16 @@ use Rattle.r10_packet.specs.declared.view.DataSum.TheVariants.{Right}
 use Rattle.r10_body.specs.Foreign.{opaque_at}
 use Rattle.r10_packet_rules.proofs.Fronts.{body_here, body_there, not_right, same_opaque}
 use Rattle.r10_packet_rules.proofs.Once.{alone}
-use Rattle.r10_packet_rules.proofs.Parts.{short_at}
-use Rattle.r10_packet_rules.proofs.Standing.{first_is}
+use Rattle.r10_packet_rules.proofs.HeaderAndBody.{short_at}
+use Rattle.r10_packet_rules.proofs.TrackSoFar.{first_is}
 use Rattle.r10_packet_rules.proofs.any.read_any.Goals as goal
 
 pub returns-then-opaque-clause-found : goal.returns-then-opaque-clause-found
 returns-then-opaque-clause-found c =
     let read = c.in-Ok.ensures in
     let same = same_opaque c.args.bytes.now c.in-Ok.read.0.header c.in-Ok.read.0.body.now c.is_opaque-opaque.result read.header read.body c.is_opaque-opaque.ensures in
-    let told : true ≡ opaque_at c.args.bytes.now = sym c.if-opaque.true ∙ same in
-    first_is c.args.bytes.now _ read.sound read.size.0 same (λ clear. absurd (cc (told, clear)))
+    let reported : true ≡ opaque_at c.args.bytes.now = sym c.if-opaque.true ∙ same in
+    first_is c.args.bytes.now _ read.sound read.size.0 same (λ clear. absurd (cc (reported, clear)))
 
 pub returns-then-ne-clause-fault : goal.returns-then-ne-clause-fault
 returns-then-ne-clause-fault c =

@@ -14,7 +14,7 @@ returns-then-word g c = (
   λ has.
       let found = c.in-Some-count_standing.ensures.found in
       let agrees = body_agrees g.E.BodyEntry.form 0 0 c.in-Some.word c.in-Some-count_standing.count c.in-Some.rest.now c.args.body.now found.0 has.0 (search rules) (search rules) found.1 found.2 has.1 in
-      absurd (c.if-word.true (agrees.told ∙ sym c.word.ensures)),
+      absurd (c.if-word.true (agrees.reported ∙ sym c.word.ensures)),
 )
 
 pub returns : goal.returns

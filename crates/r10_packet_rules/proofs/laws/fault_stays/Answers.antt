@@ -1,5 +1,5 @@
 use Rattle.r10_packet_rules.proofs.Faults as fault_laws
-use Rattle.r10_packet_rules.proofs.Ways.{faulty_stays}
+use Rattle.r10_packet_rules.proofs.OneWayApart.{faulty_stays}
 use Rattle.r10_packet_rules.proofs.laws.fault_stays.Goals as goal
 
 pub returns-clause-packet : goal.returns-clause-packet

@@ -1,4 +1,4 @@
-use Rattle.r10_packet_rules.proofs.Ways.{one_count, one_offset, one_reason, apart_files}
+use Rattle.r10_packet_rules.proofs.OneWayApart.{one_count, one_offset, one_reason, apart_files}
 use Rattle.r10_packet_rules.proofs.laws.one_verdict.Goals as goal
 
 pub returns-clause-opaque : goal.returns-clause-opaque

@@ -3,15 +3,15 @@ use Rattle.r10_packet.specs.declared.view.DataSum.TheVariants.{Right}
 use Rattle.r10_packet.specs.Framing.{has_data_checksum}
 use Rattle.r10_body.specs.Foreign.{opaque_at}
 use Rattle.r10_packet_rules.proofs.Fronts.{same_opaque, body_there, body_here, not_right}
-use Rattle.r10_packet_rules.proofs.Standing.{first_is}
+use Rattle.r10_packet_rules.proofs.TrackSoFar.{first_is}
 use Rattle.r10_packet_rules.proofs.packet.read_foreign.Goals as goal
 
 pub returns-then-is_opaque-clause-found : goal.returns-then-is_opaque-clause-found
 returns-then-is_opaque-clause-found c =
     let read = c.in-Ok.ensures in
     let same = same_opaque c.args.bytes.now c.in-Ok.read.0.header c.in-Ok.read.0.body.now c.is_opaque.result read.header read.body c.is_opaque.ensures in
-    let told : true ≡ opaque_at c.args.bytes.now = sym c.if-is_opaque.true ∙ same in
-    first_is c.args.bytes.now _ read.sound read.size.0 told (λ clear. absurd (cc (told, clear)))
+    let reported : true ≡ opaque_at c.args.bytes.now = sym c.if-is_opaque.true ∙ same in
+    first_is c.args.bytes.now _ read.sound read.size.0 reported (λ clear. absurd (cc (reported, clear)))
 
 pub returns-then-ne-clause-fault : goal.returns-then-ne-clause-fault
 returns-then-ne-clause-fault c =

@@ -13,8 +13,8 @@ returns-then-word-clause-none g c = λ es is.
     let number = number_is g.E.ChannelEntry.channel.said c.in-Some-scan.tally found.0 found.2 in
     let agrees = body_agrees g.E.BodyEntry.form c.args.setting c.args.counter c.in-Some.word c.in-Some-scan.tally.entries c.in-Some.rest.now c.args.body.now found.0 es (search rules) (search rules) found.1 number is in
     elim c.then-word.branch [
-      | then-word-via-then-word w ↦ w.if-word.true (agrees.told ∙ sym c.word.ensures)
-      | then-word-via-else-word+then-not-agrees w ↦ (let not = w.if-not-agrees.true in let told = w.agrees.ensures in let yes = agrees.agrees in absurd cc)
+      | then-word-via-then-word w ↦ w.if-word.true (agrees.reported ∙ sym c.word.ensures)
+      | then-word-via-else-word+then-not-agrees w ↦ (let not = w.if-not-agrees.true in let reported = w.agrees.ensures in let yes = agrees.agrees in absurd cc)
     ]
 
 pub returns-clause-found : goal.returns-clause-found

@@ -1,7 +1,7 @@
 use Rattle.std.proofs.Common.{◌≡◌, Ok, refl, ap, arith, rules}
 use Rattle.r10_packet.specs.Framing.{header_at}
 use Rattle.r10_packet.specs.declared.header.Header.{Header}
-use Rattle.r10_packet_rules.proofs.Parts.{header_first, long_enough, body_first}
+use Rattle.r10_packet_rules.proofs.HeaderAndBody.{header_first, long_enough, body_first}
 use Rattle.r10_packet_rules.proofs.strict.parts.Goals as goal
 
 pub returns-in_default-decode_header-clause-whole : goal.returns-in_default-decode_header-clause-whole

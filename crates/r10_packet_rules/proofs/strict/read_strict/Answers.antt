@@ -1,7 +1,7 @@
 use Rattle.std.proofs.Common.{ℕ, List, length, ap, rules, arith}
 use Rattle.r10_packet.specs.declared.header.Header.{Header}
 use Rattle.r10_packet_rules.proofs.Findings.{not_framed}
-use Rattle.r10_packet_rules.proofs.Parts.{short_at}
+use Rattle.r10_packet_rules.proofs.HeaderAndBody.{short_at}
 use Rattle.r10_packet_rules.proofs.strict.read_strict.Goals as goal
 
 pub find-requires : goal.find-requires

@@ -1,4 +1,4 @@
-use Rattle.r10_refinement.proofs.Told.{loss_counted, loss_refused}
+use Rattle.r10_refinement.proofs.LaneCalls.{loss_counted, loss_refused}
 use Rattle.r10_refinement.proofs.reports.losses_are_steps.Goals as goal
 
 pub returns-clause-counted : goal.returns-clause-counted

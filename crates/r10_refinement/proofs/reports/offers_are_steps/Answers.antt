@@ -1,4 +1,4 @@
-use Rattle.r10_refinement.proofs.Told.{offer_refused, offered}
+use Rattle.r10_refinement.proofs.LaneCalls.{offer_refused, offered}
 use Rattle.r10_refinement.proofs.reports.offers_are_steps.Goals as goal
 
 pub returns-clause-accepted : goal.returns-clause-accepted

@@ -1,4 +1,4 @@
-use Rattle.r10_refinement.proofs.Told.{count_told, files_told, found_told, status_told}
+use Rattle.r10_refinement.proofs.LaneCalls.{count_told, files_told, found_told, status_told}
 use Rattle.r10_refinement.proofs.reports.reports_are_steps.Goals as goal
 
 pub returns-clause-files : goal.returns-clause-files

@@ -1,4 +1,4 @@
-use Rattle.r10_seal.proofs.Left.{fault_left, left_unsealed}
+use Rattle.r10_seal.proofs.LastFile.{fault_left, left_unsealed}
 use Rattle.r10_seal.proofs.laws.left_files_are_strict.Goals as goal
 
 pub returns-clause-unsealed : goal.returns-clause-unsealed

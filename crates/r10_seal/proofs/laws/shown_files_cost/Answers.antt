@@ -1,4 +1,4 @@
-use Rattle.r10_seal.proofs.Left.{most_cost, others_cost, whole_cost}
+use Rattle.r10_seal.proofs.LastFile.{most_cost, others_cost, whole_cost}
 use Rattle.r10_seal.proofs.laws.shown_files_cost.Goals as goal
 
 pub returns-clause-most : goal.returns-clause-most

@@ -1,5 +1,5 @@
 use Rattle.std.proofs.Common.{arith}
-use Rattle.r10_session.proofs.Asking.{all_asked, none_asked, one_asked}
+use Rattle.r10_session.proofs.OrdersInTurn.{all_asked, none_asked, one_asked}
 use Rattle.r10_session.proofs.beginning.ask_all.Goals as goal
 
 pub loop-place-init : goal.loop-place-init

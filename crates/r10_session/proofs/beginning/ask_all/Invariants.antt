@@ -1,4 +1,4 @@
-use Rattle.r10_session.proofs.Asking.{AnsweredTo}
+use Rattle.r10_session.proofs.OrdersInTurn.{AnsweredTo}
 use Rattle.r10_session.proofs.beginning.ask_all.Given as goal
 
 -- the orders so far were answered

@@ -1,5 +1,8 @@
+use Rattle.std.proofs.Common.{◌∙◌, List, ap, map}
+use Rattle.r10_script.specs.declared.session.FeedTable.{FeedTable}
+use Rattle.r10_session.specs.Losses.{has_losses}
 use Rattle.r10_session.proofs.Scripts.{all_channels, all_orders}
-use Rattle.r10_session.proofs.Told.{came}
+use Rattle.r10_session.proofs.WhatScriptsGive.{came}
 use Rattle.r10_session.proofs.command.session_left.Goals as goal
 
 pub run_script-requires-clause-steps : goal.run_script-requires-clause-steps
@@ -21,4 +24,4 @@ pub returns-in-Ok : goal.returns-in-Ok
 returns-in-Ok g c =
     let whole = c.in_ok-text.ensures.whole in
     let spelled = c.in_ok-script.ensures.spelled in
-    came _ _ _ c.in_ok-script.script _ c.in-Ok.left.ended whole c.as_slice.ensures.value spelled c.in-Ok.ensures
+    came _ _ _ c.in_ok-script.script c.in_ok-asked.asked.items _ c.in-Ok.left.ended whole c.as_slice.ensures.value spelled c.in-Ok.ensures (c.in_ok-asked.ensures ∙ ap (λ (feeds : List FeedTable). map has_losses feeds) c.as_slice-2.ensures.value)

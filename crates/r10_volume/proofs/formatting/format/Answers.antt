@@ -1,4 +1,4 @@
-use Rattle.r10_volume.proofs.Made.{is_named, made_moments}
+use Rattle.r10_volume.proofs.EmptyMedium.{is_named, made_moments}
 use Rattle.r10_volume.proofs.formatting.format.Goals as goal
 
 pub returns-in-Ok-clause-moments : goal.returns-in-Ok-clause-moments

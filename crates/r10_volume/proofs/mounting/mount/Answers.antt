@@ -1,5 +1,5 @@
 use Rattle.std.proofs.Common.{List, [], ◌∷◌, ◌∙◌, Ok, Err, ap, subst, rules}
-use Rattle.r10_medium.proofs.Stops.{settled_reads}
+use Rattle.r10_medium.proofs.PowerLoss.{settled_reads}
 use Rattle.r10_dirchain.specs.Steps.{with_shutdown}
 use Rattle.r10_dirchain.specs.declared.chain.ChainBlock.{ChainBlock}
 use Rattle.r10_dirchain.specs.declared.chain.Directory.{Directory}
@@ -52,7 +52,7 @@ returns-in-Ok-set_shutdown-clause-directory g c =
     let is = c.in-Ok.ensures.usable.directory in
     let turns : Turns {T = Directory} {E = ChainError} chain made [] (1 ∷ []) old new (Ok c.set_shutdown.new.self) =
     marked_later chain 0 old (g.M.BlockMedium.disk c.usable_directory.new.medium) new (Ok c.in-Ok-set_shutdown.field-0) (Ok c.set_shutdown.new.self) c.in-Ok.ensures.same is c.in-Ok-set_shutdown.ensures.turns (λ P p. p) in
-    record { directory = directory_on chain made c.set_shutdown.new.self old new (Ok c.set_shutdown.new.self) turns c.in-Ok-set_shutdown.ensures.done; synced = c.in-Ok-set_shutdown.ensures.sure }
+    record { directory = directory_on chain made c.set_shutdown.new.self old new (Ok c.set_shutdown.new.self) turns c.in-Ok-set_shutdown.ensures.done; synced = c.in-Ok-set_shutdown.ensures.durable }
 
 pub returns-in-Ok-set_shutdown-clause-ready : goal.returns-in-Ok-set_shutdown-clause-ready
 returns-in-Ok-set_shutdown-clause-ready g c =

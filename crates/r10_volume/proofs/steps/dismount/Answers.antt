@@ -13,7 +13,7 @@ returns-clause-directory g c =
     let disk = g.M.BlockMedium.disk in
     let chain = c.args.directory.now in
     published chain (with_shutdown 0xFF chain) c.set_shutdown.new.self [] ((at chain 0).number ∷ []) (disk c.args.medium.now) (disk c.set_shutdown.new.medium) c.set_shutdown.result
-    c.set_shutdown.ensures.turns c.set_shutdown.ensures.done c.set_shutdown.ensures.sure
+    c.set_shutdown.ensures.turns c.set_shutdown.ensures.done c.set_shutdown.ensures.durable
 
 pub returns-clause-usable : goal.returns-clause-usable
 returns-clause-usable g c = λ reserved usable.

@@ -8,7 +8,7 @@ pub returns-clause-directory : goal.returns-clause-directory
 returns-clause-directory g c =
     let disk = g.M.BlockMedium.disk in
     let chain = c.args.directory.now in
-    published chain (emptied chain) c.erase.new.self [] (1 ∷ []) (disk c.args.medium.now) (disk c.erase.new.medium) c.erase.result c.erase.ensures.turns c.erase.ensures.done c.erase.ensures.sure
+    published chain (emptied chain) c.erase.new.self [] (1 ∷ []) (disk c.args.medium.now) (disk c.erase.new.medium) c.erase.result c.erase.ensures.turns c.erase.ensures.done c.erase.ensures.durable
 
 pub returns-clause-usable : goal.returns-clause-usable
 returns-clause-usable g c = λ reserved usable.

@@ -3,11 +3,11 @@ use Rattle.r10_machine.specs.declared.reply.Reply.{Reply}
 use Rattle.r10_world.proofs.Answering.{matched, or_medium, refused_call}
 use Rattle.r10_world.specs.Answering.{AnswersSo}
 use Rattle.r10_control.specs.Refused.{nothing_lacks}
-use Rattle.r10_world.proofs.Telling.{telling}
+use Rattle.r10_world.proofs.CallsAsSteps.{telling}
 use Rattle.r10_body.specs.declared.refusal.Refusal.TheVariants.{Failed}
 use Rattle.r10_control.specs.Checks.{recorder_refusal}
-use Rattle.r10_refinement.specs.Kept.{Work}
-use Rattle.r10_world.proofs.Stopping.{alone_if, stays_failed, survives_by}
+use Rattle.r10_refinement.specs.KeptState.{Work}
+use Rattle.r10_world.proofs.PowerLossInRuns.{alone_if, stays_failed, survives_by}
 use Rattle.r10_world.proofs.control.dismount.Goals as goal
 use Rattle.r10_machine.specs.declared.event.Event.TheVariants as events
 use Rattle.r10_machine.specs.declared.reply.Reply.TheVariants as replies

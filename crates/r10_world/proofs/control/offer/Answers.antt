@@ -4,9 +4,9 @@ use Rattle.r10_world.proofs.Answering.{refused_check, told_either}
 use Rattle.r10_world.specs.Answering.{AnswersSo}
 use Rattle.r10_machine.specs.Checks.{offer_refusal}
 use Rattle.r10_machine.specs.Machine.{lane_in}
-use Rattle.r10_world.proofs.Telling.{telling_with}
-use Rattle.r10_world.proofs.Stopping.{survives_same}
-use Rattle.r10_medium.proofs.Stops.{unchanged}
+use Rattle.r10_world.proofs.CallsAsSteps.{telling_with}
+use Rattle.r10_world.proofs.PowerLossInRuns.{survives_same}
+use Rattle.r10_medium.proofs.PowerLoss.{unchanged}
 use Rattle.r10_medium.specs.Disk.{Unchanged}
 use Rattle.r10_world.proofs.control.offer.Goals as goal
 use Rattle.r10_machine.specs.declared.event.Event.TheVariants as events

@@ -9,8 +9,8 @@ use Rattle.r10_machine.specs.Machine.{rising}
 use Rattle.r10_world.proofs.Taking.{telling_taken}
 use Rattle.r10_body.specs.declared.refusal.Refusal.TheVariants.{Failed}
 use Rattle.r10_control.specs.Checks.{recorder_checks, recorder_refusal}
-use Rattle.r10_refinement.specs.Kept.{Work}
-use Rattle.r10_world.proofs.Stopping.{alone_if_readied, stays_failed, survives_stop}
+use Rattle.r10_refinement.specs.KeptState.{Work}
+use Rattle.r10_world.proofs.PowerLossInRuns.{alone_if_readied, stays_failed, survives_stop}
 use Rattle.r10_world.proofs.control.stop.Goals as goal
 use Rattle.r10_machine.specs.declared.event.Event.TheVariants as events
 use Rattle.r10_machine.specs.declared.reply.Reply.TheVariants as replies

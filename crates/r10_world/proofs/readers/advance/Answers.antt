@@ -2,18 +2,18 @@ use Rattle.std.proofs.Common.{None, ℕ, ap, refl, sym, subst, ◌≡◌, ◌∙
 use Rattle.r10_world.proofs.Answering.{refused_check, set_puts}
 use Rattle.r10_world.proofs.OnTable.{instalment_refused, mounted_reads, some_at, unmounted_refuses}
 use Rattle.r10_world.specs.Answering.{AdvancesAt, TakesEntries, first_refusal}
-use Rattle.r10_cursor.specs.Standing.{PutsSlot, slot_at}
+use Rattle.r10_cursor.specs.RepresentedCursors.{PutsSlot, slot_at}
 use Rattle.std.specs.Prelude.{slice_set}
 use Rattle.r10_count.specs.Checks.{first_broken}
 use Rattle.r10_machine.specs.Checks.{advance_checks, mounted_checks}
 use Rattle.r10_machine.specs.Machine.{cursor_of}
 use Rattle.r10_cursor.specs.declared.cursor.Cursor.{Cursor}
 use Rattle.r10_world.proofs.Tables.{advance_refused, advances_on, passes_too, reads, same_slots, set_same, slot_tells}
-use Rattle.r10_world.proofs.Telling.{refused_on}
+use Rattle.r10_world.proofs.CallsAsSteps.{refused_on}
 use Rattle.r10_body.specs.declared.refusal.Refusal.TheVariants.{Failed}
-use Rattle.r10_refinement.specs.Kept.{Kept, Work, mode_of}
-use Rattle.r10_world.proofs.Stopping.{alone_if, survives_kept, survives_refused, survives_same}
-use Rattle.r10_medium.proofs.Stops.{unchanged}
+use Rattle.r10_refinement.specs.KeptState.{Kept, Work, mode_of}
+use Rattle.r10_world.proofs.PowerLossInRuns.{alone_if, survives_kept, survives_refused, survives_same}
+use Rattle.r10_medium.proofs.PowerLoss.{unchanged}
 use Rattle.r10_world.proofs.readers.advance.Goals as goal
 use Rattle.r10_machine.specs.declared.event.Event.TheVariants as events
 use Rattle.r10_machine.specs.declared.reply.Reply.TheVariants as replies

@@ -1,5 +1,5 @@
 use Rattle.r10_world.proofs.OnTable.{is_there, no_cursor}
-use Rattle.r10_cursor.specs.Standing.{slot_at}
+use Rattle.r10_cursor.specs.RepresentedCursors.{slot_at}
 use Rattle.std.proofs.Common.{arith, refl}
 use Rattle.r10_world.proofs.Tables.{check_on, same_slots, set_on}
 use Rattle.r10_world.proofs.readers.close.Goals as goal

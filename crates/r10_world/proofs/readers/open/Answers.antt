@@ -3,11 +3,11 @@ use Rattle.r10_world.proofs.OnTable.{opens_slot, refused_memory}
 use Rattle.r10_control.specs.Reading.{IsReadFileRefusal}
 use Rattle.std.proofs.Common.{ap, refl, ◌∙◌}
 use Rattle.r10_world.proofs.Tables.{is_mounted, open_lacks, opens_on}
-use Rattle.r10_world.proofs.Telling.{refused_on}
+use Rattle.r10_world.proofs.CallsAsSteps.{refused_on}
 use Rattle.r10_body.specs.declared.refusal.Refusal.TheVariants.{Failed}
 use Rattle.r10_control.specs.Checks.{recorder_refusal}
-use Rattle.r10_refinement.specs.Kept.{Kept, Work}
-use Rattle.r10_world.proofs.Stopping.{alone_if, survives_kept, survives_refused}
+use Rattle.r10_refinement.specs.KeptState.{Kept, Work}
+use Rattle.r10_world.proofs.PowerLossInRuns.{alone_if, survives_kept, survives_refused}
 use Rattle.r10_body.specs.declared.refusal.Refusal.TheVariants as refusals
 use Rattle.r10_machine.specs.declared.reply.Reply.TheVariants as replies
 use Rattle.r10_world.proofs.readers.open.Goals as goal

@@ -1,10 +1,10 @@
 use Rattle.std.proofs.Common.{◌≡◌, ◌≤◌, ◌<◌, ◌++◌, ◌∷◌, [], ◌∙◌, length, arith, ap, drop, refl, subst, sym, take, vec_len, ℕ, List}
 use Rattle.r10_world.proofs.Going.{all_of, answer_more, begun, begun_each, run_more, take_one_more}
 use Rattle.r10_world.proofs.running.run.Goals as goal
-use Rattle.r10_world.proofs.Stopping.{begun_safely, run_more_safely}
+use Rattle.r10_world.proofs.PowerLossInRuns.{begun_safely, run_more_safely}
 use Rattle.r10_world.specs.Answering.{AnswersEach}
-use Rattle.r10_world.specs.Stopping.{RunsSafely}
-use Rattle.r10_world.specs.Telling.{WorldRuns}
+use Rattle.r10_world.specs.PowerLoss.{RunsSafely}
+use Rattle.r10_world.specs.WorldSteps.{WorldRuns}
 use Rattle.r10_machine.specs.declared.reply.Reply.{Reply}
 
 pub loop-i-init : goal.loop-i-init

@@ -1,7 +1,7 @@
 use Rattle.std.proofs.Common.{◌≡◌, ◌+◌, take, drop, vec_len}
 use Rattle.r10_world.specs.Answering.{AnswersEach}
-use Rattle.r10_world.specs.Stopping.{RunsSafely}
-use Rattle.r10_world.specs.Telling.{WorldRuns}
+use Rattle.r10_world.specs.PowerLoss.{RunsSafely}
+use Rattle.r10_world.specs.WorldSteps.{WorldRuns}
 use Rattle.r10_world.proofs.running.run.Given as goal
 
 abbrev pub invariant-loop-i : goal.invariant-loop-i

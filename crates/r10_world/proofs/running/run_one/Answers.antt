@@ -1,6 +1,6 @@
 use Rattle.std.proofs.Common.{[], ◌∷◌, refl, arith}
 use Rattle.r10_world.proofs.Going.{begun, run_more}
-use Rattle.r10_world.proofs.Stopping.{begun_safely, run_more_safely}
+use Rattle.r10_world.proofs.PowerLossInRuns.{begun_safely, run_more_safely}
 use Rattle.r10_world.proofs.running.run_one.Goals as goal
 
 pub returns-clause-run : goal.returns-clause-run

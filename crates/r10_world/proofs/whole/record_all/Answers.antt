@@ -1,7 +1,7 @@
 use Rattle.std.proofs.Common.{drop, refl, subst, sym, take, vec_len}
 use Rattle.r10_world.proofs.WholeRuns.{records_so}
 use Rattle.r10_world.specs.Joined.{begun_world}
-use Rattle.r10_world.specs.Stopping.{RecordsRun}
+use Rattle.r10_world.specs.PowerLoss.{RecordsRun}
 use Rattle.r10_world.proofs.whole.record_all.Goals as goal
 
 pub returns-in-Ok-clause-records : goal.returns-in-Ok-clause-records

@@ -1,7 +1,7 @@
 use Rattle.std.proofs.Common.{drop, subst, take, vec_len}
 use Rattle.r10_world.specs.Answering.{AnswersEach}
 use Rattle.r10_world.specs.State.{WorldState}
-use Rattle.r10_world.specs.Stopping.{Recovers, RunsSafely}
+use Rattle.r10_world.specs.PowerLoss.{Recovers, RunsSafely}
 use Rattle.r10_world.proofs.whole.run_over_any_medium.Goals as goal
 
 pub returns-in-Ok-run-clause-answers : goal.returns-in-Ok-run-clause-answers

@@ -3,9 +3,9 @@ use Rattle.r10_machine.specs.declared.event.Event.{Event}
 use Rattle.r10_world.specs.Answering.{AnswersSo}
 use Rattle.r10_world.proofs.OnTable.{close_so, next_so}
 use Rattle.r10_refinement.specs.Quiet.{may_make}
-use Rattle.r10_world.proofs.Stopping.{survives_same}
+use Rattle.r10_world.proofs.PowerLossInRuns.{survives_same}
 use Rattle.r10_control.specs.Fronts.{Spares}
-use Rattle.r10_medium.proofs.Stops.{unchanged}
+use Rattle.r10_medium.proofs.PowerLoss.{unchanged}
 use Rattle.r10_world.proofs.world.answer.Goals as goal
 
 pub returns-in-Next-clause-power_loss : goal.returns-in-Next-clause-power_loss

@@ -9,4 +9,4 @@ write_body-requires c = rw (c.get.ensures.value, c.as_slice.ensures) (fits_are c
 pub returns : goal.returns
 returns c =
     let Adds : List ℕ → Type 0 = λ more. Appends more c.args.out.now c.write_body.new.out c.write_body.result in
-    subst Adds (bytes_are c.args.counter c.args.self.now.entries c.requires.told) (rw (c.get.ensures.value, c.as_slice.ensures) at c.write_body.ensures)
+    subst Adds (bytes_are c.args.counter c.args.self.now.entries c.requires.reported) (rw (c.get.ensures.value, c.as_slice.ensures) at c.write_body.ensures)

@@ -1,12 +1,12 @@
 use Rattle.std.proofs.Common.{◌≡◌, ◌+◌, ◌++◌, ◌∙◌, List, ap, drop, get_or, map, set, sym, take, arith, subst}
-use Rattle.r10_calls.specs.Losses.{erased_with}
+use Rattle.r10_calls.specs.Losses.{lost_with_erased}
 use Rattle.r10_calls.specs.declared.accounts.Accepted.{Accepted}
 use Rattle.r10_calls.proofs.Counting.{next_changed}
 use Rattle.r10_calls.proofs.desk.Desk.count_erased.Goals as goal
 
 pub loop-at-preserved : goal.loop-at-preserved
 loop-at-preserved g c =
-    let change = erased_with c.args.self.now.world.recorder.lanes in
+    let change = lost_with_erased c.args.self.now.world.recorder.lanes in
     let was = c.args.accepted.now.items in
     let i = c.loop-at.at in
     let d = c.index.result.now in

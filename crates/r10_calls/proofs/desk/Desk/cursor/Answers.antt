@@ -1,5 +1,5 @@
 use Rattle.std.proofs.Common.{refl}
-use Rattle.r10_calls.proofs.Telling.{refused}
+use Rattle.r10_calls.proofs.OneEvent.{refused}
 use Rattle.r10_calls.proofs.desk.Desk.cursor.Goals as goal
 
 pub returns-in_default-clause-does : goal.returns-in_default-clause-does

@@ -3,7 +3,7 @@ use Rattle.r10_body.specs.declared.refusal.Refusal.TheVariants as refusals
 use Rattle.r10_count.specs.Checks.{first_broken}
 use Rattle.r10_machine.specs.Checks.{idle_checks}
 use Rattle.r10_machine.specs.Machine.{Machine}
-use Rattle.r10_refinement.specs.Kept.{mode_of, idle}
+use Rattle.r10_refinement.specs.KeptState.{mode_of, idle}
 use Rattle.r10_refinement.specs.Means.{KeptStandsFor}
 use Rattle.r10_control.specs.Keeping.{kept_of}
 use Rattle.r10_control.specs.Leading.{MachinesKeepShown, KeptStepsTaking, none_taken}
@@ -19,12 +19,12 @@ use Rattle.r10_control.specs.Effects.{DismountEffect}
 use Rattle.r10_control.specs.Own.{OwnStay}
 use Rattle.r10_control.proofs.Owning.{dismounted_own, stay_by, stay_failed, stay_same}
 use Rattle.r10_dirchain.specs.Steps.{with_shutdown}
-use Rattle.r10_medium.proofs.Stops.{unchanged, whole_reads}
+use Rattle.r10_medium.proofs.PowerLoss.{unchanged, whole_reads}
 use Rattle.r10_dirchain.specs.Chain.{IsDirectory}
 use Rattle.r10_dirchain.specs.declared.chain.ChainBlock.{ChainBlock}
-use Rattle.r10_refinement.proofs.Behind.{failed_safely, refused_safely, synced_safely}
-use Rattle.r10_refinement.specs.Left.{StaysSafe, whichever}
-use Rattle.r10_control.proofs.StopPoints.{idle_leaves, makes_none}
+use Rattle.r10_refinement.proofs.SafeCalls.{failed_safely, refused_safely, synced_safely}
+use Rattle.r10_refinement.specs.PowerLossInCalls.{StaysSafe, whichever}
+use Rattle.r10_control.proofs.PowerLossPoints.{idle_leaves, makes_none}
 use Rattle.r10_control.specs.Fronts.{IdleSpares}
 use Rattle.r10_control.proofs.Fronting.{idle_spares, idle_spares_all}
 use Rattle.r10_control.proofs.recorder.Recorder.dismount.Goals as goal

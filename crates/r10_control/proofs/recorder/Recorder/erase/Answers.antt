@@ -4,7 +4,7 @@ use Rattle.r10_count.specs.Checks.{first_broken}
 use Rattle.r10_count.proofs.Rules.{rules_pass, rules_stop}
 use Rattle.r10_machine.specs.Checks.{idle_checks}
 use Rattle.r10_machine.specs.Machine.{Machine}
-use Rattle.r10_refinement.specs.Kept.{mode_of, idle}
+use Rattle.r10_refinement.specs.KeptState.{mode_of, idle}
 use Rattle.r10_refinement.specs.Means.{KeptStandsFor}
 use Rattle.r10_control.specs.Keeping.{kept_of}
 use Rattle.r10_control.specs.Leading.{MachinesKeepShown, KeptStepsTaking, none_taken}
@@ -23,11 +23,11 @@ use Rattle.r10_control.specs.Own.{OwnStay}
 use Rattle.r10_control.proofs.Owning.{erased_own, stay_failed, stay_same}
 use Rattle.r10_dirchain.specs.Chain.{listed_files}
 use Rattle.r10_dirchain.specs.declared.chain.ChainBlock.{ChainBlock}
-use Rattle.r10_refinement.proofs.Behind.{failed_safely, refused_safely, synced_safely}
-use Rattle.r10_refinement.specs.Left.{StaysSafe, whichever}
-use Rattle.r10_control.proofs.StopPoints.{made_of}
+use Rattle.r10_refinement.proofs.SafeCalls.{failed_safely, refused_safely, synced_safely}
+use Rattle.r10_refinement.specs.PowerLossInCalls.{StaysSafe, whichever}
+use Rattle.r10_control.proofs.PowerLossPoints.{made_of}
 use Rattle.r10_control.proofs.Making.{erase_left}
-use Rattle.r10_medium.proofs.Stops.{unchanged}
+use Rattle.r10_medium.proofs.PowerLoss.{unchanged}
 use Rattle.r10_control.specs.Fronts.{IdleSpares}
 use Rattle.r10_dirchain.specs.Steps.{emptied}
 use Rattle.r10_control.proofs.Fronting.{idle_spares, idle_spares_all}

@@ -3,7 +3,7 @@ use Rattle.std.specs.List.{last_or}
 use Rattle.r10_control.specs.Checks.{files_of}
 use Rattle.r10_control.specs.Keeping.{kept_of}
 use Rattle.r10_control.specs.State.{RecorderState}
-use Rattle.r10_control.specs.Told.{last_shown, shown_as_last}
+use Rattle.r10_control.specs.RecorderStatus.{last_shown, shown_as_last}
 use Rattle.r10_control.proofs.Statuses.{files_all}
 use Rattle.r10_control.proofs.recorder.Recorder.last_shown.Goals as goal
 

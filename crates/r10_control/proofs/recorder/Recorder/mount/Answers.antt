@@ -9,7 +9,7 @@ use Rattle.r10_body.specs.declared.refusal.Refusal.TheVariants as refusals
 use Rattle.r10_count.specs.Checks.{first_broken}
 use Rattle.r10_machine.specs.Checks.{unmounted_checks}
 use Rattle.r10_machine.specs.Machine.{Machine}
-use Rattle.r10_refinement.specs.Kept.{mode_of, idle}
+use Rattle.r10_refinement.specs.KeptState.{mode_of, idle}
 use Rattle.r10_refinement.specs.Means.{KeptStandsFor}
 use Rattle.r10_control.specs.Keeping.{kept_of}
 use Rattle.r10_control.specs.Leading.{MachinesKeepShown, KeptStepsTaking, none_taken}
@@ -28,11 +28,11 @@ use Rattle.r10_control.specs.Effects.{MountEffect}
 use Rattle.r10_control.specs.Own.{OwnStay}
 use Rattle.r10_control.proofs.Owning.{mounted_own, stay_by, stay_failed, stay_same}
 use Rattle.r10_dirchain.specs.Steps.{with_shutdown}
-use Rattle.r10_medium.proofs.Stops.{unchanged, whole_reads}
+use Rattle.r10_medium.proofs.PowerLoss.{unchanged, whole_reads}
 use Rattle.r10_medium.specs.Disk.{Image}
-use Rattle.r10_refinement.proofs.Behind.{failed_safely, refused_safely, synced_safely}
-use Rattle.r10_refinement.specs.Left.{StaysSafe, whichever}
-use Rattle.r10_control.proofs.StopPoints.{makes_none, unmounted_leaves}
+use Rattle.r10_refinement.proofs.SafeCalls.{failed_safely, refused_safely, synced_safely}
+use Rattle.r10_refinement.specs.PowerLossInCalls.{StaysSafe, whichever}
+use Rattle.r10_control.proofs.PowerLossPoints.{makes_none, unmounted_leaves}
 use Rattle.r10_control.specs.Fronts.{MountSpares}
 use Rattle.r10_control.proofs.Fronting.{mount_spares, mount_spares_all}
 use Rattle.r10_control.proofs.recorder.Recorder.mount.Goals as goal

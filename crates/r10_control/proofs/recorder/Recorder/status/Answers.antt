@@ -5,18 +5,18 @@ use Rattle.r10_machine.specs.Machine.{Machine}
 use Rattle.r10_machine.specs.declared.event.Event.TheVariants as events
 use Rattle.r10_machine.specs.declared.mode.Mode.{Mode}
 use Rattle.r10_machine.specs.declared.reply.Reply.TheVariants as replies
-use Rattle.r10_refinement.specs.Kept.{mode_of}
+use Rattle.r10_refinement.specs.KeptState.{mode_of}
 use Rattle.r10_refinement.specs.Means.{KeptStandsFor}
 use Rattle.r10_control.specs.Checks.{files_of}
 use Rattle.r10_control.specs.Keeping.{kept_of}
 use Rattle.r10_control.specs.Lanes.{WaitQuietly}
 use Rattle.r10_control.specs.Leading.{KeptStepsTaking, none_taken}
 use Rattle.r10_control.specs.State.{RecorderState}
-use Rattle.r10_control.specs.Told.{TellsLanes, TellsRecorder, without_lost}
+use Rattle.r10_control.specs.RecorderStatus.{TellsLanes, TellsRecorder, without_lost}
 use Rattle.r10_control.specs.declared.status.LaneStatus.{LaneStatus}
 use Rattle.r10_control.specs.declared.status.RecorderStatus.{RecorderStatus}
 use Rattle.r10_control.proofs.Leading.{memory_leads}
-use Rattle.r10_control.proofs.Looked.{looked, looks_alike, owns_looked}
+use Rattle.r10_control.proofs.LooksAtLanes.{looked, looks_alike, owns_looked}
 use Rattle.r10_control.proofs.Statuses.{files_all, numbered}
 use Rattle.r10_control.proofs.recorder.Recorder.status.Goals as goal
 
@@ -39,7 +39,7 @@ returns-in_default g c =
     let disk = g.M.BlockMedium.disk in
     record {
       does = record {
-        told = search rules;
+        reported = search rules;
         meant = search rules;
         steps =
             let now = disk w.medium in
@@ -60,24 +60,24 @@ returns g c =
     let lane = g.L.LaneOut in
     record {
       does = record {
-        told =
+        reported =
             let all : c.count_in.result ≡ length (files_of k.work) = files_all _ _ _ _ _ _ c.blocks-blocks.result c.count_in.result c.self.invariant c.blocks-blocks.ensures.value c.blocks-blocks.ensures.range.0 c.blocks-blocks.ensures.range.1 c.count_in.ensures in
             let channels : TellsLanes lane.quiet lane.spec_of (mode_of k.work) w.lanes.items k.erased c.of.result =
             subst (λ (ts : List LaneStatus). TellsLanes lane.quiet lane.spec_of (mode_of k.work) w.lanes.items k.erased ts) (sym c.of.ensures)
             (subst (λ (es : List ℕ). TellsLanes lane.quiet lane.spec_of (mode_of k.work) w.lanes.items es c.in-Ok.channels.items) c.as_slice.ensures.value
-            (subst (λ (x : Mode). TellsLanes lane.quiet lane.spec_of x w.lanes.items c.as_slice.result.now c.in-Ok.channels.items) c.mode_in-mode.ensures c.in-Ok.ensures.told)) in
+            (subst (λ (x : Mode). TellsLanes lane.quiet lane.spec_of x w.lanes.items c.as_slice.result.now c.in-Ok.channels.items) c.mode_in-mode.ensures c.in-Ok.ensures.reported)) in
             subst (λ (v : RecorderState _ _). TellsRecorder lane.quiet lane.spec_of v.kept v.lanes (record { mode = c.mode_in-mode.result; tick = c.tick_in.result; files = c.count_in.result; free = c.free_in.result; channels = c.of.result })) c.self.view_is
             (record { mode = c.mode_in-mode.ensures; tick = c.tick_in.ensures; files = all; free = c.free_in.ensures.value; channels = channels });
         meant =
-            let told : RecorderStatus = record { mode = c.mode_in-mode.result; tick = c.tick_in.result; files = c.count_in.result; free = c.free_in.result; channels = c.of.result } in
+            let reported : RecorderStatus = record { mode = c.mode_in-mode.result; tick = c.tick_in.result; files = c.count_in.result; free = c.free_in.result; channels = c.of.result } in
             let all : c.count_in.result ≡ length (files_of k.work) = files_all _ _ _ _ _ _ c.blocks-blocks.result c.count_in.result c.self.invariant c.blocks-blocks.ensures.value c.blocks-blocks.ensures.range.0 c.blocks-blocks.ensures.range.1 c.count_in.ensures in
             let channels : TellsLanes lane.quiet lane.spec_of (mode_of k.work) w.lanes.items k.erased c.of.result =
             subst (λ (ts : List LaneStatus). TellsLanes lane.quiet lane.spec_of (mode_of k.work) w.lanes.items k.erased ts) (sym c.of.ensures)
             (subst (λ (es : List ℕ). TellsLanes lane.quiet lane.spec_of (mode_of k.work) w.lanes.items es c.in-Ok.channels.items) c.as_slice.ensures.value
-            (subst (λ (x : Mode). TellsLanes lane.quiet lane.spec_of x w.lanes.items c.as_slice.result.now c.in-Ok.channels.items) c.mode_in-mode.ensures c.in-Ok.ensures.told)) in
-            let tells : TellsRecorder lane.quiet lane.spec_of k w.lanes.items told = record { mode = c.mode_in-mode.ensures; tick = c.tick_in.ensures; files = all; free = c.free_in.ensures.value; channels = channels } in
-            subst (λ (v : RecorderState _ _). (m : Machine) → KeptStandsFor v.kept (disk v.medium).blocks (disk v.medium).failures m → WaitQuietly lane.quiet v.lanes m.lanes → ◌≡◌ {A = RecorderStatus} told (without_lost (status_of v.kept.config m))) c.self.view_is
-            (λ m means waits. looks_alike lane.quiet lane.spec_of k (disk w.medium).blocks (disk w.medium).failures m w.lanes.items told means c.self.invariant.specs (numbered _ _ _ _ _ _ c.self.invariant) waits
+            (subst (λ (x : Mode). TellsLanes lane.quiet lane.spec_of x w.lanes.items c.as_slice.result.now c.in-Ok.channels.items) c.mode_in-mode.ensures c.in-Ok.ensures.reported)) in
+            let tells : TellsRecorder lane.quiet lane.spec_of k w.lanes.items reported = record { mode = c.mode_in-mode.ensures; tick = c.tick_in.ensures; files = all; free = c.free_in.ensures.value; channels = channels } in
+            subst (λ (v : RecorderState _ _). (m : Machine) → KeptStandsFor v.kept (disk v.medium).blocks (disk v.medium).failures m → WaitQuietly lane.quiet v.lanes m.lanes → ◌≡◌ {A = RecorderStatus} reported (without_lost (status_of v.kept.config m))) c.self.view_is
+            (λ m means waits. looks_alike lane.quiet lane.spec_of k (disk w.medium).blocks (disk w.medium).failures m w.lanes.items reported means c.self.invariant.specs (numbered _ _ _ _ _ _ c.self.invariant) waits
             (λ image x mode files. sym c.free_in.ensures.value ∙ c.free_in.ensures.held image x mode files) tells);
         steps =
             let now = disk w.medium in

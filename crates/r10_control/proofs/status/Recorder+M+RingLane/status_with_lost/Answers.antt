@@ -1,22 +1,22 @@
 use Rattle.std.proofs.Common.{◌≡◌, ℕ, List, length, sym, ap, ◌∙◌, subst}
 use Rattle.r10_machine.specs.Machine.{Lane, Machine}
 use Rattle.r10_machine.specs.declared.mode.Mode.{Mode}
-use Rattle.r10_refinement.specs.Kept.{mode_of}
+use Rattle.r10_refinement.specs.KeptState.{mode_of}
 use Rattle.r10_refinement.specs.Means.{KeptStandsFor}
 use Rattle.r10_control.specs.Checks.{files_of}
 use Rattle.r10_control.specs.Keeping.{kept_of}
 use Rattle.r10_control.specs.Lanes.{AreLanes, LeadsWith}
 use Rattle.r10_control.specs.Owns.{tick_count}
 use Rattle.r10_control.specs.State.{RecorderState}
-use Rattle.r10_control.specs.Told.{channels_in, free_in, status_in}
+use Rattle.r10_control.specs.RecorderStatus.{channels_in, free_in, status_in}
 use Rattle.r10_machine.specs.declared.event.Event.TheVariants as events
 use Rattle.r10_machine.specs.declared.reply.Reply.TheVariants as replies
 use Rattle.r10_machine.specs.declared.reply.Status.{Status}
 use Rattle.r10_control.proofs.Statuses.{files_all, made, numbered, status_leads}
 use Rattle.r10_control.proofs.status.Recorder+M+RingLane.status_with_lost.Goals as goal
 
-pub returns-clause-told : goal.returns-clause-told
-returns-clause-told g c =
+pub returns-clause-reported : goal.returns-clause-reported
+returns-clause-reported g c =
     let w = c.self.inside in
     let k = kept_of w.keeping in
     let all : c.count_in.result ≡ length (files_of k.work) = files_all _ _ _ _ _ _ c.blocks-blocks.result c.count_in.result c.self.invariant c.blocks-blocks.ensures.value c.blocks-blocks.ensures.range.0 c.blocks-blocks.ensures.range.1 c.count_in.ensures in

@@ -2,20 +2,20 @@ use Rattle.std.proofs.Common.{◌≢◌, sym, ◌∙◌}
 use Rattle.std.specs.Prelude.{IfSome}
 use Rattle.r10_cursor.specs.declared.written.Written.{Written}
 use Rattle.r10_cursor.proofs.Learned.{here_told, judging, none_told, other_told, telling, unread_so}
-use Rattle.r10_cursor.proofs.books.Books.learn.Goals.{After-finished_entry, in-Some+else-told-file, in_default}
+use Rattle.r10_cursor.proofs.books.Books.learn.Goals.{After-finished_entry, in-Some+else-reported-file, in_default}
 use Rattle.r10_cursor.proofs.books.Books.learn.Goals as goal
 use Rattle.r10_cursor.proofs.books.Books.learn.Given.{Over}
 
 -- the file isn't the one that is written
 other : (g : Over) (c : After-finished_entry g) → IfSome c.args.written (λ (w : Written). w.file ≢ c.args.file)
 other g c = elim c.match-written.branch [
-  | in-Some+else-told-file w ↦ other_told c.args.written w.in-Some.told c.args.file w.in-Some.is w.if-told-file.false
+  | in-Some+else-reported-file w ↦ other_told c.args.written w.in-Some.reported c.args.file w.in-Some.is w.if-reported-file.false
   | in_default w ↦ none_told c.args.written c.args.file w.in_default.is
 ]
 
-pub returns-then-told-file-clause-learned : goal.returns-then-told-file-clause-learned
-returns-then-told-file-clause-learned g c = λ judged.
-    telling (g.M.BlockMedium.disk c.args.medium.now).blocks c.args.directory.now c.args.written c.args.file c.args.self.now.kept.items 0 (here_told c.args.written c.in-Some.told c.args.file c.in-Some.is c.if-told-file.true)
+pub returns-then-reported-file-clause-learned : goal.returns-then-reported-file-clause-learned
+returns-then-reported-file-clause-learned g c = λ judged.
+    telling (g.M.BlockMedium.disk c.args.medium.now).blocks c.args.directory.now c.args.written c.args.file c.args.self.now.kept.items 0 (here_told c.args.written c.in-Some.reported c.args.file c.in-Some.is c.if-reported-file.true)
 
 pub returns-in-Some-finished_entry-clause-learned : goal.returns-in-Some-finished_entry-clause-learned
 returns-in-Some-finished_entry-clause-learned g c = λ judged.

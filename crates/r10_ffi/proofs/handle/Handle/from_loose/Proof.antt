@@ -19,7 +19,7 @@ use denote.Triple.Walked.{says, Stays, walk_of, stay_dropped, ends_at}
 use Rattle.std.proofs.alloc.Calls.{Goes-blank}
 use Rattle.std.specs.contracts.impls.GlobalAllocator.TheImpl.{ghosts}
 use Rattle.std.proofs.alloc.Global.TheLaws as heap_laws
-use Rattle.r10_ffi.proofs.Words.{both, Loose, loose_good, loose_out}
+use Rattle.r10_ends.proofs.Words.{both, Loose, loose_good, loose_out}
 use Rattle.r10_ffi.proofs.Handles.{Z, handle_in}
 use Rattle.r10_ffi.specs.contracts.held.LentRecorder.{the_row as R}
 use Rattle.r10_ffi.specs.contracts.handle.Handle.from_loose as f

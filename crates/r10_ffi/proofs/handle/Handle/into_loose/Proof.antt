@@ -21,7 +21,7 @@ use denote.Triple.Walked.{says, Stays, walk_of, stay_dropped, Goes-dropped, ends
 use Rattle.std.specs.contracts.impls.GlobalAllocator.TheImpl.{ghosts}
 use Rattle.std.proofs.alloc.Global.TheLaws as heap_laws
 use Rattle.r10_ends.proofs.There.{the_some}
-use Rattle.r10_ffi.proofs.Words.{both, Loose, loose_good, loose_in}
+use Rattle.r10_ends.proofs.Words.{both, Loose, loose_good, loose_in}
 use Rattle.r10_ffi.proofs.Handles.{Z, H, handle_out}
 use Rattle.r10_ffi.specs.declared.held.LentRecorder.{LentRecorder}
 use Rattle.r10_ffi.specs.contracts.held.LentRecorder.{the_row as R}

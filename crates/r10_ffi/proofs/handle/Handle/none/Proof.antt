@@ -21,7 +21,7 @@ use Rattle.std.proofs.alloc.Calls.{handle_tells}
 use Rattle.std.proofs.alloc.Global.TheLaws as heap_laws
 use Rattle.std.specs.contracts.impls.GlobalAllocator.TheImpl.{ghosts}
 use Rattle.r10_ffi.specs.contracts.held.LentRecorder.{the_row as R}
-use Rattle.r10_ffi.proofs.Words.{al, both}
+use Rattle.r10_ends.proofs.Words.{al, both}
 use Rattle.r10_ffi.proofs.Handles.{Z, none_in}
 use Rattle.r10_ffi.specs.contracts.handle.Handle.none as f
 use Rattle.r10_ffi.proofs.handle.Handle.none.Statement.{statement}

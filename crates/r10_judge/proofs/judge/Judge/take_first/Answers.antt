@@ -1,6 +1,6 @@
 use Rattle.std.proofs.Common.{sym, ◌∙◌, take}
 use Rattle.r10_judge.proofs.Judging.{still_broken}
-use Rattle.r10_judge.proofs.Parts.{ok_on}
+use Rattle.r10_judge.proofs.PartsOfBytes.{ok_on}
 use Rattle.r10_judge.proofs.judge.Judge.take_first.Goals as goal
 
 pub returns-then-is_broken-clause-taken : goal.returns-then-is_broken-clause-taken

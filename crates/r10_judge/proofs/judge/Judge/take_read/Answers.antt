@@ -30,14 +30,14 @@ returns-in-Strict-clause-taken c = λ before stands foreign finds short.
     let p = found.0 in
     let reads = found.1 in
     let answered : IsReportAnswered goes.packets c.args.packet.now = (c.is_answered.ensures goes.packets goes.tracked).0 c.if-not-is_answered.false in
-    let told = told_packet goes.packets c.args.packet.now p goes.keep.strict reads answered in
-    let q = told.0 in
-    let own = reads_retold c.args.packet.now p q told.1.retold told.1.fits reads in
+    let reported = told_packet goes.packets c.args.packet.now p goes.keep.strict reads answered in
+    let q = reported.0 in
+    let own = reads_retold c.args.packet.now p q reported.1.retold reported.1.fits reads in
     let is = framed c.args.packet.now q own in
     let same : c.args.packet.now ≡ packet_bytes q = its_bytes c.args.packet.now q foreign own in
     subst (λ (l : List ℕ). OnOk c.take_strict.result (TracksJudged c.take_strict.new.self (before ++ l))) (sym same)
-    (c.take_strict.ensures.taken before q goes own.1 told.1.told (subst (λ (l : List ℕ). IsReportAnswered goes.packets l) same answered) (facts_retold c.in-Strict.facts p q told.1.retold found.2)
-    (c.body_of.ensures is.sound ∙ is.body_is) told.1.fits (subst (λ (l : List ℕ). length (before ++ l) < 2 ^ 63) same short))
+    (c.take_strict.ensures.taken before q goes own.1 reported.1.reported (subst (λ (l : List ℕ). IsReportAnswered goes.packets l) same answered) (facts_retold c.in-Strict.facts p q reported.1.retold found.2)
+    (c.body_of.ensures is.sound ∙ is.body_is) reported.1.fits (subst (λ (l : List ℕ). length (before ++ l) < 2 ^ 63) same short))
 
 pub returns-in-Breaks-clause-taken : goal.returns-in-Breaks-clause-taken
 returns-in-Breaks-clause-taken c = λ before stands foreign finds short.

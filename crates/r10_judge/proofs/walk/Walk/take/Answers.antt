@@ -4,7 +4,7 @@ use Rattle.r10_blockout.proofs.Parting.{rest_is}
 use Rattle.r10_body.specs.Faults.{HasFault}
 use Rattle.r10_packet_rules.specs.Tracks.{TracksForeign}
 use Rattle.r10_judge.specs.Judged.{TellsAnswer, TracksJudged}
-use Rattle.r10_judge.proofs.Parts.{short_on, taken_on}
+use Rattle.r10_judge.proofs.PartsOfBytes.{short_on, taken_on}
 use Rattle.r10_judge.proofs.walk.Walk.take.Goals as goal
 
 pub returns-in-Err-clause-ends : goal.returns-in-Err-clause-ends

@@ -1,7 +1,7 @@
 use Rattle.std.proofs.Common.{sym, subst, ◌∙◌}
 use Rattle.r10_medium.specs.Disk.{Image, MayLeave}
 use Rattle.r10_medium.specs.CrashingParts.{crashing_disk}
-use Rattle.r10_medium.proofs.Left.{left_allowed}
+use Rattle.r10_medium.proofs.ChoicesAllowed.{left_allowed}
 use Rattle.r10_medium.proofs.crashing.Crashing.image.Goals as goal
 
 pub returns-clause-may_leave : goal.returns-clause-may_leave

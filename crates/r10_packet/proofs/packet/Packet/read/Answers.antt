@@ -1,7 +1,7 @@
 use Rattle.std.proofs.Common.{◌≡◌, ap, ◌∙◌, arith, rules}
 use Rattle.std.proofs.lemmas.Result.{err_from_is_err_and}
 use Rattle.r10_packet.specs.Framing.{has_lengths, header_at, data_sum_of}
-use Rattle.r10_packet.proofs.Kept.{HasLengths, lengths_of, sound_of, fault_in_header}
+use Rattle.r10_packet.proofs.NoRuleBroken.{HasLengths, lengths_of, sound_of, fault_in_header}
 use Rattle.r10_packet.proofs.Whole.{right_iff}
 use Rattle.r10_packet.proofs.packet.Packet.read.Goals as goal
 

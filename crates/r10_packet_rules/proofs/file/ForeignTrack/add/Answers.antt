@@ -1,5 +1,5 @@
 use Rattle.std.proofs.Common.{rules, refl}
-use Rattle.r10_packet_rules.proofs.Standing.{stands_more}
+use Rattle.r10_packet_rules.proofs.TrackSoFar.{stands_more}
 use Rattle.r10_packet_rules.proofs.file.ForeignTrack.add.Goals as goal
 
 pub returns : goal.returns

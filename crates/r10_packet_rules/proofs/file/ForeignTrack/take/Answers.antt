@@ -1,5 +1,5 @@
 use Rattle.std.proofs.Common.{refl}
-use Rattle.r10_packet_rules.proofs.Standing.{stands_faulty}
+use Rattle.r10_packet_rules.proofs.TrackSoFar.{stands_faulty}
 use Rattle.r10_packet_rules.proofs.file.ForeignTrack.take.Goals as goal
 
 pub returns-in-Err-clause-faulty : goal.returns-in-Err-clause-faulty

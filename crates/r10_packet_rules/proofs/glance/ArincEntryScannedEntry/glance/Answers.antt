@@ -4,14 +4,14 @@ use Rattle.r10_packet_rules.proofs.glance.ArincEntryScannedEntry.glance.Goals as
 
 pub returns-then-gap-gt-LONGEST_GAP-clause-none : goal.returns-then-gap-gt-LONGEST_GAP-clause-none
 returns-then-gap-gt-LONGEST_GAP-clause-none c = λ e rest fits suits is.
-    let told = arinc_told c.args.before c.args.bytes.now c.in-Some.rest.now rest c.in-Some.header c.in-Some._word e (search rules) (search rules) fits is in
-    omega (arith, c.if-gap-gt-LONGEST_GAP.true, told.0)
+    let reported = arinc_told c.args.before c.args.bytes.now c.in-Some.rest.now rest c.in-Some.header c.in-Some._word e (search rules) (search rules) fits is in
+    omega (arith, c.if-gap-gt-LONGEST_GAP.true, reported.0)
 
 pub returns-in_default-of-clause-none : goal.returns-in_default-of-clause-none
 returns-in_default-of-clause-none c = λ e rest fits suits is.
-    let told = arinc_told c.args.before c.args.bytes.now c.in-Some.rest.now rest c.in-Some.header c.in-Some._word e (search rules) (search rules) fits is in
+    let reported = arinc_told c.args.before c.args.bytes.now c.in-Some.rest.now rest c.in-Some.header c.in-Some._word e (search rules) (search rules) fits is in
     let count : e.count < 2 ^ 48 = fits.fields.count in
-    c.in_default-of.ensures (omega (arith, c.saturating_add.ensures, c.from.ensures, told.1, count))
+    c.in_default-of.ensures (omega (arith, c.saturating_add.ensures, c.from.ensures, reported.1, count))
 
 pub returns-clause-found : goal.returns-clause-found
 returns-clause-found c =

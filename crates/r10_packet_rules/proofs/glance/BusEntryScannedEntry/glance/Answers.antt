@@ -12,23 +12,23 @@ returns-in_default-clause-none c = λ e rest fits suits is.
 pub returns-then-front-clause-none : goal.returns-then-front-clause-none
 returns-then-front-clause-none c = λ e rest fits suits is.
     let found = c.in-Some.ensures.found in
-    let told = bus_told c.args.bytes.now found.0 c.in-Some.front.rest.now rest c.in-Some.front.count c.in-Some.front.status c.in-Some.front.gap c.in-Some.front.size e
+    let reported = bus_told c.args.bytes.now found.0 c.in-Some.front.rest.now rest c.in-Some.front.count c.in-Some.front.status c.in-Some.front.gap c.in-Some.front.size e
     (search rules) (search rules) (search rules) (search rules) found.3 fits is in
-    c.if-front.true (rw told.0 fits.status)
+    c.if-front.true (rw reported.0 fits.status)
 
 pub returns-then-front-eq1-clause-none : goal.returns-then-front-eq1-clause-none
 returns-then-front-eq1-clause-none c = λ e rest fits suits is.
     let found = c.in-Some.ensures.found in
-    let told = bus_told c.args.bytes.now found.0 c.in-Some.front.rest.now rest c.in-Some.front.count c.in-Some.front.status c.in-Some.front.gap c.in-Some.front.size e
+    let reported = bus_told c.args.bytes.now found.0 c.in-Some.front.rest.now rest c.in-Some.front.count c.in-Some.front.status c.in-Some.front.gap c.in-Some.front.size e
     (search rules) (search rules) (search rules) (search rules) found.3 fits is in
-    omega (arith, c.if-front-eq1.true, told.1)
+    omega (arith, c.if-front-eq1.true, reported.1)
 
 pub returns-then-front-gt-MOST_BYTES-clause-none : goal.returns-then-front-gt-MOST_BYTES-clause-none
 returns-then-front-gt-MOST_BYTES-clause-none c = λ e rest fits suits is.
     let found = c.in-Some.ensures.found in
-    let told = bus_told c.args.bytes.now found.0 c.in-Some.front.rest.now rest c.in-Some.front.count c.in-Some.front.status c.in-Some.front.gap c.in-Some.front.size e
+    let reported = bus_told c.args.bytes.now found.0 c.in-Some.front.rest.now rest c.in-Some.front.count c.in-Some.front.status c.in-Some.front.gap c.in-Some.front.size e
     (search rules) (search rules) (search rules) (search rules) found.3 fits is in
-    omega (arith, c.if-front-gt-MOST_BYTES.true, told.1, fits.few)
+    omega (arith, c.if-front-gt-MOST_BYTES.true, reported.1, fits.few)
 
 pub returns-clause-found : goal.returns-clause-found
 returns-clause-found c =

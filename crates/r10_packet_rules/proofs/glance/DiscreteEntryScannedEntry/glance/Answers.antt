@@ -8,8 +8,8 @@ returns-in_default-clause-none c = λ e rest fits suits is. c.in_default.ensures
 
 pub returns-then-not-has_only-clause-none : goal.returns-then-not-has_only-clause-none
 returns-then-not-has_only-clause-none c = λ e rest fits suits is.
-    let told = discrete_told c.args.bytes.now c.in-Some.change.rest.now rest c.in-Some.change.count c.in-Some.change.states e (search rules) (search rules) c.in-Some.ensures.found fits is in
-    let no : has_only c.args.setting e.message.states ≡ false = sym (ap (has_only c.args.setting) told) ∙ sym c.has_only.ensures ∙ c.if-not-has_only.true in
+    let reported = discrete_told c.args.bytes.now c.in-Some.change.rest.now rest c.in-Some.change.count c.in-Some.change.states e (search rules) (search rules) c.in-Some.ensures.found fits is in
+    let no : has_only c.args.setting e.message.states ≡ false = sym (ap (has_only c.args.setting) reported) ∙ sym c.has_only.ensures ∙ c.if-not-has_only.true in
     absurd (cc (no, suits))
 
 pub returns-clause-found : goal.returns-clause-found

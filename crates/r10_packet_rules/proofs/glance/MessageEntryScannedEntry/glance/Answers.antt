@@ -12,4 +12,4 @@ returns-in_default-clause-none c = λ e rest fits suits is.
 pub returns-clause-found : goal.returns-clause-found
 returns-clause-found c =
     let found = c.in-Some.ensures.found in
-    message_glimpse c.args.setting c.args.before c.args.bytes.now c.in-Some.front.text.now c.in-Some.front.rest.now c.in-Some.front.count c.in-Some.front.header c.of-header.result (search rules) c.of-header.ensures.fits c.of-header.ensures.told found.0 found.1
+    message_glimpse c.args.setting c.args.before c.args.bytes.now c.in-Some.front.text.now c.in-Some.front.rest.now c.in-Some.front.count c.in-Some.front.header c.of-header.result (search rules) c.of-header.ensures.fits c.of-header.ensures.reported found.0 found.1

@@ -14,8 +14,8 @@ invariant_of-self-2 c =
       linked = linked_anew first (sent line.links) _ _ _ c.push_reserved-2.ensures.sent.0 c.is_full.ensures.looked.1 line.linked (ap (λ (p : _). name_of p.end) c.replace-before.ensures.value ∙ line.last);
     }
 
-pub returns-clause-told : goal.returns-clause-told
-returns-clause-told c =
+pub returns-clause-reported : goal.returns-clause-reported
+returns-clause-reported c =
     told_anew (sent c.args.self.now.links) _ _ _ _ _ c.args.operation c.push_reserved-2.ensures.sent.0 c.is_full.ensures.looked.1 (ap sent c.replace-before.ensures.value)
     (ap sent c.replace-before.ensures.after ∙ c.push_reserved.ensures.sent.0 ∙ ap (λ (xs : List OperationValue). xs ++ c.args.operation ∷ []) c.in-Some.spare.fresh.0)
 

@@ -23,7 +23,7 @@ returns-in-Some-Write c =
         known = takes.known ∙ ap (λ (xs : List OperationValue). Write first bytes ∷ xs) j.takes.known;
       }) (record {
         all_join = subst (λ (n : ℕ). AllJoin first 1 (n / 512) j.ops) long j.all_join;
-        told = ap (λ (n : ℕ). record { block = first; blocks = n; kind = 1 }) j.blocks_are;
+        reported = ap (λ (n : ℕ). record { block = first; blocks = n; kind = 1 }) j.blocks_are;
         lent = j.lent ∙ ap (λ (xs : List ℕ). put_all_in_run first j.ops (xs ++ drop 512 c.args.bytes.now)) are;
       });
     }

@@ -12,7 +12,7 @@ pub returns-then-not-move_on : goal.returns-then-not-move_on
 returns-then-not-move_on c =
     let look = c.slots_beside-further in let l = c.args.line.now in let moves = c.move_on.ensures in let q = moves.queue in
     reached_more l _ c.args.self.now c.move_on.new.self (known_items look.new.self)
-    (record { links = name_is l.links.end look.new.producer.end look.ensures.producer.0.0; first = refl; told = ap (λ (ls : List Link). told_before ls ++ sent l.ring) look.ensures.producer.1 })
+    (record { links = name_is l.links.end look.new.producer.end look.ensures.producer.0.0; first = refl; reported = ap (λ (ls : List Link). told_before ls ++ sent l.ring) look.ensures.producer.1 })
     (record { links = q.links ∙ name_is c.args.self.now.links.end look.new.self.end look.ensures.looked.0.0; first = q.first; was = q.was; news = q.news; spares = q.spares; room = q.room })
     moves.same (ap (λ (x : _). received x ++ known_items look.new.self) moves.links ∙ look.ensures.fifo) (on_false _ _ c.move_on.result moves.has c.if-not-move_on.true)
 

@@ -11,8 +11,8 @@ use Rattle.r10_timebody.proofs.body.TimeBody.decode.Goals as goal
 no_civil : (c : goal.In_default-civil_in) → (civil : PartsValue) → IsTime civil c.args.body.now → ⊥
 no_civil c civil h =
     let whole : c.in-Ok.body ≡ c.args.body.now = c.in-Ok.ensures.1.same in
-    let told : told_parts c.in-Ok.body ≡ civil = ap told_parts whole ∙ told_parts-IsTime civil c.args.body.now h in
-    c.in_default-civil_in.ensures (subst (λ p. IsCivil p) (sym told) h.0)
+    let reported : told_parts c.in-Ok.body ≡ civil = ap told_parts whole ∙ told_parts-IsTime civil c.args.body.now h in
+    c.in_default-civil_in.ensures (subst (λ p. IsCivil p) (sym reported) h.0)
 
 -- the bytes are not those of the civil time that the digits tell
 same_bytes : (bytes : List ℕ) → pointwise eqb bytes bytes ≡ true
@@ -22,8 +22,8 @@ same_bytes (b ∷ bytes) = rw (eq-eqb b b refl) (same_bytes bytes)
 other_bytes : (c : goal.Else-eq) → (civil : PartsValue) → IsTime civil c.args.body.now → ⊥
 other_bytes c civil h =
     let whole : c.in-Ok.body ≡ c.args.body.now = c.in-Ok.ensures.1.same in
-    let told : c.in-Some.civil ≡ civil = c.in-Some.ensures.1 ∙ ap told_parts whole ∙ told_parts-IsTime civil c.args.body.now h in
-    let bytes : c.encode.result ≡ c.in-Ok.body = c.encode.ensures ∙ ap time_body told ∙ sym h.1 ∙ sym whole in
+    let reported : c.in-Some.civil ≡ civil = c.in-Some.ensures.1 ∙ ap told_parts whole ∙ told_parts-IsTime civil c.args.body.now h in
+    let bytes : c.encode.result ≡ c.in-Ok.body = c.encode.ensures ∙ ap time_body reported ∙ sym h.1 ∙ sym whole in
     let both : false ≡ true = c.if-eq.ensures ∙ ap (λ t. pointwise eqb t c.in-Ok.body) bytes ∙ same_bytes c.in-Ok.body in
     cc
 

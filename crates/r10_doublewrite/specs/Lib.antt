@@ -1,0 +1,5 @@
+pub mod Layer
+pub mod Guarding
+pub mod Last
+pub mod LayerDisk
+pub mod Opening

@@ -1,0 +1,4 @@
+pub mod Sides
+pub mod Held
+pub mod Plate
+pub mod Stored

@@ -1,0 +1,6 @@
+mod Entering
+mod Looking
+mod Counting
+mod Stretches
+mod Verdicts
+mod Taking
