@@ -22,6 +22,8 @@ give_up() {
 }
 
 command -v dpkg-deb >/dev/null || give_up 3 "there is no dpkg-deb"
+# shellcheck source=scripts/build/wants.sh
+. "$top/scripts/build/wants.sh"
 # shellcheck source=scripts/build/about.sh
 . "$top/scripts/build/about.sh"
 made=$(mktemp -d)
@@ -69,7 +71,7 @@ SCRIPT
 
 # Whether all of it is proved that is installed below a folder, by its first lines.
 is_proved() {
-    [ "$(head -n 2 "$1/usr/share/r10/installed" | grep -c ' (proved), ')" = 2 ]
+    [ "$(head -n 3 "$1/usr/share/r10/installed" | grep -c ' (proved), ')" = 3 ]
 }
 
 # How large it is when it is installed, in KiB, as Debian reckons: by its files, whatever the file system.
@@ -82,16 +84,20 @@ make_package() {
     local version architecture package root=$made/root programs depends multiarch lines doc
     version=$(cat "$top/VERSION")
     architecture=$(dpkg --print-architecture)
-    multiarch=$(dpkg-architecture -qDEB_HOST_MULTIARCH 2>/dev/null) || multiarch=$(gcc -print-multiarch)
+    want_python deb
+    multiarch=$(dpkg-architecture -qDEB_HOST_MULTIARCH 2>/dev/null) || {
+        want_commands deb gcc
+        multiarch=$(gcc -print-multiarch)
+    }
     SOURCE_DATE_EPOCH=$(time_of)
     export SOURCE_DATE_EPOCH
     R10_LIBDIR=lib/$multiarch "$top/scripts/install.sh" /usr "$root" >&2
     if ! is_proved "$root"; then
-        [ -n "$unproved" ] || give_up 1 "the program or the library is not proved (scripts/build.sh and scripts/ffi.sh build prove \
+        [ -n "$unproved" ] || give_up 1 "a program or the library is not proved (scripts/build.sh and scripts/ffi.sh build prove \
 them); a package of it is made with --unproved alone"
         version=$version~unproved
     fi
-    lines=$(head -n 2 "$root/usr/share/r10/installed" | fold -s -w 76 | sed 's/^/ /; s/ *$//')
+    lines=$(head -n 3 "$root/usr/share/r10/installed" | fold -s -w 76 | sed 's/^/ /; s/ *$//')
     # (the list is for scripts/install.sh alone: here dpkg keeps one)
     rm "$root/usr/share/r10/installed"
     find "$root/usr/share/man" -type f -exec gzip -9n {} +
@@ -108,7 +114,7 @@ them); a package of it is made with --unproved alone"
     } | gzip -9n >"$doc/changelog.gz"
     mkdir -p "$root/DEBIAN" "$root/usr/share/lintian/overrides"
     install -m 644 "$top/scripts/build/lintian.txt" "$root/usr/share/lintian/overrides/r10"
-    programs=("$root/usr/bin/r10" "$root/usr/lib/$multiarch"/libr10.so.*)
+    programs=("$root/usr/bin/r10" "$root/usr/bin/r10-survey" "$root/usr/lib/$multiarch"/libr10.so.*)
     depends=
     if [ -e "$root/usr/bin/r10d" ]; then
         programs+=("$root/usr/bin/r10d" "$root/usr/bin/r10ctl")
@@ -194,10 +200,18 @@ try_package() {
     [[ $said != *" r10 $(cat "$top/VERSION") (not proved), "* ]] || suffix=' (not proved)'
     [ "$("${into[@]}" chroot "$root" /usr/bin/r10 --version)" = "r10 $(cat "$top/VERSION")$suffix" ] ||
         give_up 1 "r10 in that root has another version"
+    suffix=
+    [[ $said != *" r10-survey $(cat "$top/VERSION") (not proved), "* ]] || suffix=' (not proved)'
+    [ "$("${into[@]}" chroot "$root" /usr/bin/r10-survey --version)" = "r10-survey $(cat "$top/VERSION")$suffix" ] ||
+        give_up 1 "r10-survey in that root has another version"
+    "${into[@]}" chroot "$root" /usr/bin/r10-survey <"$top/crates/r10_surveyor/stdin" | cmp - "$top/crates/r10_surveyor/stdout" ||
+        give_up 1 "r10-survey in that root prints another thing"
     [[ $said != *"(not proved), "* || $(dpkg-deb -f "$1" Version) = *~unproved ]] ||
         give_up 1 "its version does not say that something in it is not proved"
     if [ -e "$root/usr/bin/r10d" ]; then
-        "${into[@]}" chroot "$root" /usr/bin/r10d --version | grep -qx "r10d $(cat "$top/VERSION")" ||
+        suffix=
+        [[ $said != *" libr10 $(cat "$top/VERSION") (not proved), "* ]] || suffix=' (not proved)'
+        [ "$("${into[@]}" chroot "$root" /usr/bin/r10d --version)" = "r10d $(cat "$top/VERSION")$suffix" ] ||
             give_up 1 "r10d in that root has another version"
         ! command -v systemd-sysusers >/dev/null || grep -q '^r10:x:' "$root/etc/passwd" || give_up 1 "there is no user r10"
         [ -f "$root/lib/systemd/system/r10d.service" ] && [ -z "$(find "$root/etc" -name 'r10d*')" ] ||

@@ -13,9 +13,10 @@
 #     scripts/ffi.sh random CALLS [SEED]         # random calls under the address sanitizer, a tenth of them under valgrind, and
 #                                                # scripts of 1,000 beside `r10 sim`
 #     scripts/ffi.sh check                       # runs both, ffi/calls.c, which calls each function, also as C++, ffi/flight.c,
-#                                                # ffi/disk.c, ffi/commits.c, ffi/accounts.c, ffi/refused.c, ffi/media.c,
-#                                                # ffi/media_in_row.c, ffi/parts.c, ffi/memory.c, ffi/ports.c and ffi/log.c, and
-#                                                # compares what they print with ffi/*.expected; ffi/port_load.c, for its sums;
+#                                                # ffi/disk.c, ffi/commits.c, ffi/accounts.c, ffi/aside.c, ffi/refused.c,
+#                                                # ffi/media.c, ffi/media_in_row.c, ffi/parts.c, ffi/memory.c,
+#                                                # ffi/ports.c and ffi/log.c, and compares what they print
+#                                                # with ffi/*.expected; ffi/port_load.c, for its sums;
 #                                                # runs the rows
 #     scripts/ffi.sh kept                        # prints where the library is: the proved one if it is there, else one that is not
 #                                                # proved
@@ -268,7 +269,7 @@ check() {
         c_example commits.c "$room/commits"
         "$room/commits" >"$room/commits.out" || give_up "commits: status $?"
         compare commits.expected "$room/commits.out"
-        for trial in accounts refused media media_in_row parts memory ports; do
+        for trial in accounts aside refused media media_in_row parts memory ports; do
             c_example "$trial.c" "$room/$trial"
             "$room/$trial" >"$room/$trial.out" || give_up "$trial: status $?"
             compare "$trial.expected" "$room/$trial.out"
@@ -347,9 +348,13 @@ installed() {
         return
     fi
     "$top/scripts/rows/flight.sh" check "$program" || return 1
-    R10_BUILDS=$room/builds "$top/scripts/build/quick_build.py" --proved "$program" || return 1
+    "$top/scripts/trials/ch10_mend.py" check "$program" || return 1
+    R10_BUILDS=$room/builds "$top/scripts/build/quick_build.py" --proved "$program" &&
+        R10_BUILDS=$room/builds "$top/scripts/build/quick_build.py" --survey --proved "$top/crates/r10_surveyor/out/r10_surveyor" ||
+        return 1
     over_builds install "installation and package of what was proved" &&
         over_builds program "readers and writers that fail, a long script, and a large medium" &&
+        over_builds survey "lines and status of r10-survey" &&
         over_builds words "rows, help, and the lines that help shows" &&
         over_builds first_hour "odd folders, wrong inputs, outputs that take nothing"
 }
@@ -357,6 +362,7 @@ installed() {
 # Keeps the program that this gate proved, so that ./r10 runs it, where its sources are those of the gate's beginning.
 keep_proved() {
     "$top/scripts/build/quick_build.py" --proved "$top/crates/r10_cli/out/r10_cli" --of "$1" --since "$2" &&
+        "$top/scripts/build/quick_build.py" --survey --proved "$top/crates/r10_surveyor/out/r10_surveyor" --of "$3" --since "$2" &&
         echo "ffi: ./r10 runs the program that was proved"
 }
 
@@ -390,9 +396,10 @@ make_meanwhile() {
 # are sessions of the program that do not end, or whose accounts do not add up. So is an edit of the gate that its clause does not
 # refuse: these are tried over the same libraries, beside the programs.
 behind_ci() {
-    local status last spare made service edits began of
+    local status last spare made service edits began of of_survey
     began=$(date +%s.%N)
     of=$("$top/scripts/build/quick_build.py" --named) || of=
+    of_survey=$("$top/scripts/build/quick_build.py" --survey --named) || of_survey=
     spare=$("$top/scripts/build/provers.py" --beside 3000000000)
     (cd "$top" && exec rt ci) | make_meanwhile | but_the_last "$room/last"
     status=${PIPESTATUS[0]}
@@ -417,7 +424,7 @@ behind_ci() {
         installed || status=1
         "$top/scripts/trials/hammer.py" --gate || status=1
         "$top/scripts/trials/refuse_memory.py" || status=1
-        [ "$status" != 0 ] || keep_proved "$of" "$began"
+        [ "$status" != 0 ] || keep_proved "$of" "$began" "$of_survey"
         [ "$status" = 0 ] || last=$(sed 's/^\([0-9]* passed, \)[0-9]* failed/\11 failed/' "$room/last")
     fi
     printf '%s\n' "$last"

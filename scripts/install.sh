@@ -1,7 +1,7 @@
 #!/usr/bin/env bash
-# Installs r10: the program, the library for C and Rust (static and shared), its header and r10.pc, the filters as ch10, the service
-# r10d with r10ctl and its unit for systemd, the manual pages, completions for bash and zsh, the documents for users, and a
-# copyright file with the licences of what is built in.
+# Installs r10: the programs r10 and r10-survey, the library for C and Rust (static and shared), its header and r10.pc, the filters
+# as ch10, the service r10d with r10ctl and its unit for systemd, the manual pages, completions for bash and zsh, the documents for
+# users, and a copyright file with the licences of what is built in.
 #
 #     scripts/install.sh [PREFIX] [DESTDIR]               # below /usr/local, or below DESTDIR/PREFIX for a package; libraries go
 #                                                         # to PREFIX/lib, or to the folder of PREFIX that R10_LIBDIR names
@@ -10,7 +10,7 @@
 # It takes the proved builds where they are there and of the sources as they stand (scripts/build.sh, scripts/ffi.sh build), else
 # those without proofs, and says so: their version has `(not proved)`. Programs are stripped, and have a note with their commit and
 # toolchain (scripts/build/about.sh). Where r10d cannot be built (no cargo, or not its crates), a line says so, and the rest is
-# installed. What was installed stands in PREFIX/share/r10/installed, after a line for the program and one for the library. Without
+# installed. What was installed stands in PREFIX/share/r10/installed, after a line for each program and one for the library. Without
 # leave to write, or room, that is one line, and status 3; then nothing is changed.
 set -eu
 # what is installed is for all users, whatever the caller's mask
@@ -85,6 +85,9 @@ want_commands install cc ld ar nm objcopy strip
 facts=$("$top/scripts/build/quick_build.py" --about) || exit 3
 { IFS= read -r program && IFS= read -r proved && IFS= read -r toolchain; } <<<"$facts"
 [ "$proved" = proved ] || echo "(the program that is installed is not proved: scripts/build.sh makes the proved one)" >&2
+facts=$("$top/scripts/build/quick_build.py" --survey --about) || exit 3
+{ IFS= read -r survey && IFS= read -r survey_proved && IFS= read -r survey_toolchain; } <<<"$facts"
+[ "$survey_proved" = proved ] || echo "(r10-survey, which is installed, is not proved: scripts/build.sh makes the proved one)" >&2
 
 # All is made whole in a folder of its own first.
 made=$(mktemp -d)
@@ -95,6 +98,7 @@ mkdir -p "$whole$prefix/bin" "$share/r10/scripts" "$share/doc/r10" "$share/man" 
     "$share/bash-completion/completions" "$share/zsh/site-functions"
 
 install -m 755 "$program" "$whole$prefix/bin/r10"
+install -m 755 "$survey" "$whole$prefix/bin/r10-survey"
 "$top/scripts/ffi.sh" install "$prefix" "$whole" || exit 3
 
 # The filters, as a package, and their start.
@@ -111,13 +115,15 @@ program_line=$(about r10 "$proved" "$toolchain")
 library_line=$(sed -n 's/^proved=//p' "$whole$prefix/${R10_LIBDIR:-lib}/pkgconfig/r10.pc")
 library_line=$(about libr10 "$library_line" "$(rt version)")
 strip --strip-unneeded "$whole$prefix/bin/r10" && put_note "$program_line" "$whole$prefix/bin/r10" || exit 3
+survey_line=$(about r10-survey "$survey_proved" "$survey_toolchain")
+strip --strip-unneeded "$whole$prefix/bin/r10-survey" && put_note "$survey_line" "$whole$prefix/bin/r10-survey" || exit 3
 for name in r10d r10ctl; do
     [ ! -e "$whole$prefix/bin/$name" ] || put_note "$name $version over $library_line" "$whole$prefix/bin/$name" || exit 3
 done
 # (nothing is run out of that folder: it may lie where nothing can be)
 service=()
 [ ! -e "$whole$prefix/bin/r10d" ] || service=("$top/out/recorder/target/release")
-"$top/scripts/tools/manual.py" "$program" "$top/scripts/ch10.py" "$made/manual" "${service[@]}" || exit 3
+"$top/scripts/tools/manual.py" "$program" "$survey" "$top/scripts/ch10.py" "$made/manual" "${service[@]}" || exit 3
 cp -r "$made/manual/"man? "$share/man"
 cp "$made/manual/bash/"* "$share/bash-completion/completions"
 cp "$made/manual/zsh/"* "$share/zsh/site-functions"
@@ -142,7 +148,7 @@ chmod -R u=rwX,go=rX "$whole"
     echo "$prefix/share/r10/installed"
 ) | LC_ALL=C sort -u >"$made/installed"
 {
-    printf '%s\n' "$program_line" "$library_line"
+    printf '%s\n' "$program_line" "$library_line" "$survey_line"
     cat "$made/installed"
 } >"$share/r10/installed"
 chmod 644 "$share/r10/installed"

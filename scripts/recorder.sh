@@ -65,10 +65,12 @@ crate() {
     echo "$to/Cargo.toml"
 }
 
-# cargo over the library, in a folder of its own. What is built has no path of this machine in it.
+# cargo over the library, in a folder of its own. What is built has no path of this machine in it. Over a library that is not proved
+# its version says so.
 build_by() {
     local manifest flags
     manifest=$(crate) || return
+    if [ -f "$library.proved" ]; then export R10_PROVED=yes; else unset R10_PROVED; fi
     flags=$(printf -- '--remap-path-prefix=%s=/r10\x1f--remap-path-prefix=%s=/cargo' "$top" \
         "${CARGO_HOME:-${HOME:-/root}/.cargo}")
     CARGO_ENCODED_RUSTFLAGS=$flags R10_LIB_DIR=$library R10_STATIC=1 CARGO_TARGET_DIR=$top/out/recorder/target \
@@ -76,16 +78,21 @@ build_by() {
 }
 
 # The folder with libr10.a: one of its own, in which the file changes only if its bytes do, so that nothing is built anew. The note
-# of an installed one, which names a commit, is left out.
+# of an installed one, which names a commit, is left out. A file beside the folder says that the library is the proved one: by that
+# note, or as scripts/ffi.sh knows it.
 library() {
-    local made=${R10_LIB_DIR:-} kept=$top/out/recorder/lib
+    local made=${R10_LIB_DIR:-} kept=$top/out/recorder/lib proved=
     if [ -z "$made" ]; then
         made=$("$top/scripts/ffi.sh" build "$@" --shared) || return
+        [ "$("$top/scripts/ffi.sh" proved)" != "$made" ] || proved=yes
         made=$(dirname "$made")
+    elif readelf -p .note.r10 "$made/libr10.a" 2>/dev/null | grep -q 'libr10 [0-9.]* (proved), '; then
+        proved=yes
     fi
     # (made beside that folder, since cargo builds anew where the folder itself has changed)
     mkdir -p "$kept" && objcopy -D --remove-section .note.r10 "$made/libr10.a" "$kept.new" || return
     if cmp -s "$kept.new" "$kept/libr10.a"; then rm "$kept.new"; else mv "$kept.new" "$kept/libr10.a"; fi || return
+    if [ -n "$proved" ]; then touch "$kept.proved"; else rm -f "$kept.proved"; fi || return
     echo "$kept"
 }
 

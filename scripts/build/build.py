@@ -1,8 +1,8 @@
 #!/usr/bin/env python3
 """Proves crates of this repository side by side. scripts/build.sh calls this, and scripts/ffi.sh for the library.
 
-    scripts/build/build.py [LANES] [--crate NAME]    proves the crates that NAME stands on, and NAME (r10_cli, the program, where
-                                                     none is named)
+    scripts/build/build.py [LANES] [--crate NAME]    proves the crates that NAME stands on, and NAME (r10_cli and r10_surveyor, the
+                                                     programs, where none is named)
 
 Of r10_bench, which is a library, it makes a program: crates/r10_bench/out/r10_bench.
 
@@ -35,7 +35,8 @@ from typing import NoReturn
 
 sys.dont_write_bytecode = True
 
-from quick_build import MEASURED, PROGRAM, PROVED, TOP, Kept, below, give_up, make_main, note, remove, say  # noqa: E402
+from quick_build import MEASURED, PROGRAM, PROVED_OF, SURVEYOR, TOP, Kept, below, give_up  # noqa: E402
+from quick_build import make_main, note, remove, say  # noqa: E402
 from toolchain import Fault, answer_once, kit, tool  # noqa: E402
 
 # What one proof is reckoned to take: most take 1 to 3 GB, and few are so large at the same time.
@@ -151,17 +152,16 @@ class Crates:
 
 
 class Build:
-    """The proofs of a crate and of those below it."""
+    """The proofs of some crates and of those below them."""
 
-    def __init__(self, name: str, lanes: int) -> None:
-        self.name, self.lanes = name, lanes
+    def __init__(self, names: list[str], lanes: int) -> None:
+        self.names, self.lanes = names, lanes
         # how many jobs at once, in all crates
         self.jobs = max(lanes, min(2 * lanes - 1, free_memory() // MEMORY))
         self.rtlib = tool(kit())
         self.place = place_of_lanes()
-        self.named = {it: deps for it, deps in named().items() if it in below(name)}
-        if name not in self.named:
-            give_up('crates.txt has no crate ' + name, 2)
+        wanted = set().union(*(below(name) for name in names))
+        self.named = {it: deps for it, deps in named().items() if it in wanted}
         self.under: dict[str, set[str]] = {}
         for it in self.named:
             self.below(it)
@@ -228,11 +228,11 @@ class Build:
                     remove(other)
                 if one.is_dir():
                     shutil.copytree(one, other)
-                elif one.is_file() and name == self.name:
+                elif one.is_file() and name in self.names:
                     other.parent.mkdir(parents=True, exist_ok=True)
                     shutil.copy2(one, other)
-        if self.name in MEASURED:
-            make_main(lane, self.name)
+        for name in MEASURED.keys() & set(self.names):
+            make_main(lane, name)
 
     def is_program(self, name: str) -> bool:
         """Whether a program is made of a crate."""
@@ -278,8 +278,9 @@ class Build:
         words = ['setpriv', '--pdeathsig', 'TERM'] if shutil.which('setpriv') else []
         words += [sys.executable, str(TOP / 'scripts' / 'build' / 'rt_once.py')]
         words += ['run'] if is_program else ['lib', '--statements']
-        # (a program that measures has a number of messages to be run with)
-        words += ['--jobs', str(jobs), *(['--', '1'] if name in MEASURED else [])]
+        # (a program that measures has a number of messages to be run with; the survey of a damaged recording ends with status 1)
+        given_words = ['--', '1'] if name in MEASURED else ['--', '--help'] if name == SURVEYOR else []
+        words += ['--jobs', str(jobs), *given_words]
         given = folder / 'stdin'
         with open(given if is_program and given.is_file() else os.devnull, 'rb') as stdin, open(self.log(name), 'wb') as log:
             # (in a session of its own, so that all that it started can be ended)
@@ -351,7 +352,7 @@ class Build:
         """Proves all."""
         done = self.take_over()
         lanes = min(self.lanes, len(self.named) - len(done))
-        say('(%s: crates in all %d, proved already %d; side by side %d)' % (self.name, len(self.named), len(done), lanes))
+        say('(%s: crates in all %d, proved already %d; side by side %d)' % (self.names[0], len(self.named), len(done), lanes))
         for number in range(lanes):
             self.copy_sources(self.lane(number))
         while len(done) < len(self.named):
@@ -390,15 +391,20 @@ def main() -> None:
     """Does what the words ask for."""
     parser = argparse.ArgumentParser(description=__doc__, formatter_class=argparse.RawDescriptionHelpFormatter)
     parser.add_argument('lanes', nargs='?', default='', metavar='LANES')
-    parser.add_argument('--crate', default=PROGRAM, metavar='NAME')
+    parser.add_argument('--crate', metavar='NAME')
     words = parser.parse_args()
     if words.lanes and (not words.lanes.isdecimal() or int(words.lanes) == 0):
         give_up('how many crates side by side is a number from 1: scripts/build.sh [LANES]', 2)
     for number in (signal.SIGTERM, signal.SIGHUP, signal.SIGINT):
         signal.signal(number, end)
     since = time.time()
+    listed = named()
+    names = [words.crate] if words.crate else [it for it in PROVED_OF if it == PROGRAM or it in listed]
+    for name in names:
+        if name not in listed:
+            give_up('crates.txt has no crate ' + name, 2)
     try:
-        build = Build(words.crate, int(words.lanes) if words.lanes else lanes_that_fit())
+        build = Build(names, int(words.lanes) if words.lanes else lanes_that_fit())
         build.place.mkdir(parents=True, exist_ok=True)
         with open(build.place / 'lock', 'a', encoding='utf-8') as lock:
             try:
@@ -406,24 +412,24 @@ def main() -> None:
             except BlockingIOError:
                 note('(another call proves: this one waits for it)')
                 fcntl.flock(lock, fcntl.LOCK_EX)
-            kept = Kept(PROVED, PROGRAM)
-            before = kept.named()
+            kept = [Kept(PROVED_OF[it], it) for it in names if it in PROVED_OF]
+            before = [it.named() for it in kept]
             try:
                 build.run()
             finally:
                 build.end_all()
-            if words.crate == PROGRAM:
-                if kept.named() != before:
-                    give_up('a source changed while it was proved: call again', 1)
-                kept.keep(TOP / 'crates' / PROGRAM / 'out' / PROGRAM, since)
-            for it in build.place.glob('lane*'):
-                shutil.rmtree(it, ignore_errors=True)
+            if [it.named() for it in kept] != before:
+                give_up('a source changed while it was proved: call again', 1)
+            for it in kept:
+                it.keep(TOP / 'crates' / it.crate / 'out' / it.crate, since)
+            for lane in build.place.glob('lane*'):
+                shutil.rmtree(lane, ignore_errors=True)
             shutil.rmtree(build.place / 'store', ignore_errors=True)
     except Fault as fault:
         give_up(str(fault))
     except OSError as error:
         give_up('%s: %s' % (error.filename or 'a folder for the proofs', error.strerror))
-    say('(done after %d s%s)' % (time.time() - since, ': ./r10 starts it at once' if words.crate == PROGRAM else ''))
+    say('(done after %d s%s)' % (time.time() - since, ': ./r10 starts it at once' if PROGRAM in names else ''))
 
 
 if __name__ == '__main__':

@@ -13,8 +13,8 @@ readonly SERVICE="librust-clap-dev librust-nix-dev librust-sd-notify-dev librust
 librust-serde-json-dev librust-sha2-dev librust-signal-hook-dev librust-time-dev librust-toml-dev librust-hex-dev \
 librust-httparse-dev librust-prometheus-dev"
 readonly LINTERS="clang-format mypy pyflakes3 shellcheck"
-readonly TRIALS="chromium ffmpeg lintian pkg-config postgresql prometheus python3-h5py python3-numpy python3-pip \
-python3-psycopg2 python3-setuptools python3-venv python3-wheel tshark valgrind zsh"
+readonly TRIALS="chromium ffmpeg lintian pkg-config postgresql prometheus python3-coverage python3-h5py python3-numpy \
+python3-pandas python3-pip python3-psycopg2 python3-setuptools python3-venv python3-wheel tshark valgrind zsh"
 
 missing() {
     local it

@@ -33,6 +33,12 @@ TYPES = ('r10_packet/src/types.rt', 'r10_packet/specs/Types.antt')
 TEXT = ('r10_setup/src/body.rt', 'r10_setup/specs/Setup.antt')
 BUS = ('r10_b1553/src/entry.rt', 'r10_b1553/specs/Bus.antt')
 
+STATUS = ('r10_body/src/status.rt', 'r10_body/specs/Statuses.antt')
+# The numbers that calls of the library answer. They are looked for in the crates of the library, where one is compared or given.
+STATUSES = ('SCRIPT', 'BLOCKS', 'ROOM', 'PLACE', 'CLOSED', 'OPEN')
+LIBRARY = ('r10_calls', 'r10_ends', 'r10_carrier', 'r10_ffi')
+GIVEN = re.compile(r'(?:[≡≢↦] |\breturn |: u32 = |\bnumber[:=] )(4[0-5])(?![\w.])')
+
 # Where a limit is computed from another, the other is above it. One without a definition is used in code alone.
 LIMITS = [
     Limit('LONGEST_PACKET', 'longest_packet', *PACKET),
@@ -127,6 +133,9 @@ def found(top: pathlib.Path, limits: dict[int, Limit], kinds: dict[int, str]) ->
                     for value in map(value_of, numerals) if value in limits]
             told += [(value, '0x%02X is TYPE_%s or type_%s' % (value, kinds[value].upper(), kinds[value]), TYPES)
                      for value in sorted(set(map(value_of, asked))) if value in kinds]
+            if name.split('/')[0] in LIBRARY:
+                told += [(int(numeral), '%s is %s' % (numeral, STATUSES[int(numeral) - 40]), STATUS)
+                         for numeral in GIVEN.findall(line)]
             for value, text, owners in told:
                 if name not in owners and not is_allowed(name, value):
                     yield 'crates/%s:%d: %s' % (name, number, text)

@@ -4,23 +4,18 @@
 #     scripts/lint/lint.sh
 #
 # Every shell script has to parse, and every Python script to compile; and what begins as a command does has the run bit. Then the
-# Python scripts are looked at by pyflakes (or by ruff, by the same rules), the types of those that build by mypy, and those of the
-# shell by shellcheck: Debian's packages are pyflakes3, mypy and shellcheck. Sources in C and Rust have the form that clang-format
-# and rustfmt give them, by ffi/.clang-format and the rustfmt.toml of each folder. No line of the filters, of the scripts or of the
-# service's tests is longer than 132 columns. Status 1 where one of them finds something.
+# Python scripts are looked at by pyflakes (or by ruff, by the same rules), the types of those that build and of the filters by
+# mypy, and those of the shell by shellcheck: Debian's packages are pyflakes3, mypy and shellcheck. typed.py looks whether the
+# filters stay documented. Sources in C and Rust have the form that clang-format and rustfmt give them, by ffi/.clang-format and the
+# rustfmt.toml of each folder. No line of the filters, of the scripts or of the service's tests is longer than 132 columns. Status 1
+# where one of them finds something.
 set -u
 cd "$(dirname "${BASH_SOURCE[0]}")/../.." || exit 1
 
 readonly shells=(r10 .ci/run scripts/*.sh scripts/*/*.sh recorder/tests/*.sh)
-readonly pythons=(scripts/*.py scripts/*/*.py ch10/*.py recorder/tests/*.py)
-# (what has types that mypy takes: the scripts that build, and the filters but for these modules)
-readonly untyped=" catalogue clocks entry_rows exports facts find lines load log_lines packets picture report script survey table \
-timeline tmats values vector workers "
-typed=(scripts/build/*.py)
-for script in ch10/*.py; do
-    it=${script#ch10/}
-    [[ $untyped == *" ${it%.py} "* ]] || typed+=("$script")
-done
+readonly pythons=(scripts/*.py scripts/*/*.py ch10/*.py recorder/tests/*.py examples/*.py)
+# (what has types that mypy takes)
+readonly typed=(scripts/build/*.py ch10/*.py)
 readonly sources=(ffi/*.[ch] scripts/*/*.c bench/*.c recorder/tests/*.c)
 bad=0
 
@@ -56,6 +51,7 @@ if command -v mypy >/dev/null; then
 else
     echo "lint: NOT TRIED: there is no mypy for the types of the Python scripts"
 fi
+scripts/lint/typed.py || bad=1
 if command -v shellcheck >/dev/null; then
     printf '%s\0' "${shells[@]}" | xargs -0 -n 8 -P "$(nproc)" shellcheck -x --severity=warning || bad=1
 else

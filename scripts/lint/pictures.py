@@ -1,5 +1,5 @@
 #!/usr/bin/env python3
-"""Draws the two pictures of docs/ARCHITECTURE.md, and that of docs/RECORDER.md, as SVG, with the standard library alone.
+"""Draws the two pictures of docs/ARCHITECTURE.md, and that of docs/RECORDER.md, as SVG.
 
     scripts/lint/pictures.py            writes docs/pictures/layers.svg, data.svg and recorder.svg
     scripts/lint/pictures.py --check    draws nothing; fails if a picture is not what would be drawn, or if a text does not agree
@@ -7,11 +7,14 @@
 
 The layers come from crates.txt and from the table of crates in docs/ARCHITECTURE.md (layer, crate, a phrase of at most eight
 words). The table has to name each crate once, and no crate before one that it stands on. An edge that follows from others is left
-out, and so are those of trials and tests. The data's way comes from docs/pictures/data.txt, and that through the service from
+out, and so are those of trials and tests. Graphviz places them, so only drawing wants its command `dot`; a check reads the picture,
+and compares its crates, layers and lines. The data's way comes from docs/pictures/data.txt, and that through the service from
 docs/pictures/recorder.txt.
 """
 import re
+import subprocess
 import sys
+import xml.etree.ElementTree as tree
 from pathlib import Path
 from typing import NamedTuple
 from xml.sax.saxutils import escape
@@ -85,154 +88,95 @@ def reduced(edges: Edges) -> Edges:
 # ---- the layers
 
 
-def rows_of(crates: list[Crate], edges: Edges) -> list[tuple[str, list[str]]]:
-    """The rows of the picture from the lowest up: a layer's crates by how many of the layer stand below them."""
-    rows: list[tuple[str, list[str]]] = []
-    for layer in dict.fromkeys(crate.layer for crate in crates):
-        names = [crate.name for crate in crates if crate.layer == layer]
-        height: dict[str, int] = {}
-        for name in names:
-            height[name] = 1 + max((height[it] for it in edges[name] if it in height), default=-1)
-        if layer == WITHOUT_EDGES:
-            height = {name: at // 5 for at, name in enumerate(names)}
-        rows += [(layer, [name for name in names if height[name] == level]) for level in range(max(height.values()) + 1)]
-    return rows
+def graph_of(crates: list[Crate], edges: Edges) -> str:
+    """The layers as dot reads them: a cluster for each, with its crates, and a line from a crate up to each that stands on it."""
+    colour = colours_of(crates)
+    layer_of = {crate.name: crate.layer for crate in crates}
+    font = 'fontname="DejaVu Sans,Verdana,Arial,sans-serif"'
+    out = ["digraph layers {", f"rankdir=BT; newrank=true; nodesep=0.12; ranksep=0.35; {font};",
+           f'node [shape=box, style="rounded,filled", fillcolor=white, {font}, fontsize=11, height=0.3, margin="0.08,0.03"];',
+           "edge [arrowhead=none];",
+           'fontsize=11; labelloc=b; label="Each name has r10_ before it. A line leads from a crate up to one that stands on it; a '
+           'line that follows from others is left out.";']
+    for place, (layer, tone) in enumerate(colour.items()):
+        out.append(f'subgraph cluster_{place} {{ label="{layer}"; labeljust=l; fontsize=13; fontcolor="{tone}"; color="{tone}"; '
+                   f'style="rounded,filled"; fillcolor="{tone}1a";')
+        out += [f'{crate.name} [label="{shown(crate.name)}", color="{tone}", tooltip="{tip_of(crate)}"];'
+                for crate in crates if crate.layer == layer]
+        out.append("}")
+    out += [f'{lower} -> {upper} [color="{colour[layer_of[lower]]}"];' for upper, lower in drawn(crates, edges)]
+    return "\n".join([*out, "}", ""])
 
 
-def width_of(name: str) -> float:
-    """How wide a crate's box is; of a place where a line passes through a row, how much room it has."""
-    return 8.0 if ">" in name else 20 + 7.4 * len(name.removeprefix("r10_"))
+def colours_of(crates: list[Crate]) -> dict[str, str]:
+    """The layers from the lowest up, and the colour of each."""
+    layers = dict.fromkeys(crate.layer for crate in crates)
+    return {layer: COLOURS[place % len(COLOURS)] for place, layer in enumerate(layers)}
 
 
-def with_passes(rows: list[list[str]], links: Edges) -> tuple[list[list[str]], Edges]:
-    """The rows with a place in each row that a line passes through, so that no line runs below a box; each link then leads to the
-    row below."""
-    orders, joined = [list(names) for names in rows], {name: [] for name in links}
-    level = {name: place for place, names in enumerate(rows) for name in names}
-    for name, used in links.items():
-        for it in used:
-            upper = name
-            for row in range(level[name] - 1, level[it], -1):
-                place = f"{it}>{name}@{row}"
-                orders[row].append(place)
-                joined[upper].append(place)
-                joined[place] = []
-                upper = place
-            joined[upper].append(it)
-    return orders, joined
+def drawn(crates: list[Crate], edges: Edges) -> list[tuple[str, str]]:
+    """The lines of the picture: a crate, and one that it stands on."""
+    plain = {crate.name for crate in crates if crate.layer == WITHOUT_EDGES}
+    return [(name, it) for name, used in reduced(edges).items() if name not in plain for it in used]
 
 
-def spread(names: list[str], wish: dict[str, float], left: float, right: float) -> dict[str, float]:
-    """Centres of a row's boxes in this order, apart from one another and near their wishes: the middle between the way from the
-    left and that from the right."""
-    from_left: dict[str, float] = {}
-    from_right: dict[str, float] = {}
-    edge = left
-    for name in names:
-        from_left[name] = max(wish[name], edge + width_of(name) / 2)
-        edge = from_left[name] + width_of(name) / 2 + 10
-    edge = right
-    for name in reversed(names):
-        from_right[name] = min(wish[name], edge - width_of(name) / 2)
-        edge = from_right[name] - width_of(name) / 2 - 10
-    at = {name: (from_left[name] + from_right[name]) / 2 for name in names}
-    edge = right
-    for name in reversed(names):
-        at[name] = min(at[name], edge - width_of(name) / 2)
-        edge = at[name] - width_of(name) / 2 - 10
-    edge = left
-    for name in names:
-        at[name] = max(at[name], edge + width_of(name) / 2)
-        edge = at[name] + width_of(name) / 2 + 10
-    return at
+def shown(name: str) -> str:
+    """A crate's name in the picture."""
+    return name.removeprefix("r10_")
 
 
-def centres(rows: list[list[str]], links: Edges, left: float, right: float) -> tuple[list[list[str]], dict[str, float]]:
-    """The order of each row and the centre of each box: boxes go towards the middle of what they are linked with, now from below
-    and now from above."""
-    orders = [list(names) for names in rows]
-    above: Edges = {name: [] for name in links}
-    for name, used in links.items():
-        for it in used:
-            above[it].append(name)
-    at: dict[str, float] = {}
-    for names in orders:
-        step = (right - left) / len(names)
-        at.update({name: left + step * (place + 0.5) for place, name in enumerate(names)})
-    for turn in range(40):
-        for names in orders if turn % 2 == 0 else reversed(orders):
-            wish = {}
-            for name in names:
-                near = (links[name] if turn % 2 == 0 else above[name]) if turn < 24 else links[name] + above[name]
-                wish[name] = sum(at[it] for it in near) / len(near) if near else at[name]
-            names.sort(key=lambda name: (round(wish[name], 3), name))
-            at.update(spread(names, wish, left, right))
-    return orders, at
+def tip_of(crate: Crate) -> str:
+    """What is shown of a crate where a mouse is."""
+    return f"{crate.name}: {crate.phrase}"
+
+
+def layers_picture(graph: str) -> str:
+    """The picture that dot draws of a graph."""
+    try:
+        done = subprocess.run(["dot", "-Tsvg"], input=graph, capture_output=True, text=True, encoding="utf-8")
+    except FileNotFoundError:
+        raise Fault("there is no dot to draw the layers with: it is in Debian's package graphviz") from None
+    if done.returncode:
+        raise Fault(f"dot does not draw the layers: {done.stderr.strip()}")
+    return done.stdout
+
+
+def check_layers(picture: str, crates: list[Crate], edges: Edges) -> None:
+    """Whether a picture has these crates, in the colours of their layers, and these lines, and no others. Where it has them is left
+    to dot, which places them by its version and by the fonts that are there."""
+    spaces = {"s": "http://www.w3.org/2000/svg", "x": "http://www.w3.org/1999/xlink"}
+    found: dict[str, list[tuple[str, ...]]] = {"cluster": [], "node": [], "edge": []}
+    try:
+        groups = tree.fromstring(picture).iterfind(".//s:g", spaces)
+    except tree.ParseError as error:
+        raise Fault(f"docs/pictures/layers.svg cannot be read: {error}") from None
+    for group in groups:
+        if group.get("class") in found:
+            text = [it.text or "" for it in group.iterfind(".//s:text", spaces)]
+            tips = [it.get(f"{{{spaces['x']}}}title") or "" for it in group.iterfind(".//s:a", spaces)]
+            tones = [it.get("stroke") or "" for it in group.iterfind(".//s:path", spaces)]
+            names = [] if group.get("class") == "cluster" else [group.findtext("s:title", "", spaces)]
+            found[str(group.get("class"))].append((*names, *text, *tips, *tones))
+    colour = colours_of(crates)
+    tone_of = {crate.name: colour[crate.layer] for crate in crates}
+    wanted: dict[str, list[tuple[str, ...]]] = {
+        "cluster": [*colour.items()],
+        "node": [(crate.name, shown(crate.name), tip_of(crate), tone_of[crate.name]) for crate in crates],
+        "edge": [(f"{lower}->{upper}", tone_of[lower]) for upper, lower in drawn(crates, edges)],
+    }
+    for kind, there in found.items():
+        other = sorted(set(there) ^ set(wanted[kind]))
+        if other or len(there) != len(wanted[kind]):
+            raise Fault(f"docs/pictures/layers.svg has not each {kind} that scripts/lint/pictures.py draws, and no other: "
+                        f"{other[:1] or 'one is there twice'}: run it")
+
+
+# ---- the data's way
 
 
 def text_at(x: float, y: float, size: int, words: str, more: str = "") -> str:
     """A line of text around a place."""
     return f'<text x="{x:.0f}" y="{y:.0f}" font-size="{size}" {FONT} {more}>{escape(words)}</text>'
-
-
-def layers_picture(crates: list[Crate], edges: Edges) -> str:
-    """The picture of the layers, the lowest crate at the bottom."""
-    left, right, row_height, box = 150.0, 1180.0, 46.0, 24.0
-    tested = [crate.name for crate in crates if crate.layer != WITHOUT_EDGES]
-    rows = rows_of(crates, edges)
-    orders, links = with_passes([names for _, names in rows],
-                                {name: used if name in tested else [] for name, used in reduced(edges).items()})
-    orders, at = centres(orders, links, left, right)
-    height = row_height * len(rows) + 40
-    y_of = {name: height - 36 - row_height * (place + 0.5) for place, names in enumerate(orders) for name in names}
-    layers = list(dict.fromkeys(layer for layer, _ in rows))
-    colour = {layer: COLOURS[place % len(COLOURS)] for place, layer in enumerate(layers)}
-    layer_of = {crate.name: crate.layer for crate in crates}
-    phrase = {crate.name: crate.phrase for crate in crates}
-    out = [f'<svg xmlns="http://www.w3.org/2000/svg" width="1200" height="{height:.0f}" viewBox="0 0 1200 {height:.0f}">',
-           f'<rect width="1200" height="{height:.0f}" fill="#ffffff"/>']
-    for layer in layers:
-        places = [place for place, row in enumerate(rows) if row[0] == layer]
-        top = height - 36 - row_height * (places[-1] + 1)
-        out.append(f'<rect x="8" y="{top + 2:.0f}" width="1184" height="{row_height * len(places) - 4:.0f}" rx="6" '
-                   f'fill="{colour[layer]}" fill-opacity="0.10"/>')
-        for line, words in enumerate(wrapped(layer, 16)):
-            out.append(text_at(20, top + 24 + 16 * line, 13, words, f'font-weight="bold" fill="{colour[layer]}"'))
-    for name, used in links.items():
-        for it in used:
-            lower = it.partition(">")[0]
-            x, y = at[it], y_of[it] - (0 if ">" in it else box / 2)
-            to_x, to_y = at[name], y_of[name] + (0 if ">" in name else box / 2)
-            bend = (y - to_y) * 0.5
-            out.append(f'<path d="M{x:.0f} {y:.0f} C{x:.0f} {y - bend:.0f} {to_x:.0f} {to_y + bend:.0f} {to_x:.0f} {to_y:.0f}" '
-                       f'fill="none" '
-                       f'stroke="{colour[layer_of[lower]]}" stroke-width="1.3" stroke-opacity="0.75"/>')
-    for name, y in y_of.items():
-        if ">" in name:
-            continue
-        x, wide = at[name], width_of(name)
-        out.append(f'<g><title>{escape(name)}: {escape(phrase[name])}</title><rect x="{x - wide / 2:.0f}" y="{y - box / 2:.0f}" '
-                   f'width="{wide:.0f}" height="{box:.0f}" rx="4" '
-                   f'fill="#ffffff" stroke="{colour[layer_of[name]]}" stroke-width="1.4"/>'
-                   + text_at(x, y + 4, 12, name.removeprefix("r10_"), 'text-anchor="middle"') + "</g>")
-    out.append(text_at(20, height - 14, 12,
-                       "Each name has r10_ before it. A line leads from a crate up to one that stands on it; a line that follows "
-                       "from others is left out.",
-                       'fill="#444444"'))
-    return "\n".join(out) + "\n</svg>\n"
-
-
-def wrapped(words: str, most: int) -> list[str]:
-    """The words in lines of at most so many letters."""
-    lines = [""]
-    for word in words.split():
-        if lines[-1] and len(lines[-1]) + 1 + len(word) > most:
-            lines.append("")
-        lines[-1] = f"{lines[-1]} {word}".strip()
-    return lines
-
-
-# ---- the data's way
 
 
 class Box(NamedTuple):
@@ -320,8 +264,12 @@ def main(words: list[str]) -> int:
     try:
         edges = edges_of((TOP / "crates.txt").read_text(encoding="utf-8"))
         crates = crates_of(PAGE.read_text(encoding="utf-8"), edges)
+        layers = FOLDER / "layers.svg"
+        if words:
+            check_layers(layers.read_text(encoding="utf-8") if layers.is_file() else "", crates, edges)
+        else:
+            layers.write_text(layers_picture(graph_of(crates, edges)), encoding="utf-8")
         pictures = {
-            "layers.svg": layers_picture(crates, edges),
             "data.svg": data_picture(*data_of("data.txt", edges)),
             "recorder.svg": data_picture(*data_of("recorder.txt", edges)),
         }

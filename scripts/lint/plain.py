@@ -20,7 +20,7 @@ from typing import Iterator, NamedTuple
 
 TOP = Path(__file__).resolve().parents[2]
 ALLOWED = TOP / "scripts" / "lint" / "plain_allowed.txt"
-MADE = {"docs/PROOFS.md", "docs/CALLERS.md", "docs/THEOREM.md"}
+MADE = {"docs/PROOFS.md", "docs/THEOREM.md"}
 # Pages that a script writes from a heading on.
 MADE_FROM = {"docs/PROMISES.md": "## The contracts"}
 LONGEST = 25

@@ -1,9 +1,7 @@
 #!/usr/bin/env python3
-"""Writes docs/CALLERS.md: what each public function asks of its caller, and how the caller knows that it holds.
+"""Compares docs/callers.txt with the sources: what each public function asks of its caller, and how the caller knows that it holds.
 
-    scripts/proofs/conditions.py                   writes docs/CALLERS.md, from docs/callers.txt
-    scripts/proofs/conditions.py --check           fails if docs/CALLERS.md is not what would be written, or if docs/callers.txt
-                                                   does not agree with the sources
+    scripts/proofs/conditions.py --check           fails if they do not agree
     scripts/proofs/conditions.py --list CRATE..    the conditions of these crates as they stand in the sources; without a crate, of
                                                    all
     scripts/proofs/conditions.py --functions       how many public functions each crate has, and how many of them have a condition
@@ -18,41 +16,6 @@ from pathlib import Path
 
 TOP = Path(__file__).resolve().parents[2]
 TABLE = TOP / 'docs' / 'callers.txt'
-PAGE = TOP / 'docs' / 'CALLERS.md'
-GRANTED = {
-    'block': 'no block past the end of the medium is read or written',
-    'image': 'an image has whole blocks',
-    'times': 'of two times the first is not the later one',
-    'limits': 'a medium is formatted with numbers of blocks that settings may have',
-    'medium': 'a medium has as many blocks as the settings say',
-    'lanes': 'there is one lane for each channel, in the order of the settings and with its settings; and nobody else took from '
-             'them',
-    'sample': 'what a builder is given passes the check of its channel, and its count is not before the last',
-    'rings': 'who makes the two ends of a lane pairs them, and its channel with them; who makes a gauge or a cabinet, or splits a '
-             'pass, looks with that pass there alone',
-    'written': 'the medium reads as the calls of this value last wrote it, and nobody else wrote since. `read_chain` shows that of '
-               'a directory, and `check_medium` '
-               'whether files are strict. No call shows that an open file is the one that a value in memory represents; a recorder '
-               'owns its medium, and so keeps this itself',
-    'named': 'a medium is the one that its type names, and an onlooker has the other end of that medium\'s queue',
-    'handle': 'an open gave the handle, and no close took it. A program in another language keeps this, and nothing tests it: the '
-              'header says so',
-}
-INTRO = '''# What a caller must know
-
-Made by `scripts/proofs/conditions.py` from `docs/callers.txt`, and compared with the sources. It lists each condition (`requires`)
-of a public function, and how its caller knows that the condition holds.
-
-No condition: the calls of `Recorder` (but `new`), of a lock's value and of a world, `run`, `Settings::of`, an offer, the \
-commands, and whatever judges or reads
-bytes from outside (`check_file`, `check_medium`, `read_chain`, `r10_cursor::Reader`, `Packet::read`, each `decode`).
-
-A caller knows by one or more of these:
-
-- **number**: it compares a number that it passes, or the length of what it passes.
-- **test**: these public calls show it, or answer Ok only if it holds.
-- **granted**: it keeps one of the few conditions that need no test:
-'''
 FUNCTION = re.compile(
     r'^(?P<indent> *)(?P<public>pub(?P<within>\([a-z ]+\))? )?(?:const )?(?:unsafe )?(?:extern "C" )?fn (?P<name>\w+)', re.M)
 HEAD = re.compile(r'^(?:pub )?(?:unsafe )?(?P<kind>impl|trait)\b(?P<rest>[^{;]*)\{', re.M)
@@ -129,19 +92,12 @@ def functions(crate):
 LINE = re.compile(r'^\| `(r10_[\w:]+)` \| (.+) \| (.+) \|$', re.M)
 
 
-def page(lines: list[tuple[str, str, str]]) -> str:
-    """The page: what is granted, and a table for each crate, in the order of crates.txt."""
-    text = INTRO + ''.join('  - **%s**: %s.\n' % it for it in GRANTED.items())
-    for crate in crates():
-        here = [it for it in lines if it[0].startswith(crate + '::')]
-        if here:
-            text += '\n## %s\n\n| Function | It asks | Its caller knows by |\n|---|---|---|\n' % crate
-            text += ''.join('| `%s` | %s | %s |\n' % (name.removeprefix(crate + '::'), asked, answer)
-                            for name, asked, answer in here)
-    return text
+def granted() -> set[str]:
+    """The words of the list of what is granted, at the head of docs/callers.txt."""
+    return set(re.findall(r'(?m)^#   (\w+): ', TABLE.read_text(encoding='utf-8')))
 
 
-def wrong_parts(function, answer, public):
+def wrong_parts(function, answer, public, known):
     """What is wrong in how a caller is to know that a function's conditions hold."""
     crate = function.partition('::')[0]
     for it in answer.split('; '):
@@ -155,7 +111,7 @@ def wrong_parts(function, answer, public):
             if not {name, '%s::%s' % (crate, name)} & public:
                 yield '%s: no public function: %s' % (function, name)
         for name in words:
-            if name not in GRANTED:
+            if name not in known:
                 yield '%s: not in the list: %s' % (function, name)
 
 
@@ -172,16 +128,17 @@ def differences(lines):
             public.add('%s::%s' % (crate, name))
             if asked:
                 asking.append('%s::%s' % (crate, name))
+    known = granted()
     told = [function for function, _, _ in lines]
     yield from ('%s: no line' % it for it in asking if it not in told)
     yield from ('%s: it asks nothing' % it for it in told if it not in asking)
     yield from ('%s: more than one line' % it for it in sorted(set(told)) if told.count(it) > 1)
     for function, _, answer in lines:
-        yield from wrong_parts(function, answer, public)
+        yield from wrong_parts(function, answer, public, known)
 
 
 def main(words: list[str]) -> int:
-    """Writes the page, checks it, or lists conditions."""
+    """Checks the table, or lists conditions."""
     if words == ['--functions']:
         print('| Crate | Public functions | With a condition |\n|---|---|---|')
         for crate in crates():
@@ -189,17 +146,12 @@ def main(words: list[str]) -> int:
             print('| `%s` | %d | %d |' % (crate, len(found), sum(bool(asked) for _, asked in found)))
         return 0
     lines = LINE.findall(TABLE.read_text(encoding='utf-8'))
-    if not words:
-        PAGE.write_text(page(lines), encoding='utf-8')
-        return 0
     if words == ['--check']:
         found = missing(lines)
-        if not PAGE.is_file() or PAGE.read_text(encoding='utf-8') != page(lines):
-            found.append('docs/CALLERS.md is not what scripts/proofs/conditions.py writes: run it')
         for it in found:
             print('conditions: ' + it, file=sys.stderr)
         return int(bool(found))
-    if words[0] != '--list' or any(word not in crates() for word in words[1:]):
+    if words[:1] != ['--list'] or any(word not in crates() for word in words[1:]):
         print(__doc__, file=sys.stderr)
         return 2
     print('| Crate | Function | Asks |\n|---|---|---|')

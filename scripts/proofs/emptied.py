@@ -137,6 +137,10 @@ def row_of(it: Promise, own: dict, above: dict) -> str:
     return f'| `{it.function}` | {f"`{it.clause}`" if it.clause else "its one"} | {then} | {needs} | {dates[-1] if dates else ""} |'
 
 
+# (what a row has of which nothing was tried)
+UNTRIED = ' | not tried | not tried | '
+
+
 def page_with(page: str, found: list[Promise]) -> str:
     """The page with the table of emptied clauses as it has to be."""
     at = re.compile(rf'(?m)^## {HEADING}\n(?:.*\n)*?(?=Made by `scripts/proofs/emptied.py)').search(page)
@@ -144,9 +148,15 @@ def page_with(page: str, found: list[Promise]) -> str:
         raise promises.Fault(f'docs/SLIPS.md has no "## {HEADING}" with a line "Made by .." after it')
     end = page.find('\n## ', at.end())
     own, above = lines_of(RESULTS), lines_of(ABOVE)
+    rows = {it: row_of(it, own, above) for it in found}
+    untried: dict[str, list[str]] = {}
+    for it, row in rows.items():
+        if UNTRIED in row:
+            untried.setdefault(it.item.crate, []).append(f'`{it.function}{f".{it.clause}" if it.clause else ""}`')
     lines = ['Made by `scripts/proofs/emptied.py --table`.', '',
              '| Function | Clause | Its edit, over the emptied clause | Proofs above that need the clause | On |',
-             '|---|---|---|---|---|', *(row_of(it, own, above) for it in found), '']
+             '|---|---|---|---|---|', *(row for row in rows.values() if UNTRIED not in row), '',
+             'Neither was tried of these:', '', *(f'- {", ".join(its)}' for its in untried.values()), '']
     return page[:at.end()] + '\n'.join(lines) + page[len(page) if end < 0 else end:]
 
 

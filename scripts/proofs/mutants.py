@@ -3,6 +3,7 @@
 
     scripts/proofs/mutants.py [CRATE..]    tries those mutants that have no verdict yet, or a stale one, cheap crates first
     scripts/proofs/mutants.py --list       lists them with their sums and what is known of each
+    scripts/proofs/mutants.py --crates     prints a row for each crate
     scripts/proofs/mutants.py --table      writes the table of docs/SLIPS.md from the results
     scripts/proofs/mutants.py --check      fails where the two do not agree, or the page says nothing of a mutant that is let
                                            through
@@ -141,6 +142,9 @@ def main() -> int:
     if unknown:
         sys.exit(f'mutants: crates.txt has no {unknown[0]} with bodies to change')
     changes, results = sample(it.count, it.seed, names), Results(RESULTS)
+    if it.by_crate:
+        print(wrong_bodies.table(changes, results.lines, wrong_bodies.explained(wrong_bodies.PAGE.read_text(encoding='utf-8'))))
+        return 0
     if it.table:
         # (a change that no body has any more goes)
         known = {one.key() for name in names for _, own in mutants_of(name) for one in own}

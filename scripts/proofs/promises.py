@@ -5,9 +5,9 @@
     scripts/proofs/promises.py --check    fails if the page is not what would be written
     scripts/proofs/promises.py --list     prints a line for each clause that the table names: promise, function, clause, file
 
-A clause speaks of definitions, and these of others. The page has each definition that a clause names, with a sum over its text and
-the texts of all that it stands on, near and far. So whoever changes a promise, or a word that it stands on, changes a line of the
-page, and the gate fails until the page is made anew. Comments do not count, nor does how lines are broken.
+A clause speaks of definitions, and these of others. The page has the names of those that a clause names, with a sum over the texts
+of these and of all that they stand on, near and far. So whoever changes a promise, or a word that it stands on, changes a line of
+the page, and the gate fails until the page is made anew. Comments do not count, nor does how lines are broken.
 What a sum covers `scripts/proofs/reads.py` says: definitions, types of the code with what contracts see of them, traits with their
 contracts. Of the toolchain's definitions the names count, with the module that each is from.
 """
@@ -45,12 +45,10 @@ class Promise(NamedTuple):
 
 
 class Definition(NamedTuple):
-    """A definition that a clause names: where it stands, the sum, and how many definitions are in it."""
+    """A definition that a clause names: by which name, and where it stands."""
 
     name: str
-    place: str
-    total: str
-    count: int
+    item: Item
 
 
 def words_in(text: str) -> list[str]:
@@ -133,11 +131,11 @@ class Sums:
                     left.append(it)
         return seen
 
-    def definition(self, items: list[Item], name: str, place: str) -> Definition:
-        """The line of the page about some definitions."""
+    def total(self, items: list[Item], *more: str) -> str:
+        """A sum over some definitions and all that they stand on, and over more words."""
         every = set().union(*(self.all_of(it) for it in items))
-        text = '\n'.join(sorted(self.direct(it)[1] for it in every))
-        return Definition(name, place, hashlib.sha256(text.encode()).hexdigest()[:12], len(every))
+        text = '\n'.join(sorted([*(self.direct(it)[1] for it in every), *more]))
+        return hashlib.sha256(text.encode()).hexdigest()[:12]
 
 
 def operators_in(tree: Tree, item: Item) -> list[str]:
@@ -157,12 +155,11 @@ def impls_of(tree: Tree, item: Item, text: str) -> Iterator[tuple[str, Item]]:
                 yield f'{name} of {owner}', ghost
 
 
-def definitions_of(sums: Sums, item: Item, text: str, bound: frozenset[str]) -> list[Definition]:
-    """The definitions that a clause names, with their sums."""
-    tree = sums.tree
-    found = [sums.definition([it], it.name, it.path) for it in tree.names_in(item, text, bound)]
+def definitions_of(tree: Tree, item: Item, text: str, bound: frozenset[str]) -> list[Definition]:
+    """The definitions that a clause names."""
+    found = [Definition(it.name, it) for it in tree.names_in(item, text, bound)]
     if re.search(r'\btrait ', item.text.split('{')[0]):
-        found += [sums.definition([it], name, it.path) for name, it in impls_of(tree, item, text)]
+        found += [Definition(name, it) for name, it in impls_of(tree, item, text)]
     return found
 
 
@@ -178,33 +175,39 @@ def contract_of(item: Item) -> str:
 
 
 def words_of_toolchain(tree: Tree, item: Item, bound: frozenset[str]) -> list[str]:
-    """A line about what a contract itself names of the toolchain, with the module that each word is from."""
+    """What a contract itself names of the toolchain, each with the module that it is from."""
     tree.outside.clear()
     tree.names_in(item, None, bound)
-    by_module: dict[str, list[str]] = {}
-    for it in [*tree.outside, *operators_in(tree, item)]:
-        module, _, name = it.removeprefix('Rattle.').rpartition('.')
-        by_module.setdefault(module, []).append(f'`{name}`')
-    text = '; '.join(f'{", ".join(sorted(set(names)))} (`{module}`)' for module, names in sorted(by_module.items()))
-    return [f"Its words of the toolchain: {text}.", ''] if text else []
+    return sorted({it.removeprefix('Rattle.') for it in [*tree.outside, *operators_in(tree, item)]})
+
+
+def bound_of(item: Item) -> tuple[str, frozenset[str]]:
+    """A contract's text before its clauses, and the names that it binds."""
+    bare = without_comments(item.text)
+    clauses = clauses_of(bare)
+    head = bare[:bare.index(clauses[0][1])] if clauses else bare
+    return head, frozenset([*re.findall(r'(\w+)\s*:(?!:)', head), 'self', 'result'])
 
 
 def section_of(sums: Sums, item: Item, promises: list[Promise]) -> list[str]:
     """A function's part of the page."""
-    bare = without_comments(item.text)
-    clauses = clauses_of(bare)
-    head = bare[:bare.index(clauses[0][1])] if clauses else bare
-    bound = frozenset([*re.findall(r'(\w+)\s*:(?!:)', head), 'self', 'result'])
+    tree = sums.tree
+    head, bound = bound_of(item)
     named = ', '.join(f'{f"`{it.clause}`" if it.clause else "its one clause"} (promise {it.number})' for it in promises)
-    out = [f'### `{item.name}`', '', f'In {place_of(item.path)}. Promised: {named}.', '',
-           '```', contract_of(item), '```', '', '| For | Definition | File | Sum | Stands on |', '|---|---|---|---|---|']
-    rows = [(text.split()[0] + ('' if name in ('requires', 'ensures') else f' `{name}`'), definitions_of(sums, item, text, bound))
-            for name, text in clauses]
-    rows.append(('types', [sums.definition([it], it.name, it.path) for it in sums.tree.names_in(item, head, bound)]))
-    for name, found in rows:
-        out += [f'| {name} | `{it.name}` | {place_of(it.place)} | `{it.total}` | {it.count} |' for it in found]
-        out += [] if found else [f'| {name} | none of this tree | | | |']
-    return [*out, '', *words_of_toolchain(sums.tree, item, bound)]
+    out = [f'### `{item.name}`', '', f'{place_of(item.path)}: {named}.', '',
+           '```', contract_of(item), '```', '']
+    for name, text in clauses_of(without_comments(item.text)):
+        found = definitions_of(tree, item, text, bound)
+        word = f'`{name}`' if name not in ('requires', 'ensures') else name
+        out += [row_of(sums, word, found)] if found else []
+    types = [Definition(it.name, it) for it in tree.names_in(item, head, bound)]
+    return [*out, row_of(sums, 'types', types, *words_of_toolchain(tree, item, bound)), '']
+
+
+def row_of(sums: Sums, name: str, found: list[Definition], *more: str) -> str:
+    """A line: the definitions that a clause names, or that the types are, and the sum over what they stand on."""
+    links = ', '.join(f'[`{it.name}`](../{it.item.path})' for it in found)
+    return f'- {name}: {links or "none"}: {sums.total([it.item for it in found], *more)}'
 
 
 def page_of(tree: Tree) -> str:
@@ -218,14 +221,13 @@ def page_of(tree: Tree) -> str:
         by_hand(tree.top),
         MADE,
         '',
-        'Made by `scripts/proofs/promises.py` from the table and the sources. The gate compares it (`--check`). So a change of a',
-        'promise changes a line here, and stands in the diff that makes it.',
+        'Made by `scripts/proofs/promises.py` from the table and the sources, and compared by the gate. So a change of a promise,',
+        'or of a word that it stands on, changes a line here.',
         '',
-        f'The table names {len(clauses)} clauses of {len(by_item)} functions.',
-        'Here is the contract of each, whole, without comments.',
-        'Below each contract stand the definitions that its clauses name. *Sum* is one over the text of a definition and of all',
-        'that it stands on, near and far. *Stands on* counts these, itself among them.',
-        '`scripts/proofs/reads.py NAME` prints them in reading order.',
+        f'Here are the contracts of {len(clauses)} clauses of {len(by_item)} functions: each whole, without comments.',
+        'Below each stand the definitions that its clauses name, and a sum over these and all that they stand on, near and far.',
+        'The sum of *types* is also over the words of the toolchain in the contract.',
+        '`scripts/proofs/reads.py NAME` prints all texts.',
         '',
     ]
     sums = Sums(tree)

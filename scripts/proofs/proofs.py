@@ -8,7 +8,6 @@
 A crate's promise is the first paragraph of its README.md after the title: one sentence or two. The line after it names the crates
 right below and right above: those of crates.txt, without what follows from others.
 """
-import re
 import sys
 from pathlib import Path
 
@@ -20,18 +19,12 @@ import plain  # noqa: E402
 
 PAGE = TOP / "docs" / "PROOFS.md"
 LONGEST = 40
-EDIT = re.compile(r"^new:", re.MULTILINE)
-PUBLIC = re.compile(r"^\s*pub (?:const |extern \"C\" )?fn ", re.MULTILINE)
 
 HEAD = """# What each crate promises
 
-Made by `scripts/proofs/proofs.py` from `crates.txt` and the crates' `README.md`; the lowest crate is first. Each crate's
-`README.md` says what is proved by which contract, what is only tested and what is neither. *Functions* counts the public functions
-in the crate's `src`, laws among them and calls of traits not. *Edits* counts its [edits of the gate](SLIPS.md#edits-of-the-gate):
-wrong bodies that the gate has to refuse.
+For who looks for the crate that promises a thing. Made by `scripts/proofs/proofs.py`, the lowest crate first.
+Each line begins a crate's `README.md`, which says what is proved by which contract, what is only tested, and what is neither.
 
-| Crate | Promise | Functions | Edits |
-|---|---|---|---|
 """
 
 
@@ -68,12 +61,9 @@ def with_neighbours(name, edges):
 
 
 def line_of(name):
-    """The crate's line of the page."""
-    crate = TOP / "crates" / name
-    functions = sum(len(PUBLIC.findall(path.read_text(encoding="utf-8"))) for path in (crate / "src").rglob("*.rt"))
-    edits = sum(len(EDIT.findall(it.read_text(encoding="utf-8"))) for folder in ("must-fail", "guards")
-                for it in (crate / folder).glob("*.edit"))
-    return f"| [`{name}`](../crates/{name}/README.md) | {promise_of(name)} | {functions} | {edits} |\n"
+    """The crate's line of the page: the first sentence of its promise."""
+    promise = plain.ENDS.split(promise_of(name))[0]
+    return f"- [`{name}`](../crates/{name}/README.md): {promise}\n"
 
 
 def page_of(names):

@@ -6,6 +6,8 @@
     scripts/proofs/reads.py NAME.CLAUSE       of one clause of a function
     scripts/proofs/reads.py NAME --depth N    no further than N steps below it
     scripts/proofs/reads.py NAME --names      a line for each: step, file, line and name, without the text
+    scripts/proofs/reads.py NAME --part PART  those of one part: of the relation (what a medium has to do with the model),
+                                              of the model, or of the formats
     scripts/proofs/reads.py --page            writes docs/THEOREM.md, what the theorem stands on
     scripts/proofs/reads.py --check           fails if docs/THEOREM.md is not what would be written
 
@@ -18,6 +20,7 @@ if the text around it binds it. Lines are counted without comments.
 from __future__ import annotations
 
 import collections
+import hashlib
 import re
 import signal
 import sys
@@ -27,8 +30,15 @@ from typing import Iterator, NamedTuple
 TOP = Path(__file__).resolve().parents[2]
 PAGE = TOP / 'docs' / 'THEOREM.md'
 THEOREM = 'record_all'
-# So many steps below the clauses the page has the text of each definition.
-IN_FULL = 2
+# So many steps below the clauses the page has the text of each definition; further down it has a sum over each.
+IN_FULL = 1
+# The parts in which what the theorem stands on is read, one at a time: with the crates and the files that have it.
+PARTS = {
+    'relation': ('what a recorder and its medium have to do with the model',
+                 ('r10_world', 'r10_refinement', 'r10_medium', 'r10_blockout', 'crates/r10_machine/specs/Says.antt')),
+    'model': ('what the small machine does, and what became of each message', ('r10_machine', 'r10_account', 'r10_lane')),
+    'formats': ('what files, packets and the directory are, byte for byte, with messages, entries and refusals', ()),
+}
 
 WORD = r"[^\W\d][\w\-'₀-₉ₐ-ₜ]*"
 TOKEN = re.compile(rf"(?<![\w.'-])({WORD})(?:\.({WORD}))?")
@@ -70,16 +80,9 @@ def without_comments(text: str) -> str:
     return re.sub(r'(?m)(?:--|//).*$', '', text)
 
 
-def comment_of(item: Item) -> str:
-    """The first sentence of the comment over a definition."""
-    lines = []
-    for line in item.text.split('\n'):
-        found = re.match(r'\s*(?:--|///?) ?(.*)', line)
-        if not found:
-            break
-        lines.append(found[1].strip())
-    text = ' '.join(' '.join(lines).split())
-    return re.split(r'(?<=[a-z)`][.?!])\s', text)[0].rstrip('.').replace('|', '\\|')
+def sum_of(item: Item) -> str:
+    """A sum over a text: comments do not count, nor does how lines are broken."""
+    return hashlib.sha256(' '.join(without_comments(item.text).split()).encode()).hexdigest()[:8]
 
 
 def over(lines: list[str], at: int, mark: str) -> int:
@@ -458,11 +461,20 @@ def sums_of(found: list[Read]) -> str:
     return f'{len(items)} definitions in {files} files of {crates} crates, {lines_in(items):,} lines'
 
 
-def print_reading(tree: Tree, item: Item, clause: str | None, depth: int | None, names_only: bool) -> None:
-    """Prints what an item stands on."""
-    found = reading(tree, item, clause, depth)
+def part_of(item: Item) -> str:
+    """The part in which an item is read: that which has its file, or its crate, or the last one."""
+    for word in (item.path, item.crate):
+        for part, (_, places) in PARTS.items():
+            if word in places:
+                return part
+    return 'formats'
+
+
+def print_reading(tree: Tree, item: Item, clause: str | None, depth: int | None, names_only: bool, part: str = '') -> None:
+    """Prints what an item stands on, or one part of that."""
+    found = [it for it in reading(tree, item, clause, depth) if part in ('', part_of(it.item))]
     print(f'{item.path}:{item.line}: {item.name}')
-    if not names_only:
+    if not names_only and part in ('', 'relation'):
         print(item.text)
     last = None
     for read in found:
@@ -492,12 +504,14 @@ def page_of(tree: Tree) -> str:
     out = [
         '# What the theorem stands on',
         '',
+        'For who checks the theorem itself, definition by definition.',
         f'Made by `scripts/proofs/reads.py --page` from the sources; `scripts/proofs/reads.py {THEOREM}` prints the text of all, '
         'with lines.',
         f'The theorem about a whole recording is `{THEOREM}` in [{where}](../{item.path}). '
         'Its clause `records` needs no word of a recorder.',
-        'Here stand its contract, then the definitions that it names, then those that these name, and so on: each once.',
-        'Those up to two steps below a clause have their text here, the others the first sentence of their comment.',
+        'Here stands its contract, and then all that it stands on, in three parts that can be read one after the other.',
+        'Those right below a clause have their text here. The others stand by their files, each with a sum over its text:'
+        ' so each change of one is a line in the diff that makes it.',
         '',
         f"In all: {sums_of(found)}, without comments. The toolchain's definitions are not among them ({len(tree.outside)} names).",
         '',
@@ -510,29 +524,31 @@ def page_of(tree: Tree) -> str:
         files, crates = len({it.path for it in items}), len({it.crate for it in items})
         out.append(f'| {name} | {len(items)} | {files} | {crates} | {lines_in(items):,} |')
     out += ['', '## The contract', '', '```', item.text, '```', '']
-    for clause, reads in by_clause.items():
-        out += [f'## For the clause `{clause}`' if ' ' not in clause else f'## For {clause}', '']
-        steps = sorted({read.step for read in reads})
-        for step in steps:
-            level = [read.item for read in reads if read.step == step]
-            out += [f'### {step} step{"s" if step > 1 else ""} below', '']
-            for it in level if step <= IN_FULL else ():
-                out += [f'`{it.name}` in {link_to(it)}:', '', '```', it.text, '```', '']
-            if step > IN_FULL:
-                out += ['| Definition | File | Its comment |', '|---|---|---|']
-                out += [f'| `{it.name}` | {link_to(it)} | {comment_of(it)} |' for it in level]
-                out.append('')
+    clauses = list(by_clause)
+    for part, (what, _) in PARTS.items():
+        reads = [read for clause in clauses for read in by_clause[clause] if part_of(read.item) == part]
+        out += [f'## The {part}', '', f'{what[0].upper()}{what[1:]}: {sums_of(reads)}.',
+                f'`scripts/proofs/reads.py {THEOREM} --part {part}` prints their text in reading order.', '']
+        for it in (read.item for read in reads if read.step <= IN_FULL):
+            out += [f'`{it.name}` in {link_to(it)}:', '', '```', it.text, '```', '']
+        by_file: dict[str, list[Item]] = collections.defaultdict(list)
+        for it in (read.item for read in reads if read.step > IN_FULL):
+            by_file[link_to(it)].append(it)
+        for link, its in by_file.items():
+            out += [f'{link}:', *(f'`{it.name}` {sum_of(it)}' + (',' if it != its[-1] else '') for it in its), '']
     return '\n'.join(out).rstrip('\n') + '\n'
 
 
 def main(words: list[str]) -> int:
     """Prints what a contract stands on, or writes or checks the page."""
     signal.signal(signal.SIGPIPE, signal.SIG_DFL)
-    names, depth, names_only, is_page, is_check, at = [], None, False, False, False, 0
+    names, depth, names_only, is_page, is_check, part, at = [], None, False, False, False, '', 0
     while at < len(words):
         word = words[at]
         if word == '--depth' and at + 1 < len(words) and words[at + 1].isdigit():
             depth, at = int(words[at + 1]), at + 1
+        elif word == '--part' and at + 1 < len(words) and words[at + 1] in PARTS:
+            part, at = words[at + 1], at + 1
         elif word == '--names':
             names_only = True
         elif word in ('--page', '--check') and len(words) == 1:
@@ -562,7 +578,7 @@ def main(words: list[str]) -> int:
         if len(found) > 1:
             those = sorted(f'{it.crate}::{it.name} ({it.path}:{it.line})' for it in found)
             raise Fault(f'{name} is {len(found)} things; with their crates: {", ".join(those)}')
-        print_reading(tree, found[0], clause or None, depth, names_only)
+        print_reading(tree, found[0], clause or None, depth, names_only, part)
     except Fault as fault:
         print(f'reads: {fault}', file=sys.stderr)
         return 1

@@ -4,7 +4,9 @@
     scripts/proofs/slips.py [CRATE..]   tries those slips that have no verdict yet, or a stale one, cheap crates first
     scripts/proofs/slips.py --gate      tries the edits of the gate, and wants each refused by the clause that it names; then
                                         stale slips, as long as 20 minutes of a processor go
+    scripts/proofs/slips.py --edits     prints the edits of the gate, with what each does wrong
     scripts/proofs/slips.py --list      lists the slips with their sums and what is known of each
+    scripts/proofs/slips.py --crates    prints a row for each crate
     scripts/proofs/slips.py --table     writes the tables of docs/SLIPS.md from the edits and the results
     scripts/proofs/slips.py --check     fails where they do not agree, where the page says nothing of a slip that is let through,
                                         or where more slips are stale than slips_stale.txt allows
@@ -24,6 +26,7 @@ through or does not compile, or an edit of the gate is not refused by its clause
 from __future__ import annotations
 
 import argparse
+import collections
 import re
 import sys
 from dataclasses import dataclass
@@ -163,11 +166,14 @@ def guards_of(names: Iterable[str]) -> list[Guard]:
 
 
 def edits_table(guards: list[Guard]) -> str:
-    """The edits of the gate as a table of the page."""
-    rows = [f'| `{it.change.crate}` | `{it.function}` | {f"`{it.clause}`" if it.clause != "-" else "its one"} | '
-            f'{it.change.says.rstrip(".")} |' for it in guards]
-    return '\n'.join([f'{len(guards)} wrong bodies. Made by `scripts/proofs/slips.py --table` from the edits.', '',
-                      '| Crate | Function | Clause that refuses it | The wrong body |', '|---|---|---|---|', *rows, ''])
+    """The edits of the gate as the page has them: by crate, function and clause, with how many they are."""
+    counts: dict[str, collections.Counter] = {}
+    for it in guards:
+        clause = f'`{it.function}{f".{it.clause}" if it.clause != "-" else ""}`'
+        counts.setdefault(it.change.crate, collections.Counter())[clause] += 1
+    rows = ['- `%s`: %s' % (crate, ', '.join(clause + (f' {count}' if count > 1 else '') for clause, count in own.items()))
+            for crate, own in counts.items()]
+    return '\n'.join([f'{len(guards)} wrong bodies. Made by `scripts/proofs/slips.py --table` from the edits.', '', *rows, ''])
 
 
 def most_stale() -> int:
@@ -250,6 +256,7 @@ def main() -> int:
     words = argparse.ArgumentParser(description=__doc__, formatter_class=argparse.RawDescriptionHelpFormatter)
     wrong_bodies.add_options(words)
     words.add_argument('--gate', action='store_true', help='tries the edits of the gate, and wants each refused by its clause')
+    words.add_argument('--edits', action='store_true', help='prints the edits of the gate, with what each does wrong')
     words.add_argument('--behind-ci', action='store_true', help='the libraries are those that rt ci has just left here')
     it = words.parse_args()
     names = list(wrong_bodies.crates())
@@ -260,8 +267,14 @@ def main() -> int:
         how = wrong_bodies.options_of(it)
         how.behind_ci = it.behind_ci
         return gate(it.crates or names, how)
+    if it.edits:
+        print('\n'.join(one.says() for one in guards_of(it.crates or names)))
+        return 0
     changes = [change for name in it.crates or names for change in slips_of(name)]
     results = Results(RESULTS)
+    if it.by_crate:
+        print(wrong_bodies.table(changes, results.lines, wrong_bodies.explained(wrong_bodies.PAGE.read_text(encoding='utf-8'))))
+        return 0
     if it.list:
         wrong_bodies.listed(changes, results, 'slips')
         return 0

@@ -692,7 +692,8 @@ def add_options(words) -> None:
     words.add_argument('--together', action='store_true', help='tries only what can share a check, and leaves the rest untried')
     words.add_argument('--yield', dest='yields', action='store_true', help='provers take only what other processes leave')
     words.add_argument('--list', action='store_true', help='lists them with their sums and verdicts, and tries none')
-    words.add_argument('--table', action='store_true', help='writes the table of docs/SLIPS.md')
+    words.add_argument('--crates', dest='by_crate', action='store_true', help='prints a row for each crate, and tries none')
+    words.add_argument('--table', action='store_true', help='writes the tables of docs/SLIPS.md')
     words.add_argument('--check', action='store_true', help='fails where docs/SLIPS.md and the results do not agree')
 
 
@@ -821,8 +822,8 @@ HEADS = ['Crate', 'In all', 'Refused', 'By names alone', 'By a limit', 'Let thro
          'Crate changed since', 'Below it changed since', 'Seconds each', 'Tried at', 'On']
 
 
-def table(changes: list[Change], lines: dict[str, Line], why: dict[str, str]) -> str:
-    """The table of changes and of their last verdicts, by crate; stale ones are counted by what changed."""
+def table(changes: list[Change], lines: dict[str, Line], why: dict[str, str], by_crate: bool = True) -> str:
+    """The table of changes and of their last verdicts, by crate or in all; stale ones are counted by what changed."""
     graph = crates()
     made, whole, spent = ['| ' + ' | '.join(HEADS) + ' |', '|---' * len(HEADS) + '|'], [0] * 10, 0
     keys: dict[str, set[str]] = {name: set() for name in graph}
@@ -842,6 +843,8 @@ def table(changes: list[Change], lines: dict[str, Line], why: dict[str, str]) ->
         whole = [sum(it) for it in zip(whole, numbers)]
         last, seconds = max(own, key=lambda it: it.date, default=None), sum(it.seconds for it in own)
         spent += seconds
+        if not by_crate:
+            continue
         made.append(f'| `{name}` | ' + ' | '.join(str(it or '') for it in numbers) +
                     (f' | {seconds / len(own):.0f} | `{last.commit}` | {last.date[:10]} |' if last else ' | | | |'))
     made.append('| all | ' + ' | '.join(str(it or '') for it in whole) +
@@ -869,7 +872,7 @@ def text_of(section: Section, changes: list[Change], results: Results, page: str
     """What stands in the section."""
     why = explained(page)
     return (f'Made by `{section.by} --table`.\n\n{by_goals(results.lines.values(), why)}\n\n'
-            f'{table(changes, results.lines, why)}\n')
+            f'{table(changes, results.lines, why, by_crate=False)}\n')
 
 
 def by_goals(lines: Iterable[Line], why: dict[str, str]) -> str:

@@ -48,7 +48,7 @@ for test in $(grep -l '^ *no_build ' "$top"/scripts/tests/*.sh); do
     [ "$name" != kit ] || continue
     check "$name.sh is tried behind rt ci" grep -q "over_builds $name " "$top/scripts/ffi.sh"
 done
-check "these are four" is "$(grep -l '^ *no_build ' "$top"/scripts/tests/*.sh | wc -l)" 4
+check "these are five" is "$(grep -l '^ *no_build ' "$top"/scripts/tests/*.sh | wc -l)" 5
 check "by hand it is said" is "$(R10_LATER="" no_build it)" "NOT TRIED: it (no build is kept)"
 check "in the gate it is not, as it comes later" is "$(R10_LATER=yes no_build it)" "LATER: it"
 check "the gate says so" grep -q '^R10_LATER=yes scripts/build/side_by_side.sh' "$top/.ci/run"

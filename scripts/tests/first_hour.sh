@@ -66,7 +66,7 @@ rm -f "$room/all"/python3* "$room/all"/rt
 # shellcheck disable=SC2016
 printf '#!/bin/sh\n[ "$1" != --version ] || { echo "Python 3.6.9"; exit; }\nexit 1\n' >"$room/old/python3"
 chmod +x "$room/old/python3"
-for call in r10 scripts/build.sh "scripts/ffi.sh build --quick" "scripts/install.sh $room/nowhere"; do
+for call in r10 scripts/build.sh "scripts/ffi.sh build --quick" "scripts/install.sh $room/nowhere" "scripts/deb.sh $room"; do
     read -ra words <<<"$call"
     rm -rf "$at/out"
     run env PATH="$kit/bin:$room/all" "$at/${words[0]}" "${words[@]:1}"
@@ -85,6 +85,9 @@ for tool in cc ld objcopy; do
     one_line "scripts/install.sh without $tool" 3 "there is no $tool: install a C compiler"
     check "and nothing is changed" test ! -e "$room/nowhere"
 done
+rm -f "$room/fewer/gcc" "$room/fewer/dpkg-architecture"
+run env PATH="$kit/bin:$room/fewer" "$at/scripts/deb.sh" "$room"
+one_line "scripts/deb.sh without gcc" 3 "there is no gcc: install a C compiler"
 run env PATH="$room/fewer" "$at/scripts/ch10.py" --version
 check "the filters run without rt and without cc" is "$status $said" "0 ch10 $(cat "$at/VERSION")"
 run env PATH="$with" TMPDIR="$room/nowhere" "$at/scripts/ffi.sh" kept

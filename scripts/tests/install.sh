@@ -8,13 +8,21 @@ program=$("$top/scripts/build/quick_build.py" --current) && { "$top/scripts/ffi.
     no_build "an installation"
     exit 0
 }
+survey=$("$top/scripts/build/quick_build.py" --survey --current) || {
+    no_build "an installation"
+    exit 0
+}
 version=$(cat "$top/VERSION")
 # What a build says of itself: that it is proved, or not.
 case $program in
 */proved-*) proved=proved whole="r10 $version" ;;
 *) proved="not proved" whole="r10 $version (not proved)" ;;
 esac
-if "$top/scripts/ffi.sh" proved >/dev/null; then library=proved; else library="not proved"; fi
+case $survey in
+*/proved_survey-*) survey_proved=proved survey_whole="r10-survey $version" ;;
+*) survey_proved="not proved" survey_whole="r10-survey $version (not proved)" ;;
+esac
+if "$top/scripts/ffi.sh" proved >/dev/null; then library=proved over=; else library="not proved" over=" (not proved)"; fi
 
 check "the program has the number in VERSION, and says where it is not proved" is "$("$program" --version)" "$whole"
 root="$room/a root"
@@ -23,6 +31,9 @@ check "it installs" is "$?" 0
 r10=$root/usr/bin/r10
 check "what was installed says the same" is "$("$r10" --version)" "$whole"
 check "the program runs" is "$("$r10" <"$top/examples/first.toml")" "$(cat "$top/examples/first.expected")"
+check "r10-survey says what it is" is "$("$root/usr/bin/r10-survey" --version)" "$survey_whole"
+check "r10-survey runs" is "$("$root/usr/bin/r10-survey" <"$top/crates/r10_surveyor/stdin"; echo "status $?")" \
+    "$(cat "$top/crates/r10_surveyor/stdout" && echo "status 1")"
 "$r10" sim --image <"$top/examples/first.toml" >"$room/medium.img"
 check "the filters run" says "$("$root/usr/bin/ch10" summary <"$room/medium.img")" "file 0 FLT1: 272 bytes"
 check "the filters have the number too" is "$("$root/usr/bin/ch10" --version)" "ch10 $version"
@@ -39,8 +50,10 @@ check "the program has a note with its commit" says "$(note "$r10")" "r10 $versi
 check "the library has one" says "$(note "$lib.so.$version")" "libr10 $version ($library), commit $commit, toolchain rattle"
 check "the static one too" is "$(note "$lib.a")" "$(note "$lib.so.$version")"
 check "it is a note as ELF has them" says "$(readelf -SW "$r10")" ".note.r10         NOTE"
-check "the list of what is installed begins with both" is "$(head -n 2 "$root/usr/share/r10/installed")" \
-    "$(note "$r10")"$'\n'"$(note "$lib.a")"
+check "so has r10-survey" says "$(note "$root/usr/bin/r10-survey")" \
+    "r10-survey $version ($survey_proved), commit $commit, toolchain "
+check "the list of what is installed begins with all three" is "$(head -n 3 "$root/usr/share/r10/installed")" \
+    "$(note "$r10")"$'\n'"$(note "$lib.a")"$'\n'"$(note "$root/usr/bin/r10-survey")"
 check "r10.pc says whether it is proved" is "$(sed -n 's/^proved=//p' "$root/usr/lib/pkgconfig/r10.pc")" "$library"
 check "and of which commit it is" is "$(sed -n 's/^commit=//p' "$root/usr/lib/pkgconfig/r10.pc")" "$commit"
 check "its version is a number" is "$(sed -n 's/^Version: //p' "$root/usr/lib/pkgconfig/r10.pc")" "$version"
@@ -73,8 +86,9 @@ built() { stat -c %y "$top/out/recorder/target/release/r10d" 2>/dev/null; }
 before=$(built)
 if why=$("$top/scripts/recorder.sh" ready); then
     example=$root/usr/share/doc/r10/examples/recorder.toml
-    check "the service has the number too" is "$("$root/usr/bin/r10d" --version)" "r10d $version"
-    check "so has the program that controls it" is "$("$root/usr/bin/r10ctl" --version)" "r10ctl $version"
+    check "the service has the number too, and says where its library is not proved" is \
+        "$("$root/usr/bin/r10d" --version)" "r10d $version$over"
+    check "so has the program that controls it" is "$("$root/usr/bin/r10ctl" --version)" "r10ctl $version$over"
     for name in r10d r10ctl; do
         check "$name has no path of this machine in it" is "$(grep -c -a -F -e "$top" -e "$HOME/.cargo" "$root/usr/bin/$name")" 0
         check "$name is stripped" is "$(readelf -SW "$root/usr/bin/$name" | grep -c ' \.symtab\| \.debug_info')" 0
@@ -158,8 +172,10 @@ else
 fi
 
 pages=$(find "$root/usr/share/man" -type f | sort)
-check "a page for each command" is "$(find "$root/usr/share/man/man1" -name 'r10-*' -printf '%f\n' | sort | tr '\n' ' ')" \
-    "$("$r10" --help | sed -n '/^Commands:/,/^$/s/^  \([a-z]*\) .*/r10-\1.1/p' | grep -v help | sort | tr '\n' ' ')"
+check "a page for each command, and one of r10-survey" is \
+    "$(find "$root/usr/share/man/man1" -name 'r10-*' -printf '%f\n' | sort | tr '\n' ' ')" \
+    "$({ "$r10" --help | sed -n '/^Commands:/,/^$/s/^  \([a-z]*\) .*/r10-\1.1/p' | grep -v help && echo r10-survey.1; } | sort |
+        tr '\n' ' ')"
 if command -v groff >/dev/null; then
     while IFS= read -r page; do
         check "$(basename "$page") formats without a warning" is "$(groff -man -Tutf8 -ww -z "$page" 2>&1)" ""
@@ -181,13 +197,14 @@ check "bash completes an option" is "$(complete_words r10 play --f)" "--file --f
 check "bash completes the option of a session" is "$(complete_words r10 run --i)" "--image"
 if [ -x "$root/usr/bin/r10ctl" ]; then
     check "bash completes a word of the recorder's" is "$(complete_words r10ctl st)" "status stop standing"
-    check "bash completes an option of the service" is "$(complete_words r10d --f)" "--format"
+    check "bash completes an option of the service" is "$(complete_words r10d --f)" "--format --force"
     if command -v groff >/dev/null; then
         found=$(words "$root/usr/share/man/man8/r10d.8")
         check "the page of the service has its settings" says "$found" "commit_ms how often what came is made durable"
         check "the page of r10ctl has the words" says "$(words "$root/usr/share/man/man1/r10ctl.1")" "record [NAME] begins a file"
     fi
 fi
+check "bash completes an option of the survey" is "$(complete_words r10-survey --v)" "--version"
 check "bash completes a command of the filters" is "$(complete_words ch10 sum)" "summary"
 if command -v zsh >/dev/null; then
     check "zsh reads its completions" zsh -n "$root/usr/share/zsh/site-functions/_r10"
@@ -257,10 +274,13 @@ if command -v dpkg-deb >/dev/null; then
     fi
     check "it installs in a root of its own, runs there and goes" "$top/scripts/deb.sh" try "$package"
     cp -r "$room" "$room.broken"
-    dpkg-deb -R "$package" "$room.broken/whole" && echo 'echo no' >"$room.broken/whole/usr/bin/r10" &&
-        dpkg-deb --root-owner-group -b "$room.broken/whole" "$room.broken/broken.deb" >/dev/null
-    check "a package whose program is another is refused" bash -c '! "$1" try "$2" >/dev/null 2>&1' - "$top/scripts/deb.sh" \
-        "$room.broken/broken.deb"
+    for name in r10 r10-survey; do
+        rm -rf "$room.broken/whole"
+        dpkg-deb -R "$package" "$room.broken/whole" && echo 'echo no' >"$room.broken/whole/usr/bin/$name" &&
+            dpkg-deb --root-owner-group -b "$room.broken/whole" "$room.broken/broken.deb" >/dev/null
+        check "a package whose $name is another is refused" bash -c '! "$1" try "$2" >/dev/null 2>&1' - "$top/scripts/deb.sh" \
+            "$room.broken/broken.deb"
+    done
     rm -rf "$room.broken"
 else
     echo "NOT TRIED: a Debian package (no dpkg-deb here)"

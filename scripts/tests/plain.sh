@@ -54,5 +54,14 @@ with crates/r10_medium/src/memory.rt 'struct Crashing {}'
 check "a second type of one name" answers check_names.py 1 "Crashing has 2 meanings"
 with crates/r10_medium/src/memory.rt "// $(printf 'word %.0s' {1..27})"
 check "a line of more than 132 columns" answers check_names.py 1 "138 columns"
+anew
+with crates/r10_medium/specs/Disk.antt "-- $(printf 'word %.0s' {1..27})"
+check "a line of definitions of more than 132 columns" answers check_names.py 1 "138 columns"
+anew
+with crates/r10_medium/specs/Memory.antt "abbrev pub Block : Type 0\nBlock = Type 0"
+check "a second word of definitions of one name" answers check_names.py 1 "Block is defined 2 times"
+anew
+with crates/r10_medium/specs/Found.antt "abbrev pub found : Type 0\nfound = Type 0"
+check "a module whose name says nothing" answers check_names.py 1 "Found.antt: this name says nothing"
 # shellcheck disable=SC2154
 exit "$failed"

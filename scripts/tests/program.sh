@@ -64,6 +64,10 @@ status 3"
     check "so is a standard input that is closed: $words" says "$("$r10" $words 2>&1 <&-; echo "status $?")" "status 3"
 done
 
+# The verdict on recordings in windows of many sizes.
+said=$("$top/scripts/trials/check_windows.py" "$r10" 2>&1)
+check "a recording has its verdict whatever windows it comes in" says "$said" ", 0 differ"
+
 # Writers. Each command's output, onto a full disk, and into a pipe that nobody reads.
 commands=(
     "one.toml sim"

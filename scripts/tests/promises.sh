@@ -128,7 +128,6 @@ check "and may be changed" changes 0 "$room/docs/PROMISES.md" 's/^# The promises
 check "it has a contract whole, without its comments" is \
     "$(grep -c 'requires low\|ensures counted\|ensures same\|ensures { IsC\|no promise\|It counts' "$room/docs/PROMISES.md")" 5
 check "and what a type gives for a word of a trait" says "$(cat "$room/docs/PROMISES.md")" '`took of Ring`'
-check "and words of the toolchain" says "$(cat "$room/docs/PROMISES.md")" '`IfOk`, `◌≡◌` (`std.specs.Prelude`)'
 
 readonly change="a promise, or what it stands on"
 check "a clause that is emptied is seen" \

@@ -162,6 +162,12 @@ pub fn record_all(
     ensures { Run idle.now }
 
 record_all: 0 definitions in 0 files of 0 crates, 0 lines; and 0 of the toolchain and ported crates' record_all --depth 0
+check "a part of it" says 0 'crates/r10_high/src/run.rt:13: Machine::record_all
+
+Machine::record_all: 0 definitions in 0 files of 0 crates, 0 lines; and 3 of the toolchain and ported crates' \
+    Machine::record_all --names --part model
+check "and the part that has the rest" has 0 "Machine::record_all: 8 definitions" Machine::record_all --names --part formats
+check "no such part" has 2 "scripts/proofs/reads.py NAME" Machine::record_all --part else
 check "a name of nothing" says 1 "reads: there is no public function, type or definition Nothing" Nothing
 check "a clause that is not there" says 1 \
     "reads: Machine::record_all has no clause last; it has requires, runs, ends" Machine::record_all.last
@@ -173,7 +179,12 @@ check "no page" has 1 "docs/THEOREM.md is not what" --check
 "$room/scripts/proofs/reads.py" --page
 check "the page as it is written" says 0 "" --check
 sed -i 's/^-- a step$/-- one step/' "$high/specs/Steps.antt"
-check "a page that is older than a definition" has 1 "docs/THEOREM.md is not what" --check
+check "a comment far below leaves the page" says 0 "" --check
+sed -i 's/2 ^ 48/2 ^ 47/' "$low/specs/Counts.antt"
+check "a page that is older than a definition four steps below" has 1 "docs/THEOREM.md is not what" --check
+sed -i 's/2 ^ 47/2 ^ 48/' "$low/specs/Counts.antt"
+sed -i 's/^-- one step after another$/-- one after another/' "$high/specs/Runs.antt"
+check "and one that is older than the comment of one that has its text there" has 1 "docs/THEOREM.md is not what" --check
 "$room/scripts/proofs/reads.py" --page
 sed -i '1i -- A comment over all.' "$high/specs/Steps.antt"
 check "lines that moved leave the page" says 0 "" --check

@@ -57,7 +57,7 @@ slips() {
 ends() { [ "$status" = "$1" ] && [[ $said == *"$2"* ]] || { echo "    status $status: $said"; false; }; }
 verdict() { grep -c " $1 [0-9]* [0-9a-f]* 20[0-9T:-]* $2" "$tree/scripts/proofs/slips.txt"; }
 key() { grep " $1 .* $2: " "$tree/scripts/proofs/slips.txt" | head -1 | cut -d ' ' -f 3; }
-column() { grep '^| `r10_high`' "$tree/docs/SLIPS.md" | head -1 | cut -d '|' -f "$1" | tr -d ' '; }
+column() { "$tree/scripts/proofs/slips.py" --crates | grep '^| `r10_high`' | cut -d '|' -f "$1" | tr -d ' '; }
 
 slips --together
 check "what shares a check is tried, and what has to be tried alone is left" ends 1 "4 tried, 2 left"
@@ -201,7 +201,9 @@ slips --check
 check "the page lists what the gate tries" ends 1 \
     'docs/SLIPS.md, "Edits of the gate", is not what scripts/proofs/slips.py --table writes'
 slips --table
-check "a line for each" is "$(grep -c '^| `r10_high` | `seven` | `it` | It is wrong |' "$tree/docs/SLIPS.md")" 1
+check "with the clause of each" is "$(grep -c '^- `r10_high`: `seven.it`$' "$tree/docs/SLIPS.md")" 1
+slips --edits
+check "and what is wrong is printed" ends 0 'r10_high seven, clause it: It is wrong'
 git -C "$tree" checkout -q scripts docs
 mkdir -p "$high/slips" && mv "$room/away"/* "$high/slips"
 rm "$high/guards/g.edit" && sed -i '/^pub fn seven/,$d' "$high/src/lib.rt" && commit back
@@ -228,7 +230,9 @@ check "none is tried again" is "$(wc -l <"$room/kit/bin/calls")" 0
 mutants --check
 check "they want a table and an explanation" ends 1 '"Mutants", is not what scripts/proofs/mutants.py --table writes'
 mutants --table
-check "the table is written" is "$(grep -c '^| `r10_high` | 7 | | | | 7 ' "$tree/docs/SLIPS.md")" 1
+check "the table is written" is "$(grep -c '^| all | 8 | | | | 8 ' "$tree/docs/SLIPS.md")" 1
+mutants --crates
+check "and a row for each crate is printed" ends 0 '| `r10_high` | 7 | | | | 7 '
 sed -i 's/+ 1 < five/five/' "$high/src/lib.rt"
 mutants --check
 check "that others would be drawn of another body fails no gate" is "$(grep -c 'is not what' <<<"$said")" 0

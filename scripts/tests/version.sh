@@ -12,6 +12,8 @@ check "VERSION is three numbers" is "$(grep -cE '^[0-9]{1,2}\.[0-9]{1,2}\.[0-9]{
 check "the program's source has it" is \
     "$(sed -n 's/^const VERSION: &str = "\(.*\)";$/\1/p' "$top/crates/r10_arguments/src/usage.rt")" \
     "$version"
+check "so has that of r10-survey" is \
+    "$(sed -n 's/^const VERSION: &str = "\(.*\)";$/\1/p' "$top/crates/r10_surveyor/src/main.rt")" "$version"
 check "so has the library's" is "$(sed -n 's/^const VERSION: u32 = \(.*\);$/\1/p' "$top/crates/r10_ffi/src/calls.rt")" "$number"
 check "so has the header" is "$(part MAJOR).$(part MINOR).$(part PATCH)" "$version"
 check "so have the declarations for Rust" is \

@@ -1,10 +1,11 @@
 #!/usr/bin/env python3
 """Writes the manual pages and the completions for shells, out of what the commands themselves say. scripts/install.sh calls it.
 
-    scripts/tools/manual.py PROGRAM FILTERS FOLDER [SERVICE]
+    scripts/tools/manual.py PROGRAM SURVEY FILTERS FOLDER [SERVICE]
 
-PROGRAM is a build of r10, FILTERS is scripts/ch10.py, and FOLDER gets man1/, man3/, bash/ and zsh/; with SERVICE, a folder that has
-r10d and r10ctl, also man8/. The texts are those of `--help`, of ffi/r10.h and of docs/RECORDER.md: nothing is said twice.
+PROGRAM is a build of r10, SURVEY one of r10-survey, FILTERS is scripts/ch10.py, and FOLDER gets man1/, man3/, bash/ and zsh/; with
+SERVICE, a folder that has r10d and r10ctl, also man8/. The texts are those of `--help`, of ffi/r10.h and of docs/RECORDER.md:
+nothing is said twice.
 Where a text has another form than the one that is read here, that is one line, and status 1.
 """
 from __future__ import annotations
@@ -140,6 +141,13 @@ def pages_of_program(program: str, version: str) -> dict[str, str]:
     return made
 
 
+def page_of_survey(survey: str, version: str) -> tuple[dict[str, str], Help]:
+    """The page of r10-survey, and its help."""
+    one = Help(said([survey, '--help']))
+    return {'man1/r10-survey.1': page('r10-survey', 1, version, one.about[0], [one.usage], [
+        ('DESCRIPTION', body(one.about + [''] + one.more)), ('OPTIONS', listed(one.options))], ['r10(1)', 'ch10(1)'])}, one
+
+
 def page_of_filters(filters: str, version: str) -> tuple[dict[str, str], dict[str, Help]]:
     """The page of ch10, and the help of each of its commands."""
     text = said([sys.executable, filters, '--help'])
@@ -236,11 +244,16 @@ def completions_of_service(helps: dict[str, Help]) -> dict[str, str]:
     """What bash and zsh complete after r10d and r10ctl."""
     words = {head.split()[0]: Help('%s\n\nUsage: %s\n' % (text, head)) for head, text in helps['r10ctl'].commands}
     made = completions('r10ctl', words, words_of(helps['r10ctl']))
-    bash = completions('r10d', {}, words_of(helps['r10d']))['bash/r10d']
-    described = [(word, text) for head, text in helps['r10d'].options for word in re.findall(r'--[\w-]+', head)]
+    return made | options_of('r10d', helps['r10d'], " '1:settings:_files'")
+
+
+def options_of(name: str, one: Help, more: str = '') -> dict[str, str]:
+    """What bash and zsh complete after a program without commands."""
+    bash = completions(name, {}, words_of(one))['bash/' + name]
+    described = [(word, text) for head, text in one.options for word in re.findall(r'--[\w-]+', head)]
     options = ' '.join("'%s[%s]'" % (word, text.replace("'", "'\\''")) for word, text in described)
-    zsh = "#compdef r10d\n# completions for zsh: r10d\n_arguments %s '1:settings:_files'\n" % options
-    return made | {'bash/r10d': bash, 'zsh/_r10d': zsh}
+    zsh = '#compdef %s\n# completions for zsh: %s\n_arguments %s%s\n' % (name, name, options, more)
+    return {'bash/' + name: bash, 'zsh/_' + name: zsh}
 
 
 def words_of(one: Help) -> list[str]:
@@ -302,13 +315,15 @@ case $words[1] in
 
 def main(words: list[str]) -> int:
     """Writes all."""
-    if len(words) not in (3, 4):
+    if len(words) not in (4, 5):
         print(__doc__, file=sys.stderr)
         return 2
-    program, filters, folder, service = words[0], words[1], pathlib.Path(words[2]), words[3:]
+    program, survey, filters, folder, service = words[0], words[1], words[2], pathlib.Path(words[3]), words[4:]
     version = (TOP / 'VERSION').read_text(encoding='utf-8').strip()
     try:
         made = pages_of_program(program, version)
+        of_survey, survey_help = page_of_survey(survey, version)
+        made |= of_survey | options_of('r10-survey', survey_help)
         of_filters, helps = page_of_filters(filters, version)
         made |= of_filters | page_of_header(TOP / 'ffi' / 'r10.h', version)
         commands = [name for name, _ in Help(said([program, '--help'])).commands]

@@ -216,7 +216,8 @@ def inputs_by_name() -> Tuple[object, object]:
 
 
 def outputs_without_room() -> Tuple[object, object]:
-    """Each command that writes says in a line that there is no room for it. (sqlite, hdf5 and mat write to a file.)"""
+    """Each command that writes says in a line that there is no room for it. (sqlite, hdf5 and mat write to a file.)
+    mend makes no file then: its report would be missing."""
     found, done = {}, set()
     with tempfile.TemporaryDirectory() as folder:
         path, base = os.path.join(folder, 'flight.ch10'), os.path.join(folder, 'range.db')
@@ -229,14 +230,17 @@ def outputs_without_room() -> Tuple[object, object]:
         run(['catalogue', 'add', '--unjudged', '--jobs', '1', '--db', base, path], b'')
         for words in (['summary'], ['csv'], ['json'], ['svg'], ['setup'], ['index'], ['range'], ['tmats'], ['file', 'FLT1'],
                       ['catalogue', 'find', '--db', base], ['catalogue', 'add', '--unjudged', '--jobs', '1', '--db', base, path],
-                      ['load', '--unjudged', '--jobs', '1', '--db', base, path], ['report', '--unjudged', path], ['--help'],
+                      ['load', '--unjudged', '--jobs', '1', '--db', base, path], ['report', '--unjudged', path],
+                      ['mend', path, '--out', path + '.mended'], ['rescue', path, path + '.found'], ['--help'],
                       ['--version'], ['export', '--as', 'samples'], ['values', '--icd', icd], ['plot', 'A', '--icd', icd]):
             given = {'tmats': text, 'export': analog, 'file': play_cases.alone(FIRST)}.get(words[0], data)
             done.add(words[0])
             with open('/dev/full', 'wb', buffering=0) as to:
                 found[' '.join(words[:2 if words[0] == 'catalogue' else 1])] = command.answer(words, lambda: given, lambda: to)
-    return (found, set(command.COMMANDS) - done), (
-        dict.fromkeys(found, (3, 'a read or a write failed: No space left on device')), {'sqlite', 'hdf5', 'mat'})
+        done |= {'mended'} if os.path.exists(path + '.mended') else set()
+    return (found, set(command.COMMANDS) ^ done), (
+        dict.fromkeys(found, (3, 'a read or a write failed: No space left on device')),
+        {'--help', '--version', 'sqlite', 'hdf5', 'mat'})
 
 
 def interrupted_early() -> Tuple[object, object]:

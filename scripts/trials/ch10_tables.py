@@ -21,6 +21,7 @@ from ch10.kinds import KINDS
 from ch10.standard import Fault, Wrong
 from ch10.tables import NO_TIME, Recording
 from ch10_others import segments_of
+from ch10_index import strict_flight
 from ch10_recordings import SETUP_TEXT, flight
 from ch10_types import Found, cells, run
 from chapter11 import opened, packet
@@ -321,5 +322,34 @@ def documented() -> Found:
     return bare, []
 
 
+def analysed() -> Found:
+    """The analysis in examples/ over a recording with losses: as many messages of each channel, terminal and subaddress as csv has,
+    and as many gaps."""
+    if not has('pandas', False):
+        return TRIED, TRIED
+    data = b''.join(strict_flight(random.Random('analysis'), 300))
+    rows = [row for row in csv.DictReader(io.StringIO(run(['csv', '--kind', '1553'], data)[1].decode()))]
+    wanted: dict = {}
+    for row in rows:
+        key = row['channel'], row['rt'] or '-1', row['sa'] or '-1'
+        wanted[key] = wanted.get(key, 0) + 1
+    with tempfile.NamedTemporaryFile(suffix='.ch10') as held:
+        held.write(data)
+        held.flush()
+        made = subprocess.run([sys.executable, '-B', str(TOP / 'examples' / 'analysis.py'), held.name], capture_output=True,
+                              text=True, env=dict(os.environ, PYTHONPATH=str(TOP)))
+    parts = made.stdout.split('\n\n')
+    said: dict = {}
+    for line in parts[2].splitlines()[1:] if len(parts) > 2 else []:
+        cells = line.split()
+        said[tuple(cells[:3])] = int(cells[3])
+    most = sorted(wanted.values(), reverse=True)[:len(said)]
+    gaps = sum(row['lost'] != '0' for row in rows)
+    return (made.stderr, len(said) > 2, all(wanted.get(key) == many for key, many in said.items()),
+            sorted(said.values(), reverse=True), '\n%d messages from ' % len(rows) in made.stdout,
+            '\n%d gaps in the messages' % gaps in made.stdout), ('', True, True, most, True, True)
+
+
 TRIALS: List[Callable[[], Found]] = [tables_of_kinds, channels_of_a_recording, words_and_arrays, opened_wrongly, files_of_columns,
-                                     files_of_columns_of_many, as_pip_installs, as_debian_has_it, documented]
+                                     files_of_columns_of_many, as_pip_installs, as_debian_has_it, documented,
+                                     analysed]

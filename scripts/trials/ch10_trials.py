@@ -39,6 +39,8 @@ from ch10 import command, inputs  # noqa: E402
 import ch10_damage  # noqa: E402
 import ch10_exports  # noqa: E402
 import ch10_hostile  # noqa: E402
+import ch10_index  # noqa: E402
+import ch10_jobs  # noqa: E402
 import ch10_meanings  # noqa: E402
 import ch10_others  # noqa: E402
 import ch10_tables  # noqa: E402
@@ -582,7 +584,8 @@ def check():
     trials += [lambda it=it: compare_others(*it) for it in others_recordings()]
     trials += [lambda it=it: compare_verdict(*it) for it in check_cases.verdicts()]
     trials += [lambda it=it: agree(run(it[0], it[1])[::2], it[2:], str(it[0])) for it in calls()] + [compare_shell]
-    modules = ch10_meanings, ch10_hostile, ch10_times, ch10_types, ch10_others, ch10_exports, ch10_units, ch10_tables
+    modules = (ch10_meanings, ch10_hostile, ch10_times, ch10_types, ch10_others, ch10_exports, ch10_units, ch10_tables, ch10_index,
+               ch10_jobs)
     trials += [lambda it=it: agree(*it(), it.__name__) for module in modules for it in module.TRIALS]
     trials += [lambda seed=seed: agree(ch10_damage.each_twentieth(seed), [], 'a bit in each twentieth packet') for seed in range(3)]
     trials += [lambda which=which: agree(ch10_damage.one_damaged(1, which)[1], [], 'damage') for which in range(20)]
@@ -660,7 +663,7 @@ def calls():
     yield ['csv', '--file', 'FLT1'], image, 2, (
         "argument --file: 'FLT1' is no number of a file, from 0 on: ch10 summary < IMAGE lists the files; see ch10 csv --help")
     known = ('the commands are summary, csv, json, svg, setup, index, tmats, sqlite, hdf5, mat, range, file, export, values, plot, '
-             'catalogue, load and report')
+             'catalogue, load, report, mend and rescue')
     for word, near in (('ls', "; the nearest is 'summary'"), ('sumary', "; the nearest is 'summary'"), ('qqq', '')):
         yield [word], image, 2, "there is no command '%s'%s; %s; see ch10 --help" % (word, near, known)
     yield ['medium.img'], image, 2, (

@@ -30,7 +30,7 @@ from range_limits import ends_on_term  # noqa: E402
 
 PAGE = TOP / 'docs' / 'RANGE.md'
 MOST = 300  # seconds for a line
-SERVER = ('createdb', 'psql', 'load --db dbname')  # lines that need a server
+SERVER = ('createdb', 'psql', '--db dbname')  # lines that need a server
 SYSTEM = '/usr/bin/python3'
 
 

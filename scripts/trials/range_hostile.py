@@ -593,6 +593,8 @@ def interrupts(room: str, dsns: Sequence[str], made: str, number: int = 1, seed:
                 os.killpg(made_.pid, signal.SIGINT)
             said = made_.communicate()[1]
             ended.append(made_.returncode)
+            # (each recording has its packets twenty times; what is said of that may come before the signal does)
+            said = b''.join(it for it in said.splitlines(True) if not it.rstrip().endswith(b'and so do their entries'))
             agree((said, made_.returncode in (0, 130, -signal.SIGINT)), (b'', True), 'a call that is interrupted')
             end = time.monotonic() + 600
             while time.monotonic() < end and alive_in(made_.pid):

@@ -45,8 +45,10 @@ sys.path[1:1] = map(str, [TOP, *(TOP / 'scripts').iterdir()])  # modules of the 
 from ch10.python import with_numpy  # noqa: E402
 
 with_numpy()
+import ch10_tables  # noqa: E402
 import play_cases  # noqa: E402
 import range_hostile  # noqa: E402
+import range_queue  # noqa: E402
 from ch10 import catalogue, command, find, load  # noqa: E402
 from ch10.entry_rows import TABLES  # noqa: E402
 from ch10.facts import StrictSurvey  # noqa: E402
@@ -57,6 +59,7 @@ from ch10.survey import Row, Survey  # noqa: E402
 from made_kinds import BY_NAME, FEW, text_body  # noqa: E402
 from postgres_server import NotThere, running_server, server  # noqa: E402
 from range_calls import Bad, Stream, agree, ch10, child, program, settled, state  # noqa: E402
+from range_columns import check_columns  # noqa: E402
 from range_limits import Hung, bounded, ends_on_term  # noqa: E402
 from range_page import check_report  # noqa: E402
 from range_recordings import packet, recording, time_body  # noqa: E402
@@ -428,6 +431,9 @@ def check(say: Callable[[str], Any]) -> int:
                 check_again(folder, dsn, made, count)
                 total = check_entries(folder, dsn, made, ['r001.ch10', 'r007.ch10'])
                 found[dsn] = answers(dsn)
+            if ch10_tables.has('h5py'):
+                with trial('files of columns'):
+                    check_columns(room, dsn, os.path.join(folder, 'r001.ch10'))
         with trial('answers by the other way'), range_hostile.in_place_of(find, 'MANY', 1):
             agree(answers(lite), found[lite], 'what SQLite answers where many channels fit')
         with trial('facts'):
@@ -442,6 +448,7 @@ def check(say: Callable[[str], Any]) -> int:
         if postgres:
             with trial('days of entries'):
                 check_days(room, postgres)
+            range_queue.check_queue(room, another_database(postgres, 'queue'), made, trial)
         with trial('kills'):
             kills = kill_each(folder, os.path.join(room, 'killed.sqlite'), 7, count + 2)
         with trial('statuses'):
@@ -474,11 +481,11 @@ def check_bounds() -> None:
             raise Bad('%s was not ended' % what)
 
 
-def another_database(dsn: str) -> str:
+def another_database(dsn: str, name: str = 'other') -> str:
     """An empty database of the same server."""
     with contextlib.closing(open_store(dsn, make=False)) as store:
-        store.rows('CREATE DATABASE other')
-    return dsn.replace('dbname=postgres', 'dbname=other')
+        store.rows('CREATE DATABASE ' + name)
+    return dsn.replace('dbname=postgres', 'dbname=' + name)
 
 
 def everything(seed: int) -> int:
