@@ -46,10 +46,9 @@ StandsInFront front entries = (rest : List Entry) × (front ++ rest ≡ entries)
 abbrev pub StandsLast : List Entry → List Entry → Type 0
 StandsLast back entries = (front : List Entry) × (front ++ back ≡ entries)
 
--- The entries of a channel's accepted messages, in their order: erases took the first, those after them are in the lists of
--- the files that this recorder began, in the files' order, and the last wait. Each stands once, and no other.
--- Of a recorder that failed the entries that no file shows, and some that waited, may be gone: what erases took, and what the
--- files show, still stand first, and what waits stands last.
+-- While the recorder works, the accepted entries, in their order, are those that erases took, those in the files that it began, in
+-- the files' order, and those that wait. Each stands once, and no other. After a failure those erased and those shown stand first,
+-- and those that wait last. Those that no file shows may be gone, and one may be both shown and waiting.
 pub record IsAccount (channel : ℕ) (m : Machine) (entries : List Entry) : Type 0 where
   pub gone : List Entry
   pub each : is_working m.mode ≡ true → gone ++ own_entries channel m.files ++ waiting_of channel m.lanes ≡ entries

@@ -3,7 +3,7 @@ use Rattle.std.proofs.Common.{◌≡◌, ◌≢◌, ◌⊎◌, ℕ, Bool, true, 
 use Rattle.std.specs.List.{All, last_or}
 use Rattle.std.proofs.lemmas.List.Elements.{All-nil, All-head, All-tail}
 use Rattle.r10_medium.specs.Disk.{Disk, Image, Unchanged}
-use Rattle.r10_medium.specs.Stop.{ComesBy}
+use Rattle.r10_medium.specs.PowerLoss.{ComesBy}
 use Rattle.r10_medium.proofs.PowerLoss.{stayed, unchanged_twice}
 use Rattle.r10_dirblock.specs.Block.{has_room_for_size}
 use Rattle.r10_dirblock.specs.declared.entry.Entry.{Entry}

@@ -5,7 +5,7 @@ use Rattle.r10_machine.specs.Config.{Config}
 use Rattle.r10_machine.specs.Machine.{File, fresh}
 use Rattle.r10_machine.specs.Says.{MediumHas, MediumSays}
 use Rattle.r10_medium.specs.Disk.{Disk, Image}
-use Rattle.r10_medium.specs.Stop.{Settled}
+use Rattle.r10_medium.specs.PowerLoss.{Settled}
 use Rattle.r10_refinement.specs.Safe.{IsSafe}
 use Rattle.r10_world.specs.State.{WorldState}
 use Rattle.r10_world.specs.PowerLoss.{Recovers}

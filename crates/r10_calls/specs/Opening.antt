@@ -6,7 +6,7 @@ use Rattle.r10_machine.specs.Config.{Config}
 use Rattle.r10_machine.specs.Machine.{File, fresh}
 use Rattle.r10_machine.specs.Says.{MediumHas, MediumSays}
 use Rattle.r10_medium.specs.Disk.{Disk, Image, IsSynced}
-use Rattle.r10_medium.specs.Stop.{Settled}
+use Rattle.r10_medium.specs.PowerLoss.{Settled}
 use Rattle.r10_volume.specs.Formatted.{IsFormatted}
 use Rattle.r10_script.specs.Keys.{HasOnly}
 use Rattle.r10_script.specs.Script.{AreScriptSettings, script_keys}

@@ -33,7 +33,8 @@ pub fn check_file(alloc: Global, bytes: &[u8]) -> Result<Verdict, AllocError>
     Ok(walked_verdict(&walked))
 }
 
-/// The verdict on a file that ends here, by its packets, whoever wrote them, and by the rules that they keep.
+/// The verdict on a file whose bytes were all given to both, whoever wrote them: by its packets, and by the rules that they
+/// keep. It means nothing where the judge does not take the file for a closed one.
 pub fn end_verdict(track: &ForeignTrack, judge: &Judge) -> Verdict
     ensures { (bytes : List ℕ) → TracksForeign track.now bytes → TracksJudged judge.now bytes
         → judge.now.closed ≡ true → IsVerdict bytes result }

@@ -19,7 +19,7 @@ use Rattle.r10_refinement.specs.KeptState.{Kept, Work, mode_of, idle, recording}
 use Rattle.r10_refinement.specs.Means.{HasFiles, KeptStandsFor}
 use Rattle.r10_medium.proofs.PowerLoss.{weakened}
 use Rattle.r10_medium.specs.Disk.{Disk, Image}
-use Rattle.r10_medium.specs.Stop.{Leaves, Settled}
+use Rattle.r10_medium.specs.PowerLoss.{Leaves, Settled}
 use Rattle.r10_openfile.specs.Keeping.{Becomes, StopKeepsFiles, Keeps}
 use Rattle.r10_openfile.specs.Starting.{begun_file}
 use Rattle.r10_seal.specs.Leftover.{IsOpenOrClosed, IsLeftOpen, SealsLast, StaysOpen, shown_cost}

@@ -16,7 +16,7 @@ use Rattle.r10_refinement.specs.KeptState.{Kept, Work, unmounted, idle, recordin
 use Rattle.r10_refinement.specs.Means.{HasFiles, KeptStandsFor}
 use Rattle.r10_medium.proofs.PowerLoss.{one_image, unchanged, weakened}
 use Rattle.r10_medium.specs.Disk.{Disk, Image, Unchanged}
-use Rattle.r10_medium.specs.Stop.{Leaves, Settled}
+use Rattle.r10_medium.specs.PowerLoss.{Leaves, Settled}
 use Rattle.r10_openfile.specs.Keeping.{StopKeepsFiles, Keeps, StaysKept}
 use Rattle.r10_control.proofs.Bytes.{holds_of}
 use Rattle.r10_control.proofs.Recordings.{Last, last_held}

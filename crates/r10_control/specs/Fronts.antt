@@ -16,7 +16,7 @@ use Rattle.r10_machine.specs.declared.event.Event.{Event as EventValue}
 use Rattle.r10_machine.specs.declared.event.Event.TheVariants as events
 use Rattle.r10_refinement.specs.KeptState.{Kept, Work, idle, recording}
 use Rattle.r10_medium.specs.Disk.{Disk, Image, Unchanged}
-use Rattle.r10_medium.specs.Stop.{Leaves}
+use Rattle.r10_medium.specs.PowerLoss.{Leaves}
 use Rattle.r10_openfile.specs.AtOnce.{BeginsAtOnce, SparesFront, TurnsAtOnce}
 use Rattle.r10_seal.specs.Judging.{IsUnsealable}
 use Rattle.r10_seal.specs.Sealing.{IsPartlySealed, IsSealing, IsUnsealed, listing_block}

@@ -3,7 +3,7 @@ use Rattle.std.specs.Prelude.{◌≡◌, ℕ, ◌≤◌, ◌⊎◌, true, List, 
 use Rattle.std.specs.Prelude.{Result, IfErr, IfOk, IfSome, OnErr, OnOk, MatchResult}
 use Rattle.std.specs.List.{AllByRecursion}
 use Rattle.r10_medium.specs.Disk.{Disk}
-use Rattle.r10_medium.specs.Stop.{Leaves, Settled}
+use Rattle.r10_medium.specs.PowerLoss.{Leaves, Settled}
 use Rattle.r10_count.specs.Checks.{first_broken}
 use Rattle.r10_count.specs.declared.civil.Parts.{Parts}
 use Rattle.r10_blockout.specs.Output.{first_of, size_of}

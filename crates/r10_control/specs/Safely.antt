@@ -13,7 +13,7 @@ use Rattle.r10_machine.specs.declared.reply.Reply.TheVariants as replies
 use Rattle.r10_refinement.specs.KeptState.{Kept}
 use Rattle.r10_refinement.specs.Means.{KeptStandsFor}
 use Rattle.r10_medium.specs.Disk.{Disk, Image}
-use Rattle.r10_medium.specs.Stop.{Leaves}
+use Rattle.r10_medium.specs.PowerLoss.{Leaves}
 use Rattle.r10_openfile.specs.Machines.{HasWaiting}
 use Rattle.r10_openfile.specs.Stopping.{Part, TellsWaiting, TookAll}
 use Rattle.r10_refinement.specs.PowerLossInCalls.{Makes, StaysSafe}

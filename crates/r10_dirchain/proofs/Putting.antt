@@ -2,7 +2,7 @@
 use Rattle.std.proofs.Common.{◌≡◌, ◌≢◌, ◌⊎◌, ℕ, [], ◌∷◌, Result, OnOk, inl, inr, ⊎_elim, sym, ◌∙◌, subst}
 use Rattle.std.proofs.lemmas.List.Elements.{All-head, All-tail}
 use Rattle.r10_medium.specs.Disk.{Disk, Image, MayLeave}
-use Rattle.r10_medium.specs.Stop.{Settled, Leaves, ComesBy, Moves, SameBut}
+use Rattle.r10_medium.specs.PowerLoss.{Settled, Leaves, ComesBy, Moves, SameBut}
 use Rattle.r10_medium.proofs.PowerLoss.{joined, weakened, settled_now}
 use Rattle.r10_dirchain.specs.declared.chain.ChainBlock.{ChainBlock}
 use Rattle.r10_dirchain.specs.OnMedium.{Put, PutTwo}

@@ -3,7 +3,7 @@ use Rattle.std.proofs.Common.{Bool, false, if◌then◌else◌, ◌≡◌, ◌�
 use Rattle.std.specs.List.{All}
 use Rattle.std.proofs.lemmas.List.Elements.{All-cons, All-nil, All-head, All-from_get_or}
 use Rattle.r10_medium.specs.Disk.{Disk, Image, IsSynced, MayLeave, block_at}
-use Rattle.r10_medium.specs.Stop.{Settled, Leaves, ComesBy, SameBut}
+use Rattle.r10_medium.specs.PowerLoss.{Settled, Leaves, ComesBy, SameBut}
 use Rattle.r10_medium.proofs.PowerLoss.{weakened, reads_now, settled_reads}
 use Rattle.r10_dirchain.specs.declared.chain.ChainBlock.{ChainBlock}
 use Rattle.r10_dirchain.specs.Chain.{IsDirectory, at, blank_block}

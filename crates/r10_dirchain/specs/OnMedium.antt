@@ -2,7 +2,7 @@
 use Rattle.std.specs.Prelude.{◌≡◌, ◌≢◌, ◌⊎◌, ℕ, ◌+◌, ◌<◌, ◌≤◌, List, [], ◌∷◌, length, Result, OnOk, IsErrOf}
 use Rattle.std.specs.List.{All}
 use Rattle.r10_medium.specs.Disk.{Disk, Image, IsSynced, Rose, block_at}
-use Rattle.r10_medium.specs.Stop.{Settled, Leaves, ComesBy, SameBut}
+use Rattle.r10_medium.specs.PowerLoss.{Settled, Leaves, ComesBy, SameBut}
 use Rattle.r10_dirblock.specs.Block.{block_bytes}
 use Rattle.r10_dirchain.specs.declared.chain.ChainBlock.{ChainBlock}
 use Rattle.r10_dirchain.specs.declared.formatting.FormatError.{FormatError}

@@ -3,7 +3,7 @@ ghost use Rattle.std.specs.Prelude.{◌≡◌, ◌⊎◌, ◌≤◌, ◌+◌, �
 ghost use Rattle.r10_count.specs.Checks.{first_broken};
 ghost use Rattle.r10_count.specs.Names.{is_volume};
 ghost use Rattle.r10_medium.specs.Disk.{IsSynced, MayLeave, block_at};
-ghost use Rattle.r10_medium.specs.Stop.{Settled, Leaves};
+ghost use Rattle.r10_medium.specs.PowerLoss.{Settled, Leaves};
 ghost use Rattle.r10_dirblock.specs.Block.{block_bytes};
 ghost use Rattle.r10_dirchain.specs.Chain.{at};
 ghost use Rattle.r10_dirchain.specs.Mount.{mount_rules};

@@ -1,7 +1,7 @@
 // One directory block, written so that a power loss leaves the medium before it or after it.
 ghost use Rattle.std.specs.Prelude.{◌≡◌, ◌≢◌, ◌⊎◌, ◌<◌, length, OnOk};
 ghost use Rattle.r10_medium.specs.Disk.{Counts, IsSynced, MayLeave};
-ghost use Rattle.r10_medium.specs.Stop.{Settled, Leaves, ComesBy, Moves, SameBut};
+ghost use Rattle.r10_medium.specs.PowerLoss.{Settled, Leaves, ComesBy, Moves, SameBut};
 ghost use Rattle.r10_dirblock.specs.Block.{HasRooms};
 ghost use Rattle.r10_dirchain.specs.OnMedium.{Put, PutTwo};
 

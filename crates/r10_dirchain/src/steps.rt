@@ -2,7 +2,7 @@
 ghost use Rattle.std.specs.Prelude.{◌≡◌, ◌⊎◌, ◌≤◌, ◌<◌, ◌+◌, ◌-◌, [], ◌∷◌, List, length, nat_le, true, false, OnOk, OnErr, IfOk};
 ghost use Rattle.std.specs.List.{All};
 ghost use Rattle.r10_medium.specs.Disk.{Counts, IsSynced};
-ghost use Rattle.r10_medium.specs.Stop.{Settled, Leaves};
+ghost use Rattle.r10_medium.specs.PowerLoss.{Settled, Leaves};
 ghost use Rattle.r10_dirblock.specs.Block.{HasRooms, has_room_for_size};
 ghost use Rattle.r10_dirchain.specs.declared.chain.ChainBlock.{ChainBlock};
 ghost use Rattle.r10_dirchain.specs.Chain.{IsDirectory, listed_files, at};

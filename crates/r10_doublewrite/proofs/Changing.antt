@@ -4,7 +4,7 @@ use Rattle.std.specs.Prelude.{slice_index}
 use Rattle.std.proofs.Math.Nat.{mul-suc}
 use Rattle.std.proofs.lemmas.List.{drop_more, length-drop}
 use Rattle.r10_medium.specs.Disk.{Image}
-use Rattle.r10_medium.specs.Stop.{put_blocks}
+use Rattle.r10_medium.specs.PowerLoss.{put_blocks}
 use Rattle.r10_sector.specs.Held.{Held, AgreesBut, IsAmong, put_sectors}
 use Rattle.r10_sector.specs.Plate.{Plate, Changes, IsLeftChangedBy}
 

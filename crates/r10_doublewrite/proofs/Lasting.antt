@@ -6,7 +6,7 @@ use Rattle.std.proofs.Math.Seq.{take-set-lt, take-add}
 use Rattle.std.proofs.lemmas.Bool.{cases_lt, cases_eq}
 use Rattle.std.proofs.lemmas.List.{length-append, length-drop, length-set, get_or_append_left, get_or_push, take_more, take_all, drop-append-le, take-append-le, drop-set-lt, drop-set-add, take-set-le, take-append-drop, nil_from_length}
 use Rattle.r10_medium.specs.Disk.{Image, Block, block_at}
-use Rattle.r10_medium.specs.Stop.{put_blocks}
+use Rattle.r10_medium.specs.PowerLoss.{put_blocks}
 use Rattle.r10_sector.specs.Held.{IsAmong, put_sectors}
 use Rattle.r10_sector.proofs.Placing.{Lie, lie_rest, size_first, size_rest, length_one, length_put, one_below, one_inside, one_above, put_or_kept}
 use Rattle.r10_doublewrite.specs.Last.{IsLast}

@@ -8,7 +8,7 @@ use Rattle.std.proofs.lemmas.List.Elements.{All-nil, All-cons, All-head, All-tai
 use Rattle.std.proofs.lemmas.Bool.{eqb-true}
 use Rattle.r10_count.specs.Checks.{first_broken}
 use Rattle.r10_medium.specs.Disk.{Block, Image, IsWhole, block_at}
-use Rattle.r10_medium.specs.Stop.{SameBelow}
+use Rattle.r10_medium.specs.PowerLoss.{SameBelow}
 use Rattle.r10_medium.proofs.Bytes.{length-concat, whole_drop}
 use Rattle.r10_dirblock.specs.Block.{IsBlock}
 use Rattle.r10_dirblock.specs.declared.entry.Entry.{Entry as DirectoryEntry}

@@ -34,7 +34,7 @@ Marks s old number count new =
 
 -- ---- files
 
--- the open file shows all that it has
+-- The open file shows all its entries. Its new size is left open here: what the medium says fixes it (`MediumSays`, in `Run`).
 abbrev pub Commits : Machine → Machine → Type 0
 Commits old new = new ≡ with_last (shown_whole (last_size new)) old
 

@@ -26,7 +26,7 @@ count_or_0 (Some n) = n
 
 -- ---- channels
 
--- the entries of a channel in the files that this recorder began
+-- the files that this recorder began
 abbrev pub own_files : List File → List File
 own_files files = filter (λ f. f.own) files
 

@@ -12,7 +12,7 @@ ghost use Rattle.r10_machine.specs.Config.{Config};
 ghost use Rattle.r10_machine.specs.Machine.{File};
 ghost use Rattle.r10_machine.specs.Room.{next_block};
 ghost use Rattle.r10_medium.specs.Disk.{Image, IsWhole};
-ghost use Rattle.r10_medium.specs.Stop.{SameBelow};
+ghost use Rattle.r10_medium.specs.PowerLoss.{SameBelow};
 ghost use Rattle.r10_machine.specs.Says.{Lists, MediumSays, SaysEach, SaysFile};
 ghost use Rattle.r10_blockout.specs.Blocks.{bytes_from};
 

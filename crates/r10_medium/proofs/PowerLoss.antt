@@ -3,7 +3,7 @@ use Rattle.std.proofs.Common.{◌∷◌, ◌++◌, drop, ◌≡◌, ◌≢◌, �
 use Rattle.std.proofs.lemmas.Bool.{cases_eq}
 use Rattle.std.proofs.lemmas.List.{length-set, length-append, length-take-le, append_assoc, drop_more, set_at, ext_get_or, set-get_or, set-set}
 use Rattle.r10_medium.specs.Disk.{Disk, Image, Block, block_at, IsWhole, MayLeave, Unchanged, Wrote, IsSynced}
-use Rattle.r10_medium.specs.Stop.{Settled, Leaves, ComesBy, Moves, SameBelow, SameBut, PutsSome, put_blocks}
+use Rattle.r10_medium.specs.PowerLoss.{Settled, Leaves, ComesBy, Moves, SameBelow, SameBut, PutsSome, put_blocks}
 
 -- before the first call
 pub started : (P : Image → Type 0) (disk : Disk) → Settled P disk → Leaves P disk disk

@@ -1,7 +1,7 @@
 // A block that is published, and what a power loss at any moment of that leaves.
 ghost use Rattle.std.specs.Prelude.{◌≡◌, ◌⊎◌, ◌<◌, length, slice_set, OnOk};
 ghost use Rattle.r10_medium.specs.Disk.{Counts, IsSynced, MayLeave, MayPut};
-ghost use Rattle.r10_medium.specs.Stop.{Leaves};
+ghost use Rattle.r10_medium.specs.PowerLoss.{Leaves};
 
 use crate::{BlockMedium, MediumFault};
 

@@ -11,7 +11,7 @@ use Rattle.r10_dirchain.specs.Steps.{added, last_block, spare, updated}
 use Rattle.r10_dirchain.specs.declared.chain.ChainBlock.{ChainBlock}
 use Rattle.r10_medium.proofs.PowerLoss.{Joins, at_rest, below_puts, joined, moved_on, then_stays, weakened, weaker_moves}
 use Rattle.r10_medium.specs.Disk.{Disk, Image, Unchanged, block_at}
-use Rattle.r10_medium.specs.Stop.{ComesBy, Moves, PutsSome}
+use Rattle.r10_medium.specs.PowerLoss.{ComesBy, Moves, PutsSome}
 use Rattle.r10_openfile.specs.AtOnce.{BeginsAtOnce, HasTurned, IsTurning, SameFront, SparesFront, TurnsAtOnce}
 use Rattle.r10_openfile.specs.ByParts.{IsRelisting, ListsPut, RelistsByParts}
 use Rattle.r10_volume.proofs.Relisting.{written_in}

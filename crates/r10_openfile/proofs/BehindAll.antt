@@ -3,7 +3,7 @@ use Rattle.std.proofs.Common.{◌≡◌, ℕ, List, [], ◌++◌, None, subst, a
 use Rattle.std.proofs.lemmas.List.Elements.{All-from_get_or}
 use Rattle.r10_count.specs.Checks.{first_broken}
 use Rattle.r10_medium.specs.Disk.{Disk, Image, IsWhole}
-use Rattle.r10_medium.specs.Stop.{ComesBy, Leaves, PutsSome, SameBelow, Settled}
+use Rattle.r10_medium.specs.PowerLoss.{ComesBy, Leaves, PutsSome, SameBelow, Settled}
 use Rattle.r10_medium.proofs.PowerLoss.{below_puts, weakened, whole_left}
 use Rattle.r10_blockout.specs.Blocks.{first_blocks}
 use Rattle.r10_blockout.specs.Output.{Puts}

@@ -5,7 +5,7 @@ use Rattle.std.specs.List.{All}
 use Rattle.std.proofs.lemmas.List.{append-nil, take_all}
 use Rattle.std.proofs.lemmas.List.Elements.{All-cons, All-from_get_or, All-tail}
 use Rattle.r10_medium.specs.Disk.{Disk, Image, IsSynced, Unchanged, block_at}
-use Rattle.r10_medium.specs.Stop.{Leaves, Settled}
+use Rattle.r10_medium.specs.PowerLoss.{Leaves, Settled}
 use Rattle.r10_medium.proofs.PowerLoss.{below_puts, joined, settled_reads, then_stays, weakened, whole_reads}
 use Rattle.r10_blockout.specs.Blocks.{Shows, bytes_from, blocks_for, file_blocks, first_blocks}
 use Rattle.r10_blockout.specs.Output.{Puts, first_of}

@@ -5,7 +5,7 @@ use Rattle.std.specs.List.{All}
 use Rattle.std.proofs.lemmas.List.Elements.{All-nil, All-cons, All-tail, All-from_get_or}
 use Rattle.r10_count.specs.Checks.{first_broken}
 use Rattle.r10_medium.specs.Disk.{Disk, Image, IsSynced, IsWhole}
-use Rattle.r10_medium.specs.Stop.{ComesBy, Leaves, Settled}
+use Rattle.r10_medium.specs.PowerLoss.{ComesBy, Leaves, Settled}
 use Rattle.r10_medium.proofs.PowerLoss.{one_image, settled_reads, weakened, whole_left, whole_reads}
 use Rattle.r10_blockout.specs.Blocks.{bytes_from}
 use Rattle.r10_packetout.specs.Carries.{Recording}

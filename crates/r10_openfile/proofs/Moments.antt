@@ -6,7 +6,7 @@ use Rattle.r10_blockout.proofs.Showing.{stays_shown, whole_put}
 use Rattle.r10_machine.specs.Config.{Config}
 use Rattle.r10_machine.specs.Machine.{File}
 use Rattle.r10_medium.specs.Disk.{Disk, Image, IsWhole}
-use Rattle.r10_medium.specs.Stop.{ComesBy, Leaves, PutsSome}
+use Rattle.r10_medium.specs.PowerLoss.{ComesBy, Leaves, PutsSome}
 use Rattle.r10_medium.proofs.PowerLoss.{below_puts, reads_now, settled_now, weakened, whole_left}
 use Rattle.r10_machine.proofs.Said.{growing_stands}
 use Rattle.r10_openfile.specs.Keeping.{StopKeepsFiles, Keeps, StaysKept}

@@ -7,7 +7,7 @@ use Rattle.r10_dirchain.specs.Chain.{IsDirectory}
 use Rattle.r10_dirchain.specs.Steps.{added, last_block, spare}
 use Rattle.r10_dirchain.specs.declared.chain.ChainBlock.{ChainBlock}
 use Rattle.r10_medium.specs.Disk.{Disk, Image, block_at}
-use Rattle.r10_medium.specs.Stop.{ComesBy, Leaves}
+use Rattle.r10_medium.specs.PowerLoss.{ComesBy, Leaves}
 
 -- as long, and blocks in front of this one, but for those of these numbers, are as they were
 pub record SameFront (first : ℕ) (numbers : List ℕ) (old new : Image) : Type 0 where

@@ -17,7 +17,7 @@ use Rattle.r10_machine.specs.Machine.{File}
 use Rattle.r10_machine.specs.Room.{fits}
 use Rattle.r10_machine.specs.Says.{MediumSays}
 use Rattle.r10_medium.specs.Disk.{Disk, Image}
-use Rattle.r10_medium.specs.Stop.{Leaves, Settled}
+use Rattle.r10_medium.specs.PowerLoss.{Leaves, Settled}
 use Rattle.r10_mux.specs.Begun.{begun_recording}
 use Rattle.r10_openfile.specs.Carrying.{IsShown}
 use Rattle.r10_openfile.specs.Keeping.{MayGoOn, StopKeepsFiles}

@@ -1,7 +1,7 @@
 -- A file that was written after all others, before it is listed.
 use Rattle.std.specs.Prelude.{◌≡◌, ◌<◌, ℕ, false, true, List, [], ◌++◌, None, length}
 use Rattle.r10_medium.specs.Disk.{Image}
-use Rattle.r10_medium.specs.Stop.{PutsSome}
+use Rattle.r10_medium.specs.PowerLoss.{PutsSome}
 use Rattle.r10_blockout.specs.Blocks.{Shows, first_blocks}
 use Rattle.r10_blockout.specs.Output.{first_of, size_of}
 use Rattle.r10_body.specs.Files.{FileSays}

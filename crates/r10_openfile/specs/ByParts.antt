@@ -9,7 +9,7 @@ use Rattle.r10_dirchain.specs.OnMedium.{Turned}
 use Rattle.r10_dirchain.specs.Steps.{last_listing, updated}
 use Rattle.r10_dirchain.specs.declared.chain.ChainBlock.{ChainBlock}
 use Rattle.r10_medium.specs.Disk.{Disk, Image}
-use Rattle.r10_medium.specs.Stop.{ComesBy, Leaves, PutsSome, Settled}
+use Rattle.r10_medium.specs.PowerLoss.{ComesBy, Leaves, PutsSome, Settled}
 
 -- Blocks of the file with these bytes were put over the old image, and nothing else; what is between shows from the first
 -- block on a file that says this text and these entries, closed or not, as long as an entry tells. Over that the

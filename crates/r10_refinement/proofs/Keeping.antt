@@ -10,7 +10,7 @@ use Rattle.r10_machine.specs.Says.{MediumSays}
 use Rattle.r10_refinement.specs.KeptState.{Work, mode_of, unmounted, idle, recording, failed}
 use Rattle.r10_medium.proofs.PowerLoss.{one_image, reads_now, settled_now, settled_stays}
 use Rattle.r10_medium.specs.Disk.{Disk, Image, IsSynced, Unchanged, block_at}
-use Rattle.r10_medium.specs.Stop.{Leaves, Settled}
+use Rattle.r10_medium.specs.PowerLoss.{Leaves, Settled}
 use Rattle.r10_refinement.proofs.Finding.{parts_said}
 use Rattle.r10_refinement.specs.Safe.{IsSafe, IsSafeOrFailed, SaysLast}
 

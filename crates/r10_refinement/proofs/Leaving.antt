@@ -4,7 +4,7 @@ use Rattle.std.proofs.lemmas.List.{length-append, take-append-le, take_all}
 use Rattle.r10_machine.specs.Config.{Config}
 use Rattle.r10_machine.specs.Machine.{Machine}
 use Rattle.r10_medium.specs.Disk.{Disk, Image, Unchanged}
-use Rattle.r10_medium.specs.Stop.{Leaves, Settled}
+use Rattle.r10_medium.specs.PowerLoss.{Leaves, Settled}
 use Rattle.r10_medium.proofs.PowerLoss.{joined, settled_now, started, stayed, weakened}
 use Rattle.r10_machine.specs.Says.{MediumSays}
 use Rattle.r10_machine.specs.Step.{Run}

@@ -15,7 +15,7 @@ use Rattle.r10_refinement.specs.KeptState.{Kept, Work, mode_of, unmounted, idle,
 use Rattle.r10_refinement.specs.Means.{HasFiles, KeptStandsFor}
 use Rattle.r10_medium.proofs.PowerLoss.{stayed, weakened}
 use Rattle.r10_medium.specs.Disk.{Disk, Image, IsSynced, Unchanged}
-use Rattle.r10_medium.specs.Stop.{Leaves, Settled}
+use Rattle.r10_medium.specs.PowerLoss.{Leaves, Settled}
 use Rattle.r10_volume.specs.Holding.{OpenState}
 use Rattle.r10_refinement.proofs.Keeping.{safe_parts, safe_says, safe_shown, safe_synced, safe_unchanged}
 use Rattle.r10_refinement.proofs.Showing.{refused_shows_or_fails, step_shows}

@@ -11,7 +11,7 @@ use Rattle.r10_machine.specs.declared.reply.Reply.TheVariants.{Refused}
 use Rattle.r10_refinement.specs.KeptState.{Kept, failed}
 use Rattle.r10_refinement.specs.Means.{KeptStepsTo, KeptStandsFor}
 use Rattle.r10_medium.specs.Disk.{Disk, Image}
-use Rattle.r10_medium.specs.Stop.{Leaves}
+use Rattle.r10_medium.specs.PowerLoss.{Leaves}
 use Rattle.r10_refinement.specs.Safe.{IsSafe}
 
 -- ---- a call
@@ -51,9 +51,9 @@ AnswersSafely k old event reply result later new =
 -- ---- a run
 
 -- Where a machine got these replies to these events: the image says the files that it comes to by some first events and their
--- replies, or those that the next event makes of them. Which events these are is left open, and may be none at any moment of the
--- run: nobody gets a reply before the run returns. What a power loss leaves after each single event is stated by a run of that
--- event alone, and by each call of a recorder (`StaysSafe`).
+-- replies, or those that one event more makes of them with any reply that it may have. Which events these are is left open, and may
+-- be none at any moment of the run: nobody gets a reply before the run returns. What a power loss leaves after each single event is
+-- stated by a run of that event alone, and by each call of a recorder (`StaysSafe`).
 pub record IsLeft (s : Config) (m : Machine) (events : List EventValue) (given : List ReplyValue) (image : Image) : Type 0 where
   pub done : ℕ
   pub reported : done ≤ length events

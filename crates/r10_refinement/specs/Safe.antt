@@ -7,7 +7,7 @@ use Rattle.r10_machine.specs.Machine.{File}
 use Rattle.r10_machine.specs.Says.{MediumSays}
 use Rattle.r10_refinement.specs.KeptState.{Work, unmounted, idle, recording, failed}
 use Rattle.r10_medium.specs.Disk.{Disk, Image, IsSynced}
-use Rattle.r10_medium.specs.Stop.{Settled}
+use Rattle.r10_medium.specs.PowerLoss.{Settled}
 
 -- an image says these files, and of the last of them it has the bytes that another has
 pub record SaysLast (s : Config) (files : List File) (shown image : Image) : Type 0 where

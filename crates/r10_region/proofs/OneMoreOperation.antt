@@ -3,7 +3,7 @@ use Rattle.std.proofs.Common.{◌≡◌, ◌⊎◌, ℕ, ◌^◌, ◌<◌, ◌�
 use Rattle.std.proofs.lemmas.Bool.{cases_lt}
 use Rattle.std.proofs.lemmas.List.{take_all, take-append-le, length_push, length-set, get_or_append_left, get_or_push}
 use Rattle.r10_medium.specs.Disk.{Image, Block, block_at, MayPut, PicksEach}
-use Rattle.r10_region.specs.Device.{Device, device_of, at_rest, does, does_more, MayHold, IsLeftOfDevice, IsStoppedSince, AreWhole, written_size, told_if, put_if}
+use Rattle.r10_region.specs.Device.{Device, device_of, at_rest, does, does_more, MayHold, IsLeftOfDevice, IsLeftSince, AreWhole, written_size, told_if, put_if}
 use Rattle.r10_region.specs.RegionDisk.{read_stands}
 use Rattle.r10_region.specs.declared.operation.Operation.{Operation as OperationValue}
 use Rattle.r10_region.specs.declared.operation.Operation.TheVariants.{Write, Sync}
@@ -49,8 +49,8 @@ module _ (start : Image) (ops : List OperationValue) (blocks : Image) (reads : (
       split (inr (inr w)) = inl (inr w)
 
   -- what a power loss left after one of the operations before, or after all
-  left_before : (op : OperationValue) (t : ℕ) (image : Image) → IsStoppedSince start (ops ++ op ∷ []) t image
-      → IsStoppedSince start ops t image ⊎ IsLeftOfDevice (device_of start (ops ++ op ∷ [])) image
+  left_before : (op : OperationValue) (t : ℕ) (image : Image) → IsLeftSince start (ops ++ op ∷ []) t image
+      → IsLeftSince start ops t image ⊎ IsLeftOfDevice (device_of start (ops ++ op ∷ [])) image
   left_before op t image s = elim (cases_lt (length ops) s.done) [
     | inl less ↦ inr (subst (λ (l : List OperationValue). IsLeftOfDevice (device_of start l) image) (take_all s.done (ops ++ op ∷ []) (omega (arith, less, length_push ops op))) s.left)
     | inr more ↦ inl (record {
@@ -61,7 +61,7 @@ module _ (start : Image) (ops : List OperationValue) (blocks : Image) (reads : (
     })
   ]
 
-  pub synced_since : (b : Bool) (t : ℕ) (image : Image) → t ≤ length ops → IsStoppedSince start (told_if b Sync ops) t image → IsStoppedSince start ops t image
+  pub synced_since : (b : Bool) (t : ℕ) (image : Image) → t ≤ length ops → IsLeftSince start (told_if b Sync ops) t image → IsLeftSince start ops t image
   synced_since false t image le s = s
   synced_since true t image le s = elim (left_before Sync t image s) [
     | inl before ↦ before
@@ -76,8 +76,8 @@ module _ (start : Image) (ops : List OperationValue) (blocks : Image) (reads : (
     }
   ]
 
-  pub written_since : (b : Bool) (n : ℕ) (bytes : Block) (t : ℕ) (image : Image) → t ≤ length ops → IsStoppedSince start (told_if b (Write n bytes) ops) t image
-      → IsStoppedSince start ops t image ⊎ PicksEach (put_if b n bytes blocks) (MayHold (device_of start (told_if b (Write n bytes) ops))) image
+  pub written_since : (b : Bool) (n : ℕ) (bytes : Block) (t : ℕ) (image : Image) → t ≤ length ops → IsLeftSince start (told_if b (Write n bytes) ops) t image
+      → IsLeftSince start ops t image ⊎ PicksEach (put_if b n bytes blocks) (MayHold (device_of start (told_if b (Write n bytes) ops))) image
   written_since false n bytes t image le s = inl s
   written_since true n bytes t image le s = elim (left_before (Write n bytes) t image s) [
     | inl before ↦ inl before
@@ -103,8 +103,8 @@ module _ (start : Image) (ops ops2 : List OperationValue) (blocks : Image) (read
   pub later : length ops ≤ length ops2
   later = subst (λ (l : List OperationValue). length ops ≤ length l) (sym is) (no_fewer b Sync ops)
 
-  pub since : (t : ℕ) (image : Image) → t ≤ length ops → IsStoppedSince start ops2 t image → IsStoppedSince start ops t image
-  since t image le s = synced_since start ops blocks reads b t image le (subst (λ (l : List OperationValue). IsStoppedSince start l t image) is s)
+  pub since : (t : ℕ) (image : Image) → t ≤ length ops → IsLeftSince start ops2 t image → IsLeftSince start ops t image
+  since t image le s = synced_since start ops blocks reads b t image le (subst (λ (l : List OperationValue). IsLeftSince start l t image) is s)
 
   pub held : (k : ℕ) (c : Block) → MayHold (device_of start ops2) k c → MayHold (device_of start ops) k c
   held k c holds = held_before start ops blocks reads b k c (subst (λ (l : List OperationValue). MayHold (device_of start l) k c) is holds)
@@ -128,11 +128,11 @@ module _ (start : Image) (ops ops2 : List OperationValue) (blocks blocks2 : Imag
   pub later_put : length ops ≤ length ops2
   later_put = subst (λ (l : List OperationValue). length ops ≤ length l) (sym is) (no_fewer b (Write n bytes) ops)
 
-  pub since_put : (t : ℕ) (image : Image) → t ≤ length ops → IsStoppedSince start ops2 t image
-      → IsStoppedSince start ops t image ⊎ PicksEach blocks2 (MayHold (device_of start ops2)) image
-  since_put t image le s = subst (λ (l : Image). IsStoppedSince start ops t image ⊎ PicksEach l (MayHold (device_of start ops2)) image) (sym put)
-      (subst (λ (l : List OperationValue). IsStoppedSince start ops t image ⊎ PicksEach (put_if b n bytes blocks) (MayHold (device_of start l)) image) (sym is)
-      (written_since start ops blocks reads b n bytes t image le (subst (λ (l : List OperationValue). IsStoppedSince start l t image) is s)))
+  pub since_put : (t : ℕ) (image : Image) → t ≤ length ops → IsLeftSince start ops2 t image
+      → IsLeftSince start ops t image ⊎ PicksEach blocks2 (MayHold (device_of start ops2)) image
+  since_put t image le s = subst (λ (l : Image). IsLeftSince start ops t image ⊎ PicksEach l (MayHold (device_of start ops2)) image) (sym put)
+      (subst (λ (l : List OperationValue). IsLeftSince start ops t image ⊎ PicksEach (put_if b n bytes blocks) (MayHold (device_of start l)) image) (sym is)
+      (written_since start ops blocks reads b n bytes t image le (subst (λ (l : List OperationValue). IsLeftSince start l t image) is s)))
 
   pub may_put : MayPut n bytes blocks blocks2
   may_put = subst (MayPut n bytes blocks) (sym put) (put_or_not b n bytes blocks)

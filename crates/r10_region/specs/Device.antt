@@ -43,7 +43,7 @@ abbrev pub IsLeftOfDevice : Device → Image → Type 0
 IsLeftOfDevice d image = PicksEach d.reads (MayHold d) image
 
 -- What a power loss leaves of a disk that held `start`, after one of these operations, of which it has done t or more.
-pub record IsStoppedSince (start : Image) (ops : List OperationValue) (t : ℕ) (image : Image) : Type 0 where
+pub record IsLeftSince (start : Image) (ops : List OperationValue) (t : ℕ) (image : Image) : Type 0 where
   pub done : ℕ
   pub later : t ≤ done
   pub within : done ≤ length ops

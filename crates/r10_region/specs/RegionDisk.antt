@@ -4,7 +4,7 @@ use Rattle.std.proofs.Common.{arith, sym, ap, subst}
 use Rattle.std.proofs.lemmas.List.{take_all}
 use Rattle.r10_medium.specs.Crashing.{stays_in_range}
 use Rattle.r10_medium.specs.Disk.{Disk, Image, Block, IsWhole, PicksEach, block_at}
-use Rattle.r10_region.specs.Device.{device_of, at_rest, MayHold, IsLeftOfDevice, IsStoppedSince, AreWhole, all_sound, all_whole}
+use Rattle.r10_region.specs.Device.{device_of, at_rest, MayHold, IsLeftOfDevice, IsLeftSince, AreWhole, all_sound, all_whole}
 use Rattle.r10_region.specs.Device.{rest_is_sound, rest_is_whole}
 use Rattle.r10_region.specs.Identity.{Identity}
 use Rattle.r10_region.specs.Line.{told_by}
@@ -35,7 +35,7 @@ module _ (start : Image) (ops : List OperationValue) (blocks : Image) (reads : (
       (omega (arith, lt, ap length reads)) holds
 
   pub left_now : (t : ℕ) (image : Image) → t ≤ length ops → PicksEach blocks (MayHold (device_of start ops)) image
-      → IsStoppedSince start ops t image
+      → IsLeftSince start ops t image
   left_now t image le picks = record {
     done = length ops;
     later = le;
@@ -45,7 +45,7 @@ module _ (start : Image) (ops : List OperationValue) (blocks : Image) (reads : (
         (subst (λ (l : Image). PicksEach l (MayHold (device_of start ops)) image) (sym reads) picks);
   }
 
-  pub now_left : (image : Image) → IsStoppedSince start ops (length ops) image
+  pub now_left : (image : Image) → IsLeftSince start ops (length ops) image
       → PicksEach blocks (MayHold (device_of start ops)) image
   now_left image s = subst (λ (l : Image). PicksEach l (MayHold (device_of start ops)) image) reads
       (subst (λ (l : List OperationValue). IsLeftOfDevice (device_of start l) image) (take_all s.done ops s.later) s.left)
@@ -55,7 +55,7 @@ region_disk r = record {
   blocks = r.blocks.now;
   may_hold = MayHold (device_of (lent_to r) (asked r));
   moment = length (asked r);
-  since = IsStoppedSince (lent_to r) (asked r);
+  since = IsLeftSince (lent_to r) (asked r);
   failures = min r.failures (2 ^ 64 - 1);
   stands = λ n lt. read_stands (lent_to r) (asked r) r.blocks.now r.reads n;
   whole = held_whole (lent_to r) (asked r) r.blocks.now r.reads r.whole r.each_whole;

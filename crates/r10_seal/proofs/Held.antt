@@ -8,7 +8,7 @@ use Rattle.std.proofs.lemmas.List.{append-nil, nil_from_length}
 use Rattle.std.proofs.lemmas.List.Concat.{flat_map-append}
 use Rattle.r10_count.specs.declared.civil.Parts.{Parts}
 use Rattle.r10_medium.specs.Disk.{Disk, Image, IsWhole, Unchanged}
-use Rattle.r10_medium.specs.Stop.{Leaves, PutsSome, SameBelow, Settled}
+use Rattle.r10_medium.specs.PowerLoss.{Leaves, PutsSome, SameBelow, Settled}
 use Rattle.r10_medium.proofs.PowerLoss.{settled_reads, stayed, weakened, whole_left, whole_reads}
 use Rattle.r10_blockout.specs.Blocks.{Shows, bytes_from, file_blocks}
 use Rattle.r10_blockout.proofs.Showing.{shown_length}

@@ -7,7 +7,7 @@ use Rattle.std.proofs.lemmas.List.Concat.{flat_map-append}
 use Rattle.std.proofs.lemmas.List.Sums.{sum_by-append}
 use Rattle.r10_count.specs.Checks.{first_broken}
 use Rattle.r10_medium.specs.Disk.{Image, IsWhole}
-use Rattle.r10_medium.specs.Stop.{PutsSome, SameBelow}
+use Rattle.r10_medium.specs.PowerLoss.{PutsSome, SameBelow}
 use Rattle.r10_medium.proofs.Bytes.{length-read_front}
 use Rattle.r10_medium.proofs.PowerLoss.{below_puts}
 use Rattle.r10_blockout.specs.Blocks.{Shows, blocks_for, bytes_from, file_blocks}

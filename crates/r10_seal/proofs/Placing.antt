@@ -6,7 +6,7 @@ use Rattle.std.proofs.lemmas.Bool.{eqb-true, leb-true}
 use Rattle.std.proofs.lemmas.List.Elements.{All-nil, All-cons, All-head, All-tail}
 use Rattle.r10_count.specs.Checks.{first_broken}
 use Rattle.r10_medium.specs.Disk.{Block, Image}
-use Rattle.r10_medium.specs.Stop.{SameBelow}
+use Rattle.r10_medium.specs.PowerLoss.{SameBelow}
 use Rattle.r10_blockout.specs.Blocks.{Shows}
 use Rattle.r10_dirblock.specs.Block.{IsBlock}
 use Rattle.r10_dirblock.specs.declared.entry.Entry.{Entry}

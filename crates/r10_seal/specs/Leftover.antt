@@ -9,7 +9,7 @@ use Rattle.r10_machine.specs.Config.{Config}
 use Rattle.r10_machine.specs.Machine.{File, shown_entries}
 use Rattle.r10_machine.specs.Room.{area}
 use Rattle.r10_medium.specs.Disk.{Disk, Image}
-use Rattle.r10_medium.specs.Stop.{Leaves}
+use Rattle.r10_medium.specs.PowerLoss.{Leaves}
 use Rattle.r10_machine.specs.Bytes.{KeepBytes}
 use Rattle.r10_machine.specs.Says.{MediumSays}
 use Rattle.r10_volume.specs.Settling.{IsSettled}

@@ -2,7 +2,7 @@
 use Rattle.std.specs.Prelude.{◌≡◌, ◌⊎◌, ℕ, ◌^◌, ◌<◌, ◌≤◌, ◌++◌, false, List, [], ◌∷◌, length, Some, None}
 use Rattle.r10_count.specs.declared.civil.Parts.{Parts}
 use Rattle.r10_medium.specs.Disk.{Disk, Image}
-use Rattle.r10_medium.specs.Stop.{ComesBy, PutsSome}
+use Rattle.r10_medium.specs.PowerLoss.{ComesBy, PutsSome}
 use Rattle.r10_blockout.specs.Blocks.{Shows, bytes_from, file_blocks}
 use Rattle.r10_body.specs.Cost.{file_cost}
 use Rattle.r10_body.specs.Files.{PacketsSay}

@@ -3,7 +3,7 @@
 ghost use Rattle.std.specs.Prelude.{◌≡◌, ◌-◌, ◌*◌, ◌+◌, ◌≤◌, ◌++◌, ◌∷◌, ℕ, List, [], Option, Some, None, false, length};
 ghost use Rattle.std.specs.List.{last_or};
 ghost use Rattle.r10_medium.specs.Disk.{Image, IsWhole};
-ghost use Rattle.r10_medium.specs.Stop.{PutsSome};
+ghost use Rattle.r10_medium.specs.PowerLoss.{PutsSome};
 ghost use Rattle.r10_blockout.specs.Blocks.{bytes_from, file_blocks};
 ghost use Rattle.r10_body.specs.Packets.{Packet};
 ghost use Rattle.r10_dirblock.specs.declared.entry.Entry.{Entry as DirectoryEntry};

@@ -5,7 +5,7 @@ use Rattle.std.proofs.Math.Nat.{mul-suc}
 use Rattle.std.proofs.lemmas.Bool.{cases_lt}
 use Rattle.std.proofs.lemmas.List.{length-append, length-drop, get_or_append_left, get_or-append_right}
 use Rattle.r10_medium.specs.Disk.{Image, Block, block_at, IsWhole}
-use Rattle.r10_medium.specs.Stop.{put_blocks}
+use Rattle.r10_medium.specs.PowerLoss.{put_blocks}
 use Rattle.r10_sector.specs.Held.{IsAmong, put_sectors}
 
 -- ---- one run of blocks

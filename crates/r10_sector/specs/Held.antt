@@ -2,7 +2,7 @@
 use Rattle.std.specs.Prelude.{◌≡◌, ◌≢◌, ◌⊎◌, ℕ, ◌+◌, ◌*◌, ◌%◌, ◌<◌, ◌≤◌, List, [], ◌∷◌, length, take, drop, Option, None, Some}
 use Rattle.std.specs.Prelude.{slice_index, nat_lt, if◌then◌else◌}
 use Rattle.r10_medium.specs.Disk.{Image, block_at, IsWhole}
-use Rattle.r10_medium.specs.Stop.{put_blocks}
+use Rattle.r10_medium.specs.PowerLoss.{put_blocks}
 use Rattle.r10_sector.specs.declared.side.Side.{Side}
 use Rattle.r10_sector.specs.declared.side.Side.TheVariants.{One, Two}
 

@@ -1,7 +1,7 @@
 // A device of sectors that tear.
 ghost use Rattle.std.specs.Prelude.{◌≡◌, ◌+◌, ◌%◌, ◌<◌, ◌≤◌, ◌∷◌, [], ℕ, length, Some, None, OnOk, IfOk, IsErrOf};
 ghost use Rattle.r10_medium.specs.Disk.{block_at};
-ghost use Rattle.r10_medium.specs.Stop.{put_blocks};
+ghost use Rattle.r10_medium.specs.PowerLoss.{put_blocks};
 ghost use Rattle.r10_sector.specs.Held.{Held, AgreesBut, AgreesButSlot, AreSectors, slot_of, with_slot};
 ghost use Rattle.r10_sector.specs.Plate.{Plate, Changes, MakesSure, Rises, Stays};
 ghost use Rattle.r10_sector.specs.Stored.{slot_in};

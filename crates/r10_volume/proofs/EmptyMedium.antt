@@ -12,7 +12,7 @@ use Rattle.r10_machine.specs.Config.{Config}
 use Rattle.r10_machine.specs.Limits.{IsConfig}
 use Rattle.r10_machine.proofs.Ranges.{parts_of}
 use Rattle.r10_medium.specs.Disk.{Disk, Image, MayLeave}
-use Rattle.r10_medium.specs.Stop.{Leaves}
+use Rattle.r10_medium.specs.PowerLoss.{Leaves}
 use Rattle.r10_medium.proofs.PowerLoss.{weakened}
 
 -- the volume's name of settings within the limits is one that a directory takes

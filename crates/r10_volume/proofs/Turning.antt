@@ -4,7 +4,7 @@ use Rattle.std.specs.List.{All}
 use Rattle.std.proofs.lemmas.List.Elements.{All-nil, All-cons}
 use Rattle.r10_count.specs.Checks.{first_broken}
 use Rattle.r10_medium.specs.Disk.{Disk, Image, MayLeave, Unchanged, block_at}
-use Rattle.r10_medium.specs.Stop.{ComesBy, Leaves, Settled}
+use Rattle.r10_medium.specs.PowerLoss.{ComesBy, Leaves, Settled}
 use Rattle.r10_medium.proofs.PowerLoss.{joined, settled_reads, stayed, weakened, whole_reads}
 use Rattle.r10_dirblock.specs.declared.entry.Entry.{Entry as DirectoryEntry}
 use Rattle.r10_dirchain.specs.declared.chain.ChainBlock.{ChainBlock}

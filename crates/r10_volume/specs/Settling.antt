@@ -3,7 +3,7 @@ use Rattle.std.specs.Prelude.{List}
 use Rattle.r10_machine.specs.Config.{Config}
 use Rattle.r10_machine.specs.Machine.{File}
 use Rattle.r10_medium.specs.Disk.{Disk, Image}
-use Rattle.r10_medium.specs.Stop.{Settled}
+use Rattle.r10_medium.specs.PowerLoss.{Settled}
 use Rattle.r10_machine.specs.Bytes.{KeepBytes}
 use Rattle.r10_machine.specs.Says.{MediumSays}
 

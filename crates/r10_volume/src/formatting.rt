@@ -7,7 +7,7 @@ ghost use Rattle.r10_dirchain.specs.Chain.{at};
 ghost use Rattle.r10_dirchain.specs.Steps.{formatted};
 ghost use Rattle.r10_volume.specs.Formatted.{IsFormatted};
 ghost use Rattle.r10_medium.specs.Disk.{block_at, Counts, IsSynced, MayLeave};
-ghost use Rattle.r10_medium.specs.Stop.{Leaves, Settled};
+ghost use Rattle.r10_medium.specs.PowerLoss.{Leaves, Settled};
 ghost use Rattle.r10_machine.specs.Says.{MediumHas};
 
 use r10_body::Refusal;

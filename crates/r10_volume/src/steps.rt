@@ -1,7 +1,7 @@
 //! Steps on the directory of a medium in use.
 
 ghost use Rattle.std.specs.Prelude.{◌≡◌, ◌⊎◌, ℕ, List, [], ◌∷◌, None, OnOk, OnErr};
-ghost use Rattle.r10_medium.specs.Stop.{Leaves, Settled};
+ghost use Rattle.r10_medium.specs.PowerLoss.{Leaves, Settled};
 ghost use Rattle.r10_dirchain.specs.Chain.{IsDirectory, at};
 ghost use Rattle.r10_dirchain.specs.OnMedium.{IsPublished, Turns};
 ghost use Rattle.r10_dirchain.specs.Steps.{emptied, with_shutdown};

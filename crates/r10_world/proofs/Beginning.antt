@@ -14,7 +14,7 @@ use Rattle.r10_refinement.specs.KeptState.{Kept}
 use Rattle.r10_control.specs.Lanes.{unerased}
 use Rattle.r10_world.specs.RepresentedParts.{PartsStandFor}
 use Rattle.r10_machine.specs.Says.{MediumHas, MediumSays}
-use Rattle.r10_medium.specs.Stop.{Settled}
+use Rattle.r10_medium.specs.PowerLoss.{Settled}
 use Rattle.r10_refinement.specs.Safe.{IsSafe}
 
 none_erased : (specs : List ChannelSpec) → map unerased (map fresh_lane specs) ≡ map fresh_lane specs

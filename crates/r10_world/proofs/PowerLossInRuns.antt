@@ -19,7 +19,7 @@ use Rattle.r10_machine.specs.declared.reply.Reply.TheVariants as replies
 use Rattle.r10_refinement.specs.KeptState.{Kept, failed}
 use Rattle.r10_medium.proofs.PowerLoss.{unchanged}
 use Rattle.r10_medium.specs.Disk.{Disk, Unchanged}
-use Rattle.r10_medium.specs.Stop.{Leaves}
+use Rattle.r10_medium.specs.PowerLoss.{Leaves}
 use Rattle.r10_refinement.proofs.SafeCalls.{reads_safely, refused_safely, still_safely}
 use Rattle.r10_refinement.proofs.Keeping.{safe_says}
 use Rattle.r10_refinement.proofs.Leaving.{leaves_begun, leaves_more, leaves_still}

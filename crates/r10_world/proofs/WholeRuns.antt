@@ -19,7 +19,7 @@ use Rattle.r10_machine.specs.declared.mode.Mode.TheVariants as modes
 use Rattle.r10_machine.specs.declared.reply.Reply.{Reply as ReplyValue}
 use Rattle.r10_medium.proofs.PowerLoss.{joined, weakened}
 use Rattle.r10_medium.specs.Disk.{Disk, Image, MayLeave}
-use Rattle.r10_medium.specs.Stop.{Leaves, Settled}
+use Rattle.r10_medium.specs.PowerLoss.{Leaves, Settled}
 use Rattle.r10_refinement.proofs.Keeping.{safe_says}
 use Rattle.r10_refinement.specs.Again.{AreAgain}
 use Rattle.r10_refinement.specs.KeptState.{Work, mode_of, unmounted, idle, recording, failed}

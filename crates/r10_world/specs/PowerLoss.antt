@@ -21,7 +21,7 @@ use Rattle.r10_machine.specs.declared.event.Event.{Event as EventValue}
 use Rattle.r10_machine.specs.declared.reply.Reply.{Reply as ReplyValue}
 use Rattle.r10_refinement.specs.KeptState.{Kept, failed}
 use Rattle.r10_medium.specs.Disk.{Disk, Image, IsSynced, MayLeave, Rose, Unchanged}
-use Rattle.r10_medium.specs.Stop.{Leaves, Settled}
+use Rattle.r10_medium.specs.PowerLoss.{Leaves, Settled}
 use Rattle.r10_refinement.specs.Again.{AreAgain, FindsAgain}
 use Rattle.r10_refinement.specs.PowerLossInCalls.{IsLeft, StaysSafe}
 use Rattle.r10_refinement.specs.Safe.{IsSafe, IsSafeOrFailed, SaysLast}

@@ -7,7 +7,7 @@ ghost use Rattle.r10_machine.specs.Checks.{offer_refusal};
 ghost use Rattle.r10_machine.specs.Machine.{File, fresh, fresh_lane, lane_in};
 ghost use Rattle.r10_world.specs.Copies.{IsCopy};
 ghost use Rattle.r10_world.specs.Joined.{begun_world};
-ghost use Rattle.r10_medium.specs.Stop.{Settled};
+ghost use Rattle.r10_medium.specs.PowerLoss.{Settled};
 ghost use Rattle.r10_refinement.specs.Safe.{IsSafe};
 ghost use Rattle.r10_control.specs.Fronts.{Spares};
 ghost use Rattle.r10_control.specs.Lanes.{TakesWaiting};

@@ -1,6 +1,6 @@
 use Rattle.std.proofs.Common.{◌≡◌, ◌⊎◌, ◌<◌, inl, inr, length, subst, sym, ap, slice_set}
 use Rattle.r10_medium.specs.Disk.{Image, MayLeave}
-use Rattle.r10_medium.specs.Stop.{Leaves}
+use Rattle.r10_medium.specs.PowerLoss.{Leaves}
 use Rattle.r10_medium.proofs.PowerLoss.{stayed, then_stays, then_writes_synced}
 use Rattle.r10_medium.proofs.runs.publish.Goals as goal
 use Rattle.r10_medium.proofs.runs.publish.Goals.{After-write}

@@ -1,5 +1,5 @@
 use Rattle.std.proofs.Common.{◌∷◌, [], ◌++◌, length, drop, ap, refl, arith, ◌∙◌}
-use Rattle.r10_medium.specs.Stop.{put_blocks}
+use Rattle.r10_medium.specs.PowerLoss.{put_blocks}
 use Rattle.r10_sector.specs.Held.{put_sectors}
 use Rattle.std.proofs.lemmas.List.{length-drop}
 use Rattle.std.proofs.Common.{length-take-le}
