@@ -5,6 +5,10 @@ if [ -d /dev/stdin ]; then
     echo "ch10: a read or a write failed: standard input is a folder" >&2
     exit 3
 fi
+if ! command -v python3 >/dev/null; then
+    echo "ch10: there is no python3: install Python 3.7 or newer" >&2
+    exit 3
+fi
 exec python3 "$0" "$@"
 '''
 """What a crew asks of a recording, or of the image of a medium: from standard input to standard output, by the public standard

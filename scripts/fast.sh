@@ -22,10 +22,7 @@ fi
 # shellcheck source=scripts/build/wants.sh
 . scripts/build/wants.sh
 want_python fast
-command -v rt >/dev/null || {
-    echo "fast: there is no rt on the path: install the toolchain, and put its folder bin on the PATH" >&2
-    exit 3
-}
+want_rt fast
 room=$(mktemp -d) || exit 3
 trap 'rm -rf "$room"' EXIT
 

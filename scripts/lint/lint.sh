@@ -11,6 +11,9 @@
 # where one of them finds something.
 set -u
 cd "$(dirname "${BASH_SOURCE[0]}")/../.." || exit 1
+# shellcheck source=scripts/build/wants.sh
+. scripts/build/wants.sh
+want_python lint "checks are made by it"
 
 readonly shells=(r10 .ci/run scripts/*.sh scripts/*/*.sh recorder/tests/*.sh)
 readonly pythons=(scripts/*.py scripts/*/*.py ch10/*.py recorder/tests/*.py examples/*.py)

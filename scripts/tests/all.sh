@@ -5,6 +5,9 @@
 #     scripts/tests/all.sh [NAME.sh]      that test alone
 set -u
 here=$(cd "$(dirname "$(readlink -f "${BASH_SOURCE[0]}")")" && pwd)
+# shellcheck source=scripts/build/wants.sh
+. "$here/../build/wants.sh"
+want_python tests "checks are made by it"
 if [ $# = 0 ]; then
     for test in "$here"/*.sh; do
         case $(basename "$test") in

@@ -26,7 +26,7 @@ check "a line comes before the gate ends" is "$(tr '\n' ' ' <"$room/order")" "a 
 # The gate itself, with stand-ins for all that it calls.
 mkdir -p "$room/gate/.ci"
 cp "$top/.ci/run" "$room/gate/.ci"
-take_scripts "$room/gate" build/count_untried.sh
+take_scripts "$room/gate" build/count_untried.sh build/wants.sh
 stand_in() { printf '#!/usr/bin/env bash\n%s\n' "$2" >"$room/gate/scripts/$1" && chmod +x "$room/gate/scripts/$1"; }
 stand_in build/packages.sh 'exit 0'
 stand_in build/provers.py 'echo 1'
@@ -34,7 +34,9 @@ stand_in build/side_by_side.sh 'cat >/dev/null; echo "x: NOT TRIED: y"; exit ${F
 stand_in ffi.sh '[ "$*" = behind-ci ] && echo "behind it${R10_LATER:-}: ${UNTRIED:-all}"
 echo "3 passed, 0 failed"
 exit ${BEHIND:-0}'
-gate() { env -u RT_JOBS -u R10_LATER "$@" "$room/gate/.ci/run"; echo "status $?"; }
+mkdir "$room/bin"
+printf '#!/bin/sh\n' >"$room/bin/rt" && chmod +x "$room/bin/rt"
+gate() { env -u RT_JOBS -u R10_LATER PATH="$room/bin:$PATH" "$@" "$room/gate/.ci/run"; echo "status $?"; }
 check "a gate where CI is set fails by it" is "$(gate CI=true | tail -n 2)" $'3 passed, 1 failed\nstatus 1'
 check "and by what is not tried behind rt ci" is \
     "$(gate CI=true UNTRIED='NOT TRIED: z' | tail -n 2)" $'3 passed, 2 failed\nstatus 1'

@@ -76,6 +76,28 @@ for call in r10 scripts/build.sh "scripts/ffi.sh build --quick" "scripts/install
 done
 run env PATH="$room/all" "$at/scripts/ffi.sh" build --quick
 one_line "scripts/ffi.sh without rt" 1 "there is no rt"
+run env PATH="$room/all" "$at/scripts/ch10.py" --version
+one_line "scripts/ch10.py without python3" 3 "there is no python3"
+
+# The gate, the linters and the tests of the scripts, in a checkout with stand-ins for most of what they call.
+gate=$room/gate
+mkdir -p "$gate/.ci"
+cp "$sources/.ci/run" "$gate/.ci"
+take_scripts "$gate" build/{wants,side_by_side}.sh lint/lint.sh tests/{all,kit}.sh
+for it in tests/one.sh build/{packages,count_untried}.sh ffi.sh; do
+    printf '#!/usr/bin/env bash\npython3 - <<<pass || python3 - <<<pass\n' >"$gate/scripts/$it"
+    chmod +x "$gate/scripts/$it"
+done
+for call in .ci/run scripts/lint/lint.sh scripts/tests/all.sh; do
+    run env -u CI PATH="$kit/bin:$room/all" "$gate/$call"
+    one_line "$call without python3" 3 "there is no python3"
+    run env -u CI PATH="$kit/bin:$room/old:$room/all" "$gate/$call"
+    one_line "$call with a Python of 3.6" 3 "checks are made by Python 3.7 or newer; here is Python 3.6.9"
+done
+ln -s "$(command -v python3)" "$room/all/python3"
+run env -u CI PATH="$room/all" "$gate/.ci/run"
+one_line ".ci/run without rt" 3 "there is no rt on the path"
+rm "$room/all/python3"
 for tool in cc ld objcopy; do
     rm -rf "$room/fewer"
     cp -rP "$room/all" "$room/fewer"
