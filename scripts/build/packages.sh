@@ -3,7 +3,8 @@
 #
 #     scripts/build/packages.sh             # a line for each that is not installed
 #     scripts/build/packages.sh service     # those of the service's crates, in one line
-#     scripts/build/packages.sh install     # installs what is not installed, by apt-get, as root; a minute, with a network
+#     scripts/build/packages.sh install     # installs what is not installed, by apt-get, as root, with a network; a minute, and
+#                                           # more than ten on a machine that has much else to do
 #
 # The gate calls `install` where CI is set, since a machine of its own may be new. What can't be installed is NOT TRIED there.
 # Status 1, and a line, where something could not be installed.
@@ -15,6 +16,8 @@ librust-httparse-dev librust-prometheus-dev"
 readonly LINTERS="clang-format mypy pyflakes3 shellcheck"
 readonly TRIALS="chromium ffmpeg lintian pkg-config postgresql prometheus python3-coverage python3-h5py python3-numpy \
 python3-pandas python3-pip python3-psycopg2 python3-setuptools python3-venv python3-wheel tshark valgrind zsh"
+
+readonly SECONDS_OF_NETWORK=600
 
 missing() {
     local it
@@ -34,13 +37,24 @@ install)
         exit 1
     fi
     log=$(mktemp) && trap 'rm -f "$log"' EXIT || exit 1
-    if { timeout 120 apt-get -qq update && DEBIAN_FRONTEND=noninteractive timeout 600 apt-get -qq -y --no-install-recommends \
-        install "${wanted[@]}"; } >"$log" 2>&1 </dev/null; then
+    export DEBIAN_FRONTEND=noninteractive
+    get() { "${@:2}" apt-get -qq -y --no-install-recommends $1 "${wanted[@]}"; }
+    # A network that hangs is given up. What unpacks is not, however slow the machine: dpkg that is ended there leaves packages half
+    # installed, and takes no other one before `dpkg --configure -a`. So a call that was ended there is mended first.
+    {
+        dpkg --configure -a
+        timeout "$SECONDS_OF_NETWORK" apt-get -qq update &&
+            get "install --download-only" timeout "$SECONDS_OF_NETWORK" && get install env
+    } >"$log" 2>&1 </dev/null
+    status=$?
+    if [ "$status" = 0 ]; then
         echo "packages: installed ${wanted[*]}"
-    else
-        echo "packages: not installed: ${wanted[*]}: $(grep -v '^$' "$log" | tail -n 1)" >&2
-        exit 1
+        exit
     fi
+    why=$(grep -v '^$' "$log" | tail -n 1)
+    [ "$status" != 124 ] || why="not fetched in $SECONDS_OF_NETWORK seconds"
+    echo "packages: not installed: ${wanted[*]}: $why" >&2
+    exit 1
     ;;
 *)
     sed -n '/^#     scripts/s/^#     //p' "$0" >&2

@@ -7,8 +7,8 @@
 # Python scripts are looked at by pyflakes (or by ruff, by the same rules), the types of those that build and of the filters by
 # mypy, and those of the shell by shellcheck: Debian's packages are pyflakes3, mypy and shellcheck. typed.py looks whether the
 # filters stay documented. Sources in C and Rust have the form that clang-format and rustfmt give them, by ffi/.clang-format and the
-# rustfmt.toml of each folder. No line of the filters, of the scripts or of the service's tests is longer than 132 columns. Status 1
-# where one of them finds something.
+# rustfmt.toml of each folder, and clippy has no hint for the crates of ffi/rust. No line of the filters, of the scripts or of the
+# service's tests is longer than 132 columns. Status 1 where one of them finds something.
 set -u
 cd "$(dirname "${BASH_SOURCE[0]}")/../.." || exit 1
 # shellcheck source=scripts/build/wants.sh
@@ -72,6 +72,15 @@ if command -v rustfmt >/dev/null && command -v cargo >/dev/null; then
     done
 else
     echo "lint: NOT TRIED: there is no rustfmt for the sources in Rust"
+fi
+# (clippy wants no library, but the crates' build looks whether its file is there; the service's crate is looked at by recorder.sh)
+if cargo clippy --version >/dev/null 2>&1; then
+    room=$(mktemp -d) && : >"$room/libr10.a" || exit 3
+    (cd ffi/rust && CARGO_TARGET_DIR=$room R10_LIB_DIR=$room R10_STATIC=1 \
+        cargo clippy --offline --quiet --workspace --all-targets -- -D warnings) || bad=1
+    rm -r "$room"
+else
+    echo "lint: NOT TRIED: there is no clippy for the crates in Rust"
 fi
 
 [ "$bad" = 0 ] && echo "lint: ${#pythons[@]} Python scripts and ${#shells[@]} of the shell"

@@ -1,10 +1,11 @@
 #!/usr/bin/env bash
-# Tests of scripts/build/packages.sh with stand-ins for dpkg-query, apt-get and id. A second; status 1 where one fails.
+# Tests of scripts/build/packages.sh with stand-ins for dpkg, dpkg-query, apt-get, timeout and id. A second; status 1 where one
+# fails.
 set -u
 # shellcheck disable=SC2016,SC2317 source=scripts/tests/kit.sh
 . "$(dirname "$(readlink -f "${BASH_SOURCE[0]}")")/kit.sh"
 mkdir "$room/bin"
-for it in bash sed grep tail timeout mktemp rm env; do ln -s "$(command -v "$it")" "$room/bin/$it"; done
+for it in bash sed grep tail mktemp rm env; do ln -s "$(command -v "$it")" "$room/bin/$it"; done
 # All are installed but those that the file `lacks` names.
 cat >"$room/bin/dpkg-query" <<'IT'
 #!/usr/bin/env bash
@@ -12,8 +13,17 @@ grep -qx "${*: -1}" "${0%/*}/../lacks" || printf 'install ok installed'
 IT
 cat >"$room/bin/apt-get" <<'IT'
 #!/usr/bin/env bash
-echo "$*" >>"${0%/*}/../calls"
+echo "${BOUND:+bound: }apt-get $*" >>"${0%/*}/../calls"
 [ ! -e "${0%/*}/../fails" ] || { echo "E: no network" >&2; exit 100; }
+IT
+cat >"$room/bin/timeout" <<'IT'
+#!/usr/bin/env bash
+[ ! -e "${0%/*}/../hangs" ] || exit 124
+BOUND=yes "${@:2}"
+IT
+cat >"$room/bin/dpkg" <<'IT'
+#!/usr/bin/env bash
+echo "${BOUND:+bound: }dpkg $*" >>"${0%/*}/../calls"
 IT
 printf '#!/usr/bin/env bash\ncat "${0%%/*}/../user"\n' >"$room/bin/id"
 ln -s "$(command -v cat)" "$room/bin/cat"
@@ -28,7 +38,16 @@ check "and apt-get is not called" test ! -e "$room/calls"
 printf 'zsh\nlibrust-toml-dev\n' >"$room/lacks"
 check "what is missing, a line each" is "$(packages | tr '\n' ' ')" "zsh librust-toml-dev "
 check "that alone is installed" is "$(packages install; echo "$?")" $'packages: installed zsh librust-toml-dev\n0'
-check "by apt-get" says "$(cat "$room/calls")" "install zsh librust-toml-dev"
+options="-qq -y --no-install-recommends"
+check "what was cut off before is mended, the network has a bound, and what unpacks has none" is "$(cat "$room/calls")" \
+    "dpkg --configure -a
+bound: apt-get -qq update
+bound: apt-get $options install --download-only zsh librust-toml-dev
+apt-get $options install zsh librust-toml-dev"
+: >"$room/hangs"
+check "a network that hangs is a line" is "$(packages install; echo "$?")" \
+    $'packages: not installed: zsh librust-toml-dev: not fetched in 600 seconds\n1'
+rm "$room/hangs"
 : >"$room/fails"
 check "without a network it is a line, and status 1" is "$(packages install; echo "$?")" \
     $'packages: not installed: zsh librust-toml-dev: E: no network\n1'
