@@ -169,6 +169,18 @@ static bool closes_no_other(void) {
     return fcntl(mine, F_GETFD) != -1 && close(mine) == 0;
 }
 
+/* Whether a child of fork, which has a copy of the recorder, is refused the disk, and what waits is the parent's. */
+static bool leaves_it_to_the_parent(void) {
+    int status = 1;
+    offer(1);
+    must("commit", r10_commit(&recorder));
+    pid_t child = fork();
+    if (child == 0)
+        _exit(r10_disk_settle(&disk, &recorder) == -1 && errno == EPERM && !is_same() ? 0 : 1);
+    bool refused = child > 0 && waitpid(child, &status, 0) == child && status == 0 && !is_same();
+    return refused && r10_disk_settle(&disk, &recorder) == 0 && is_same();
+}
+
 int main(int count, char **words) {
     static uint8_t medium[1024];
     size_t taken, left, files, before;
@@ -214,6 +226,7 @@ int main(int count, char **words) {
     memset(sequence, 0, sizeof sequence);
     say("settled", r10_disk_settle(&disk, &recorder));
     printf("files, sync, directory, sync: %s\n", sequence);
+    printf("a child of fork writes nothing: %s\n", leaves_it_to_the_parent() ? "yes" : "no");
     printf("nothing waits, and the file holds what the region holds: %s\n", waiting() == 0 && is_same() ? "yes" : "no");
     say("pages given back", r10_disk_give_back(&disk));
     printf("the region reads as before: %s\n", is_same() ? "yes" : "no");

@@ -51,9 +51,11 @@ impl Desk {
                 if !Path::new(path).exists() {
                     Disk::make(path, BLOCKS, SCRIPT)?;
                 }
-                (Recorder::open(Disk::open(path, BLOCKS)?.into(), ROOM, SCRIPT).map_err(|(error, _)| error)?, None)
+                // SAFETY: the file is this program's: who runs it lets no other one write it or make it shorter
+                let disk = unsafe { Disk::open(path, BLOCKS) }?;
+                (Recorder::open(disk.into(), ROOM, SCRIPT)?, None)
             }
-            None => (Recorder::format(Region::memory(BLOCKS), ROOM, SCRIPT).map_err(|(error, _)| error)?, Some(vec![0; 512 * BLOCKS])),
+            None => (Recorder::format(Region::memory(BLOCKS), ROOM, SCRIPT)?, Some(vec![0; 512 * BLOCKS])),
         };
         settle(&mut recorder, disk.as_mut())?;
         recorder.mount()?;
@@ -100,8 +102,8 @@ impl Desk {
 
     /// Reads what was shown since the last time, and compares it with what was offered.
     fn play(&mut self) -> Done<()> {
-        self.recorder.advance(self.cursor)?;
-        while let Some(entry) = self.recorder.next(self.cursor)? {
+        self.recorder.advance(&self.cursor)?;
+        while let Some(entry) = self.recorder.next(&self.cursor)? {
             if let Content::Uart { bytes, .. } = entry.content {
                 let wanted = format!("message {}", self.played);
                 if entry.channel != LINE || entry.gap != Gap::None || bytes != wanted.as_bytes() {

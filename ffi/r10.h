@@ -50,6 +50,33 @@
  *
  * Counts are below 2^48, in units of 100 ns. Times are civil. Blocks have 512 bytes.
  *
+ * A script
+ *     blocks = 262144          the medium, in blocks: 128 MiB
+ *     directory = 7            blocks of the directory, of 1 to 64, each for four files: 28
+ *     volume = "FLIGHT-1"
+ *     nodes = 100              how many nodes a group of an index has
+ *     time = 1                 the channel of time packets
+ *     event = 2                the channel of events
+ *     [[channel]]
+ *     id = 5
+ *     kind = "uart"            uart, 1553, arinc, discrete (with bits = 1 to 31) or message
+ *     capacity = 64            messages that wait between an offer and a pump
+ *     check = 32               a checksum of each packet's data: 0, 8, 16 or 32 bits
+ *     bytes = 65536            a packet is closed at so many bytes of data
+ *     number = 1000            or at so many messages
+ *
+ * What its numbers cost
+ *     capacity       a lane has as many places, of 80 bytes each; a message of more than 38 bytes has memory of its own while it waits
+ *     bytes, number  room for two packets of that size is kept for each channel. A message is shown once its packet is closed and
+ *                    committed: one of the two numbers closes it, or a commit, which closes those of all channels. Each packet costs 24
+ *                    to 28 bytes of the medium, 20.4 in the index, and 32 bytes of memory until the stop
+ *     nodes          nothing but how the index is grouped, which is written by the stop or the seal
+ *     blocks         the mapped region: only what is used of it takes memory
+ *     directory      512 bytes a block; a commit writes one of them
+ *
+ * Platforms: Linux on x86-64, by GCC or Clang. The sizes at the end of this header are checked by the compiler. For arm64 the library has to
+ * be compiled by a toolchain that has that target, which has not been tried; nothing in this header or in the format is of x86-64 alone.
+ *
  * To link: `pkg-config --cflags --libs r10`, where it is installed. Else libr10_ffi.a and liblibc_c.a of the toolchain's kit (`scripts/ffi.sh` shows how).
  */
 #ifndef R10_H
@@ -66,8 +93,18 @@
 #define R10_VERSION_PATCH 0
 #define R10_VERSION (R10_VERSION_MAJOR * 10000 + R10_VERSION_MINOR * 100 + R10_VERSION_PATCH)
 
+/* How many calls of the library this header declares. It grows with each call that is added, between versions too. */
+#define R10_FEATURES 54
+
 #ifdef __cplusplus
 extern "C" {
+#endif
+
+/* A call that this header looks at first: see the end. */
+#ifdef R10_UNCHECKED
+#define R10_CALL extern
+#else
+#define R10_CALL static __inline__ __attribute__((__unused__))
 #endif
 
 /* ---- numbers */
@@ -279,11 +316,11 @@ uint32_t r10_version(void);
 /* What a script says of its medium, before a recorder is opened by it. After R10_SCRIPT `info` has the line that is wrong, and how
  * long the text is that says why; `text` has of it what fits. The program `r10` prints the same text. No recorder is needed.
  * R10_NO_MEMORY, R10_SCRIPT. */
-uint32_t r10_check_script(const void *script, size_t script_length, r10_script_info *info, void *text, size_t text_room);
+R10_CALL uint32_t r10_check_script(const void *script, size_t script_length, r10_script_info *info, void *text, size_t text_room);
 
 /* Writes the directory of a medium without files, and opens a recorder over it, not mounted, with empty lanes. Its operations wait, as after every call. After
  * R10_MEDIUM or R10_NO_MEMORY the region may have the new directory. R10_MEDIUM, R10_NO_MEMORY, R10_SCRIPT, R10_BLOCKS, R10_OPEN. */
-uint32_t r10_format(r10_region region, size_t room, const void *script, size_t script_length, r10 *recorder);
+R10_CALL uint32_t r10_format(r10_region region, size_t room, const void *script, size_t script_length, r10 *recorder);
 
 /* Sets the last file of the medium aside where it was left open, and opens a recorder over it, not mounted, with empty lanes. For a file that r10_seal
  * refuses (R10_BAD_FILE, R10_MEDIUM_FULL, R10_MEDIUM), or that would take too long to read: its directory entry is closed as it is, with the bytes that it
@@ -291,91 +328,92 @@ uint32_t r10_format(r10_region region, size_t room, const void *script, size_t s
  * and waits, as operations do after every call; a loss of power leaves the old list of files or the new one. Then a mounted recorder can start the next file;
  * reading this one answers R10_BAD_FILE. `was_open` is whether there was one: where there was not, nothing is written.
  * R10_BAD_DIRECTORY, R10_MEDIUM, R10_NO_MEMORY, R10_SCRIPT, R10_BLOCKS, R10_OPEN. */
-uint32_t r10_set_aside(r10_region region, size_t room, const void *script, size_t script_length, r10 *recorder, bool *was_open);
+R10_CALL uint32_t r10_set_aside(r10_region region, size_t room, const void *script, size_t script_length, r10 *recorder, bool *was_open);
 
 /* Opens a recorder, not mounted, with empty lanes. R10_NO_MEMORY, R10_SCRIPT, R10_BLOCKS, R10_OPEN. */
-uint32_t r10_open(r10_region region, size_t room, const void *script, size_t script_length, r10 *recorder);
+R10_CALL uint32_t r10_open(r10_region region, size_t room, const void *script, size_t script_length, r10 *recorder);
 
 /* Hands out the next run: as many of the next writes as are of one block or of blocks side by side, up to the next sync, or a sync, or none. None is
  * answered only where all operations were handed out. Copies 512 * blocks bytes. The blocks of a run may be written at once, and in any order. R10_ROOM
  * where there is room for fewer than 512 bytes: then nothing is taken. */
-uint32_t r10_orders(r10 *recorder, r10_run_info *run, uint8_t *bytes, size_t byte_room);
+R10_CALL uint32_t r10_orders(r10 *recorder, r10_run_info *run, uint8_t *bytes, size_t byte_room);
 
 /* The same for one operation. R10_ROOM as r10_orders. */
-uint32_t r10_order(r10 *recorder, r10_order_info *order, uint8_t *bytes, size_t byte_room);
+R10_CALL uint32_t r10_order(r10 *recorder, r10_order_info *order, uint8_t *bytes, size_t byte_room);
 
 /* How many operations wait. */
-uint32_t r10_queue(r10 *recorder, r10_queue_info *info);
+R10_CALL uint32_t r10_queue(r10 *recorder, r10_queue_info *info);
 
 /* The program's disk failed: from then on each write and each sync of the recorder fails, so that the next call that needs one answers R10_MEDIUM. */
-uint32_t r10_disk_failed(r10 *recorder);
+R10_CALL uint32_t r10_disk_failed(r10 *recorder);
 
 /* Gives back the recorder's memory, and the region to its owner. Operations that were not handed out, and what was not committed, are lost. One that is
  * closed stays so. */
-void r10_close(r10 *recorder);
+R10_CALL void r10_close(r10 *recorder);
 
 /* ---- control. Each may answer R10_NO_MEMORY, and but for r10_offer_.., r10_lost, r10_status, r10_channel, r10_account, r10_next
  * and r10_close_cursor R10_FAILED. */
 
 /* Begins to use the medium. R10_MOUNTED, R10_BAD_DIRECTORY, R10_MEDIUM. */
-uint32_t r10_mount(r10 *recorder);
+R10_CALL uint32_t r10_mount(r10 *recorder);
 
 /* Ends the use of the medium. R10_NOT_MOUNTED, R10_BUSY, R10_MEDIUM. */
-uint32_t r10_dismount(r10 *recorder);
+R10_CALL uint32_t r10_dismount(r10 *recorder);
 
 /* The clock: the civil time at a count. R10_NOT_MOUNTED, R10_COUNT_RANGE, R10_COUNT_BACK, R10_BAD_CIVIL; while a file is recorded also
  * R10_MEDIUM_FULL, R10_MEDIUM. */
-uint32_t r10_tick(r10 *recorder, uint64_t count, const r10_civil *civil);
+R10_CALL uint32_t r10_tick(r10 *recorder, uint64_t count, const r10_civil *civil);
 
 /* Begins a file, with a setup text of at most 524,260 bytes. R10_NOT_MOUNTED, R10_BUSY, R10_TOO_LONG, R10_NO_TIME, R10_BAD_NAME,
  * R10_NAME_TAKEN, R10_UNSEALED, R10_DIRECTORY_FULL, R10_MEDIUM_FULL, R10_MEDIUM. */
-uint32_t r10_start(r10 *recorder, const void *name, size_t name_length, const void *setup, size_t setup_length);
+R10_CALL uint32_t r10_start(r10 *recorder, const void *name, size_t name_length, const void *setup, size_t setup_length);
 
 /* Takes at most so many of a channel's waiting messages into the file. R10_NOT_MOUNTED, R10_NOT_RECORDING, R10_NO_CHANNEL, R10_MEDIUM_FULL (of
  * the first message; else `moved` says how many were taken), R10_MEDIUM. */
-uint32_t r10_pump(r10 *recorder, uint16_t channel, size_t most, size_t *moved);
+R10_CALL uint32_t r10_pump(r10 *recorder, uint16_t channel, size_t most, size_t *moved);
 
 /* A recording event, of a number up to 4,095. R10_NOT_MOUNTED, R10_NOT_RECORDING, R10_COUNT_RANGE, R10_COUNT_BACK, R10_BAD_EVENT,
  * R10_MEDIUM_FULL, R10_MEDIUM. */
-uint32_t r10_event(r10 *recorder, uint16_t number, uint64_t count);
+R10_CALL uint32_t r10_event(r10 *recorder, uint16_t number, uint64_t count);
 
 /* Shows on the medium all that the file has: after a 0, and once its operations are done, it is durable. R10_NOT_MOUNTED, R10_NOT_RECORDING, R10_MEDIUM. */
-uint32_t r10_commit(r10 *recorder);
+R10_CALL uint32_t r10_commit(r10 *recorder);
 
 /* Takes in what waits, as far as there is room, ends the file and closes it: after a 0, and once its operations are done, it is durable. `taken` messages were taken, `left` still wait.
  * R10_NOT_MOUNTED, R10_NOT_RECORDING, R10_MEDIUM. */
-uint32_t r10_stop(r10 *recorder, size_t *taken, size_t *left);
+R10_CALL uint32_t r10_stop(r10 *recorder, size_t *taken, size_t *left);
 
 /* Closes a last file that was left open; its entries stay. R10_NOT_MOUNTED, R10_BUSY, R10_NO_FILE, R10_MEDIUM_FULL, R10_BAD_FILE,
  * R10_MEDIUM. */
-uint32_t r10_seal(r10 *recorder);
+R10_CALL uint32_t r10_seal(r10 *recorder);
 
 /* Takes all files from the medium. R10_NOT_MOUNTED, R10_BUSY, R10_STALE (2^64 - 1 erases), R10_MEDIUM. */
-uint32_t r10_erase(r10 *recorder);
+R10_CALL uint32_t r10_erase(r10 *recorder);
 
 /* ---- offers, in every mode: a message goes to the end of its channel's lane. R10_NO_CHANNEL, R10_WRONG_KIND, R10_BAD_MESSAGE, R10_TOO_LONG,
  * R10_COUNT_RANGE, R10_COUNT_BACK, R10_OVERFLOW. */
 
 /* A serial line: subchannel below 16,384, at most 65,535 bytes. */
-uint32_t r10_offer_uart(r10 *recorder, uint16_t channel, uint64_t count, bool parity, uint16_t sub, const void *bytes, size_t length);
+R10_CALL uint32_t r10_offer_uart(r10 *recorder, uint16_t channel, uint64_t count, bool parity, uint16_t sub, const void *bytes, size_t length);
 
 /* MIL-STD-1553: block status (bits 0x3E38), gap times word, at most 36 words. */
-uint32_t r10_offer_1553(r10 *recorder, uint16_t channel, uint64_t count, uint16_t status, uint16_t gap, const uint16_t *words, size_t length);
+R10_CALL uint32_t r10_offer_1553(r10 *recorder, uint16_t channel, uint64_t count, uint16_t status, uint16_t gap, const uint16_t *words, size_t length);
 
 /* ARINC 429. */
-uint32_t r10_offer_arinc(r10 *recorder, uint16_t channel, uint64_t count, uint8_t bus, bool format, bool parity, bool high, uint32_t word);
+R10_CALL uint32_t r10_offer_arinc(r10 *recorder, uint16_t channel, uint64_t count, uint8_t bus, bool format, bool parity, bool high, uint32_t word);
 
 /* Discretes: a bit for each, as many as the channel has. */
-uint32_t r10_offer_discrete(r10 *recorder, uint16_t channel, uint64_t count, uint32_t states);
+R10_CALL uint32_t r10_offer_discrete(r10 *recorder, uint16_t channel, uint64_t count, uint32_t states);
 
 /* Any other source: subchannel below 16,384, at most 65,535 bytes. */
-uint32_t r10_offer_message(r10 *recorder, uint16_t channel, uint64_t count, bool data_error, bool format, uint16_t sub, const void *bytes, size_t length);
+R10_CALL uint32_t r10_offer_message(r10 *recorder, uint16_t channel, uint64_t count, bool data_error, bool format, uint16_t sub, const void *bytes,
+                                    size_t length);
 
 /* ---- losses, in every mode */
 
 /* So many of a channel's messages were lost before they were offered: a UART overran, a socket dropped them, another recorder failed with them. The next
  * message that is accepted has them in its gap, with those that were refused R10_OVERFLOW. 0 changes nothing. R10_NO_CHANNEL. */
-uint32_t r10_lost(r10 *recorder, uint16_t channel, uint64_t count);
+R10_CALL uint32_t r10_lost(r10 *recorder, uint16_t channel, uint64_t count);
 
 /* ---- offers from other threads
  *
@@ -395,97 +433,97 @@ uint32_t r10_lost(r10 *recorder, uint16_t channel, uint64_t count);
 
 /* Opens a port and its outlet for a channel of the script that the recorder was opened by. Both are all zeros before it. It may be called in any
  * thread. R10_NO_CHANNEL (the script has no such channel), R10_NO_MEMORY, R10_SCRIPT, R10_OPEN (one of the two is open). */
-uint32_t r10_port_open(const void *script, size_t script_length, uint16_t channel, r10_port *port, r10_outlet *outlet);
+R10_CALL uint32_t r10_port_open(const void *script, size_t script_length, uint16_t channel, r10_port *port, r10_outlet *outlet);
 
 /* Offers, as r10_offer_.. of the same kind. R10_OVERFLOW where as many messages wait in the port as it has room for: it is counted as lost, and
  * the next message that is accepted has it in its gap. R10_WRONG_KIND, R10_BAD_MESSAGE, R10_TOO_LONG, R10_COUNT_RANGE, R10_COUNT_BACK,
  * R10_OVERFLOW, and of more than 38 bytes, or words of a MIL-STD-1553 bus, R10_NO_MEMORY. */
-uint32_t r10_port_uart(r10_port *port, uint64_t count, bool parity, uint16_t sub, const void *bytes, size_t length);
-uint32_t r10_port_1553(r10_port *port, uint64_t count, uint16_t status, uint16_t gap, const uint16_t *words, size_t length);
-uint32_t r10_port_arinc(r10_port *port, uint64_t count, uint8_t bus, bool format, bool parity, bool high, uint32_t word);
-uint32_t r10_port_discrete(r10_port *port, uint64_t count, uint32_t states);
-uint32_t r10_port_message(r10_port *port, uint64_t count, bool data_error, bool format, uint16_t sub, const void *bytes, size_t length);
+R10_CALL uint32_t r10_port_uart(r10_port *port, uint64_t count, bool parity, uint16_t sub, const void *bytes, size_t length);
+R10_CALL uint32_t r10_port_1553(r10_port *port, uint64_t count, uint16_t status, uint16_t gap, const uint16_t *words, size_t length);
+R10_CALL uint32_t r10_port_arinc(r10_port *port, uint64_t count, uint8_t bus, bool format, bool parity, bool high, uint32_t word);
+R10_CALL uint32_t r10_port_discrete(r10_port *port, uint64_t count, uint32_t states);
+R10_CALL uint32_t r10_port_message(r10_port *port, uint64_t count, bool data_error, bool format, uint16_t sub, const void *bytes, size_t length);
 
 /* So many messages were lost before they were offered, as r10_lost. */
-uint32_t r10_port_lost(r10_port *port, uint64_t count);
+R10_CALL uint32_t r10_port_lost(r10_port *port, uint64_t count);
 
-uint32_t r10_port_state(r10_port *port, r10_port_info *info);
+R10_CALL uint32_t r10_port_state(r10_port *port, r10_port_info *info);
 
 /* Gives back the memory of an end. One that is closed stays so. */
-void r10_port_close(r10_port *port);
-void r10_outlet_close(r10_outlet *outlet);
+R10_CALL void r10_port_close(r10_port *port);
+R10_CALL void r10_outlet_close(r10_outlet *outlet);
 
 /* Carries the port's next message into its channel's lane, by the thread that owns the recorder, in every mode: `carried` says whether one was. R10_OK
  * and none where there is none yet, or where the lane takes it but for its room: then it stays in the port. R10_COUNT_BACK: the channel was offered a later message by
  * another way. Where the recorder was opened by another script: R10_NO_CHANNEL, or why its lane does not take the message.
  * A message that is refused stays, and is the next again, with the loss before it, which is not counted then. It takes no memory. */
-uint32_t r10_carry_one(r10 *recorder, r10_outlet *outlet, bool *carried);
+R10_CALL uint32_t r10_carry_one(r10 *recorder, r10_outlet *outlet, bool *carried);
 
 /* ---- files, and how the recorder is */
 
 /* How many files there are. R10_NOT_MOUNTED. */
-uint32_t r10_files(r10 *recorder, size_t *count);
+R10_CALL uint32_t r10_files(r10 *recorder, size_t *count);
 
 /* The file of this number, from 0, and of its name what fits; 56 bytes always do. R10_NOT_MOUNTED, R10_PLACE. */
-uint32_t r10_file(r10 *recorder, size_t number, r10_file_info *info, uint8_t *name, size_t name_room);
+R10_CALL uint32_t r10_file(r10 *recorder, size_t number, r10_file_info *info, uint8_t *name, size_t name_room);
 
-uint32_t r10_status(r10 *recorder, r10_status_info *info);
+R10_CALL uint32_t r10_status(r10 *recorder, r10_status_info *info);
 
 /* What the last R10_BAD_DIRECTORY or R10_BAD_FILE was about. Other answers leave it. */
-uint32_t r10_fault(r10 *recorder, r10_fault_info *info);
+R10_CALL uint32_t r10_fault(r10 *recorder, r10_fault_info *info);
 
 /* The channel at this place of the settings, from 0. R10_PLACE. */
-uint32_t r10_channel(r10 *recorder, size_t place, r10_channel_info *info);
+R10_CALL uint32_t r10_channel(r10 *recorder, size_t place, r10_channel_info *info);
 
 /* The account of the channel at this place of the settings, from 0, in every mode. R10_PLACE. */
-uint32_t r10_account(r10 *recorder, size_t place, r10_account_info *info);
+R10_CALL uint32_t r10_account(r10 *recorder, size_t place, r10_account_info *info);
 
 /* ---- losses, and messages that go on to another recorder */
 
 /* The losses of the channel at this place of the settings, from 0, in every mode. R10_PLACE. */
-uint32_t r10_losses(r10 *recorder, size_t place, r10_losses_info *info);
+R10_CALL uint32_t r10_losses(r10 *recorder, size_t place, r10_losses_info *info);
 
 /* Takes the first message that waits on a channel out of its lane, in every mode, a failed recorder's too: `there` says whether one waited. It
  * comes into the recorder's hand, in place of what was there, and r10_taken copies its bytes or words. It is in no file of this recorder then:
  * give the `lost` of its entry to the next recorder's r10_lost, and offer it there. R10_NO_CHANNEL: then nothing changed. */
-uint32_t r10_take_waiting(r10 *recorder, uint16_t channel, bool *there, r10_entry *entry);
+R10_CALL uint32_t r10_take_waiting(r10 *recorder, uint16_t channel, bool *there, r10_entry *entry);
 
 /* How many of a channel's messages, and of those that were lost before they were offered, stand in no file and in no gap: by its account and its
  * losses, where `found` of its messages were found in the files that the recorder began, and `found_lost` losses in their gaps (r10_found). Messages
  * that r10_take_waiting took are not counted. */
-uint64_t r10_untold(const r10_account_info *account, const r10_losses_info *losses, uint64_t found, uint64_t found_lost);
+R10_CALL uint64_t r10_untold(const r10_account_info *account, const r10_losses_info *losses, uint64_t found, uint64_t found_lost);
 
 /* ---- readers, of files that are recorded too */
 
 /* Opens a cursor on a file, for these channels, or all where there are none, and counts from `from` to `to`. R10_NOT_MOUNTED, R10_COUNT_RANGE,
  * R10_NO_FILE, R10_BAD_FILE, R10_MEDIUM. */
-uint32_t r10_cursor(r10 *recorder, size_t file, const uint16_t *channels, size_t channel_count, uint64_t from, uint64_t to, size_t *cursor);
+R10_CALL uint32_t r10_cursor(r10 *recorder, size_t file, const uint16_t *channels, size_t channel_count, uint64_t from, uint64_t to, size_t *cursor);
 
 /* Queues what was shown since the last call, by count, then channel, then place, and says how many entries. R10_NOT_MOUNTED, R10_STALE,
  * R10_NO_CURSOR, R10_UNREAD, R10_BAD_FILE, R10_MEDIUM. */
-uint32_t r10_advance(r10 *recorder, size_t cursor, size_t *queued);
+R10_CALL uint32_t r10_advance(r10 *recorder, size_t cursor, size_t *queued);
 
 /* Takes the first entry of the queue: `there` says whether there was one; its bytes are copied to `bytes`, its words to `words`. R10_NO_CURSOR,
  * and R10_ROOM where there is room for fewer than 65,535 bytes or 36 words: then nothing is taken. */
-uint32_t r10_next(r10 *recorder, size_t cursor, bool *there, r10_entry *entry, uint8_t *bytes, size_t byte_room, uint16_t *words, size_t word_room);
+R10_CALL uint32_t r10_next(r10 *recorder, size_t cursor, bool *there, r10_entry *entry, uint8_t *bytes, size_t byte_room, uint16_t *words, size_t word_room);
 
 /* The same in two calls, for a program that lends no more than an entry needs. r10_take takes the first entry of the queue into the
  * recorder's hand, in place of what was there, and gives it without its bytes or words: `length` says how many it has.
  * R10_NO_CURSOR: then none is in hand. r10_taken copies them, as often as it is called, also after other calls. R10_ROOM where there
  * is room for fewer than the entry has: it stays in hand. R10_PLACE where none is in hand. */
-uint32_t r10_take(r10 *recorder, size_t cursor, bool *there, r10_entry *entry);
-uint32_t r10_taken(r10 *recorder, uint8_t *bytes, size_t byte_room, uint16_t *words, size_t word_room);
+R10_CALL uint32_t r10_take(r10 *recorder, size_t cursor, bool *there, r10_entry *entry);
+R10_CALL uint32_t r10_taken(r10 *recorder, uint8_t *bytes, size_t byte_room, uint16_t *words, size_t word_room);
 
 /* R10_NO_CURSOR. */
-uint32_t r10_close_cursor(r10 *recorder, size_t cursor);
+R10_CALL uint32_t r10_close_cursor(r10 *recorder, size_t cursor);
 
 /* The first shown entry of a channel with at least this count, and its number on the channel from 0. R10_NOT_MOUNTED, R10_COUNT_RANGE,
  * R10_NO_FILE, R10_BAD_FILE, R10_MEDIUM, R10_ROOM as r10_next. */
-uint32_t r10_find(r10 *recorder, size_t file, uint16_t channel, uint64_t count, bool *there, size_t *number, r10_entry *entry, uint8_t *bytes, size_t byte_room,
-                  uint16_t *words, size_t word_room);
+R10_CALL uint32_t r10_find(r10 *recorder, size_t file, uint16_t channel, uint64_t count, bool *there, size_t *number, r10_entry *entry, uint8_t *bytes,
+                           size_t byte_room, uint16_t *words, size_t word_room);
 
 /* The count at a civil time, by the last shown time that is not later. R10_NOT_MOUNTED, R10_BAD_CIVIL, R10_NO_FILE, R10_BAD_FILE, R10_MEDIUM. */
-uint32_t r10_count_at(r10 *recorder, size_t file, const r10_civil *civil, bool *there, uint64_t *count);
+R10_CALL uint32_t r10_count_at(r10 *recorder, size_t file, const r10_civil *civil, bool *there, uint64_t *count);
 
 /* ---- what is made of these calls */
 
@@ -909,462 +947,483 @@ static inline uint32_t r10_log_offer(r10 *recorder, uint16_t channel, uint64_t c
     return r10_offer_message(recorder, channel, count, false, false, 0, line->text, line->length);
 }
 
-/* ---- null pointers: from here on each name stands for a call that looks at them first */
+/* ---- null pointers: from here on each call looks at them first. The library's own calls, which do not, have the names that end in
+ * `_unchecked`: a compiler of another name than GCC or Clang has to define R10_UNCHECKED. */
 
 #ifndef R10_UNCHECKED
 /* clang-format off */
+#define R10_SYMBOL(name) __asm__(#name)
 
-static inline uint32_t r10_checked_check_script(const void *script, size_t script_length, r10_script_info *info, void *text,
-                                                size_t text_room) {
+extern uint32_t r10_check_script_unchecked(const void *script, size_t script_length, r10_script_info *info, void *text,
+                                           size_t text_room) R10_SYMBOL(r10_check_script);
+extern uint32_t r10_format_unchecked(r10_region region, size_t room, const void *script, size_t script_length,
+                                     r10 *recorder) R10_SYMBOL(r10_format);
+extern uint32_t r10_open_unchecked(r10_region region, size_t room, const void *script, size_t script_length,
+                                   r10 *recorder) R10_SYMBOL(r10_open);
+extern uint32_t r10_set_aside_unchecked(r10_region region, size_t room, const void *script, size_t script_length, r10 *recorder,
+                                        bool *was_open) R10_SYMBOL(r10_set_aside);
+extern uint32_t r10_orders_unchecked(r10 *recorder, r10_run_info *run, uint8_t *bytes, size_t byte_room) R10_SYMBOL(r10_orders);
+extern uint32_t r10_order_unchecked(r10 *recorder, r10_order_info *order, uint8_t *bytes, size_t byte_room) R10_SYMBOL(r10_order);
+extern uint32_t r10_queue_unchecked(r10 *recorder, r10_queue_info *info) R10_SYMBOL(r10_queue);
+extern uint32_t r10_disk_failed_unchecked(r10 *recorder) R10_SYMBOL(r10_disk_failed);
+extern void r10_close_unchecked(r10 *recorder) R10_SYMBOL(r10_close);
+extern uint32_t r10_mount_unchecked(r10 *recorder) R10_SYMBOL(r10_mount);
+extern uint32_t r10_dismount_unchecked(r10 *recorder) R10_SYMBOL(r10_dismount);
+extern uint32_t r10_tick_unchecked(r10 *recorder, uint64_t count, const r10_civil *civil) R10_SYMBOL(r10_tick);
+extern uint32_t r10_start_unchecked(r10 *recorder, const void *name, size_t name_length, const void *setup,
+                                    size_t setup_length) R10_SYMBOL(r10_start);
+extern uint32_t r10_pump_unchecked(r10 *recorder, uint16_t channel, size_t most, size_t *moved) R10_SYMBOL(r10_pump);
+extern uint32_t r10_event_unchecked(r10 *recorder, uint16_t number, uint64_t count) R10_SYMBOL(r10_event);
+extern uint32_t r10_commit_unchecked(r10 *recorder) R10_SYMBOL(r10_commit);
+extern uint32_t r10_stop_unchecked(r10 *recorder, size_t *taken, size_t *left) R10_SYMBOL(r10_stop);
+extern uint32_t r10_seal_unchecked(r10 *recorder) R10_SYMBOL(r10_seal);
+extern uint32_t r10_erase_unchecked(r10 *recorder) R10_SYMBOL(r10_erase);
+extern uint32_t r10_offer_uart_unchecked(r10 *recorder, uint16_t channel, uint64_t count, bool parity, uint16_t sub,
+                                         const void *bytes, size_t length) R10_SYMBOL(r10_offer_uart);
+extern uint32_t r10_offer_1553_unchecked(r10 *recorder, uint16_t channel, uint64_t count, uint16_t status, uint16_t gap,
+                                         const uint16_t *words, size_t length) R10_SYMBOL(r10_offer_1553);
+extern uint32_t r10_offer_arinc_unchecked(r10 *recorder, uint16_t channel, uint64_t count, uint8_t bus, bool format, bool parity,
+                                          bool high, uint32_t word) R10_SYMBOL(r10_offer_arinc);
+extern uint32_t r10_offer_discrete_unchecked(r10 *recorder, uint16_t channel, uint64_t count,
+                                             uint32_t states) R10_SYMBOL(r10_offer_discrete);
+extern uint32_t r10_offer_message_unchecked(r10 *recorder, uint16_t channel, uint64_t count, bool data_error, bool format,
+                                            uint16_t sub, const void *bytes, size_t length) R10_SYMBOL(r10_offer_message);
+extern uint32_t r10_lost_unchecked(r10 *recorder, uint16_t channel, uint64_t count) R10_SYMBOL(r10_lost);
+extern uint32_t r10_port_open_unchecked(const void *script, size_t script_length, uint16_t channel, r10_port *port,
+                                        r10_outlet *outlet) R10_SYMBOL(r10_port_open);
+extern uint32_t r10_port_uart_unchecked(r10_port *port, uint64_t count, bool parity, uint16_t sub, const void *bytes,
+                                        size_t length) R10_SYMBOL(r10_port_uart);
+extern uint32_t r10_port_1553_unchecked(r10_port *port, uint64_t count, uint16_t status, uint16_t gap, const uint16_t *words,
+                                        size_t length) R10_SYMBOL(r10_port_1553);
+extern uint32_t r10_port_arinc_unchecked(r10_port *port, uint64_t count, uint8_t bus, bool format, bool parity, bool high,
+                                         uint32_t word) R10_SYMBOL(r10_port_arinc);
+extern uint32_t r10_port_discrete_unchecked(r10_port *port, uint64_t count, uint32_t states) R10_SYMBOL(r10_port_discrete);
+extern uint32_t r10_port_message_unchecked(r10_port *port, uint64_t count, bool data_error, bool format, uint16_t sub,
+                                           const void *bytes, size_t length) R10_SYMBOL(r10_port_message);
+extern uint32_t r10_port_lost_unchecked(r10_port *port, uint64_t count) R10_SYMBOL(r10_port_lost);
+extern uint32_t r10_port_state_unchecked(r10_port *port, r10_port_info *info) R10_SYMBOL(r10_port_state);
+extern void r10_port_close_unchecked(r10_port *port) R10_SYMBOL(r10_port_close);
+extern void r10_outlet_close_unchecked(r10_outlet *outlet) R10_SYMBOL(r10_outlet_close);
+extern uint32_t r10_carry_one_unchecked(r10 *recorder, r10_outlet *outlet, bool *carried) R10_SYMBOL(r10_carry_one);
+extern uint32_t r10_files_unchecked(r10 *recorder, size_t *count) R10_SYMBOL(r10_files);
+extern uint32_t r10_file_unchecked(r10 *recorder, size_t number, r10_file_info *info, uint8_t *name,
+                                   size_t name_room) R10_SYMBOL(r10_file);
+extern uint32_t r10_status_unchecked(r10 *recorder, r10_status_info *info) R10_SYMBOL(r10_status);
+extern uint32_t r10_fault_unchecked(r10 *recorder, r10_fault_info *info) R10_SYMBOL(r10_fault);
+extern uint32_t r10_account_unchecked(r10 *recorder, size_t place, r10_account_info *info) R10_SYMBOL(r10_account);
+extern uint32_t r10_losses_unchecked(r10 *recorder, size_t place, r10_losses_info *info) R10_SYMBOL(r10_losses);
+extern uint32_t r10_take_waiting_unchecked(r10 *recorder, uint16_t channel, bool *there,
+                                           r10_entry *entry) R10_SYMBOL(r10_take_waiting);
+extern uint64_t r10_untold_unchecked(const r10_account_info *account, const r10_losses_info *losses, uint64_t found,
+                                     uint64_t found_lost) R10_SYMBOL(r10_untold);
+extern uint32_t r10_channel_unchecked(r10 *recorder, size_t place, r10_channel_info *info) R10_SYMBOL(r10_channel);
+extern uint32_t r10_cursor_unchecked(r10 *recorder, size_t file, const uint16_t *channels, size_t channel_count, uint64_t from,
+                                     uint64_t to, size_t *cursor) R10_SYMBOL(r10_cursor);
+extern uint32_t r10_advance_unchecked(r10 *recorder, size_t cursor, size_t *queued) R10_SYMBOL(r10_advance);
+extern uint32_t r10_next_unchecked(r10 *recorder, size_t cursor, bool *there, r10_entry *entry, uint8_t *bytes, size_t byte_room,
+                                   uint16_t *words, size_t word_room) R10_SYMBOL(r10_next);
+extern uint32_t r10_take_unchecked(r10 *recorder, size_t cursor, bool *there, r10_entry *entry) R10_SYMBOL(r10_take);
+extern uint32_t r10_taken_unchecked(r10 *recorder, uint8_t *bytes, size_t byte_room, uint16_t *words,
+                                    size_t word_room) R10_SYMBOL(r10_taken);
+extern uint32_t r10_close_cursor_unchecked(r10 *recorder, size_t cursor) R10_SYMBOL(r10_close_cursor);
+extern uint32_t r10_find_unchecked(r10 *recorder, size_t file, uint16_t channel, uint64_t count, bool *there, size_t *number,
+                                   r10_entry *entry, uint8_t *bytes, size_t byte_room, uint16_t *words,
+                                   size_t word_room) R10_SYMBOL(r10_find);
+extern uint32_t r10_count_at_unchecked(r10 *recorder, size_t file, const r10_civil *civil, bool *there,
+                                       uint64_t *count) R10_SYMBOL(r10_count_at);
+
+static inline uint32_t r10_check_script(const void *script, size_t script_length, r10_script_info *info, void *text, size_t text_room) {
     if ((script == NULL && script_length > 0) || info == NULL || (text == NULL && text_room > 0))
         return R10_ROOM;
-    return r10_check_script(script, script_length, info, text, text_room);
+    return r10_check_script_unchecked(script, script_length, info, text, text_room);
 }
 
-static inline uint32_t r10_checked_format(r10_region region, size_t room, const void *script, size_t script_length,
-                                          r10 *recorder) {
+static inline uint32_t r10_format(r10_region region, size_t room, const void *script, size_t script_length, r10 *recorder) {
     if (recorder == NULL)
         return R10_CLOSED;
     if ((region.at == NULL && region.blocks > 0) || (script == NULL && script_length > 0))
         return R10_ROOM;
-    return r10_format(region, room, script, script_length, recorder);
+    return r10_format_unchecked(region, room, script, script_length, recorder);
 }
 
-static inline uint32_t r10_checked_open(r10_region region, size_t room, const void *script, size_t script_length, r10 *recorder) {
+static inline uint32_t r10_open(r10_region region, size_t room, const void *script, size_t script_length, r10 *recorder) {
     if (recorder == NULL)
         return R10_CLOSED;
     if ((region.at == NULL && region.blocks > 0) || (script == NULL && script_length > 0))
         return R10_ROOM;
-    return r10_open(region, room, script, script_length, recorder);
+    return r10_open_unchecked(region, room, script, script_length, recorder);
 }
 
-static inline uint32_t r10_checked_set_aside(r10_region region, size_t room, const void *script, size_t script_length, r10 *recorder,
-                                             bool *was_open) {
+static inline uint32_t r10_set_aside(r10_region region, size_t room, const void *script, size_t script_length, r10 *recorder,
+                                     bool *was_open) {
     if (recorder == NULL)
         return R10_CLOSED;
     if ((region.at == NULL && region.blocks > 0) || (script == NULL && script_length > 0) || was_open == NULL)
         return R10_ROOM;
-    return r10_set_aside(region, room, script, script_length, recorder, was_open);
+    return r10_set_aside_unchecked(region, room, script, script_length, recorder, was_open);
 }
 
-static inline uint32_t r10_checked_orders(r10 *recorder, r10_run_info *run, uint8_t *bytes, size_t byte_room) {
+static inline uint32_t r10_orders(r10 *recorder, r10_run_info *run, uint8_t *bytes, size_t byte_room) {
     if (recorder == NULL)
         return R10_CLOSED;
     if (run == NULL || (bytes == NULL && byte_room > 0))
         return R10_ROOM;
-    return r10_orders(recorder, run, bytes, byte_room);
+    return r10_orders_unchecked(recorder, run, bytes, byte_room);
 }
 
-static inline uint32_t r10_checked_order(r10 *recorder, r10_order_info *order, uint8_t *bytes, size_t byte_room) {
+static inline uint32_t r10_order(r10 *recorder, r10_order_info *order, uint8_t *bytes, size_t byte_room) {
     if (recorder == NULL)
         return R10_CLOSED;
     if (order == NULL || (bytes == NULL && byte_room > 0))
         return R10_ROOM;
-    return r10_order(recorder, order, bytes, byte_room);
+    return r10_order_unchecked(recorder, order, bytes, byte_room);
 }
 
-static inline uint32_t r10_checked_queue(r10 *recorder, r10_queue_info *info) {
+static inline uint32_t r10_queue(r10 *recorder, r10_queue_info *info) {
     if (recorder == NULL)
         return R10_CLOSED;
     if (info == NULL)
         return R10_ROOM;
-    return r10_queue(recorder, info);
+    return r10_queue_unchecked(recorder, info);
 }
 
-static inline uint32_t r10_checked_disk_failed(r10 *recorder) {
+static inline uint32_t r10_disk_failed(r10 *recorder) {
     if (recorder == NULL)
         return R10_CLOSED;
-    return r10_disk_failed(recorder);
+    return r10_disk_failed_unchecked(recorder);
 }
 
-static inline void r10_checked_close(r10 *recorder) {
+static inline void r10_close(r10 *recorder) {
     if (recorder != NULL)
-        r10_close(recorder);
+        r10_close_unchecked(recorder);
 }
 
-static inline uint32_t r10_checked_mount(r10 *recorder) {
+static inline uint32_t r10_mount(r10 *recorder) {
     if (recorder == NULL)
         return R10_CLOSED;
-    return r10_mount(recorder);
+    return r10_mount_unchecked(recorder);
 }
 
-static inline uint32_t r10_checked_dismount(r10 *recorder) {
+static inline uint32_t r10_dismount(r10 *recorder) {
     if (recorder == NULL)
         return R10_CLOSED;
-    return r10_dismount(recorder);
+    return r10_dismount_unchecked(recorder);
 }
 
-static inline uint32_t r10_checked_tick(r10 *recorder, uint64_t count, const r10_civil *civil) {
+static inline uint32_t r10_tick(r10 *recorder, uint64_t count, const r10_civil *civil) {
     if (recorder == NULL)
         return R10_CLOSED;
     if (civil == NULL)
         return R10_ROOM;
-    return r10_tick(recorder, count, civil);
+    return r10_tick_unchecked(recorder, count, civil);
 }
 
-static inline uint32_t r10_checked_start(r10 *recorder, const void *name, size_t name_length, const void *setup,
-                                         size_t setup_length) {
+static inline uint32_t r10_start(r10 *recorder, const void *name, size_t name_length, const void *setup, size_t setup_length) {
     if (recorder == NULL)
         return R10_CLOSED;
     if ((name == NULL && name_length > 0) || (setup == NULL && setup_length > 0))
         return R10_ROOM;
-    return r10_start(recorder, name, name_length, setup, setup_length);
+    return r10_start_unchecked(recorder, name, name_length, setup, setup_length);
 }
 
-static inline uint32_t r10_checked_pump(r10 *recorder, uint16_t channel, size_t most, size_t *moved) {
+static inline uint32_t r10_pump(r10 *recorder, uint16_t channel, size_t most, size_t *moved) {
     if (recorder == NULL)
         return R10_CLOSED;
     if (moved == NULL)
         return R10_ROOM;
-    return r10_pump(recorder, channel, most, moved);
+    return r10_pump_unchecked(recorder, channel, most, moved);
 }
 
-static inline uint32_t r10_checked_event(r10 *recorder, uint16_t number, uint64_t count) {
+static inline uint32_t r10_event(r10 *recorder, uint16_t number, uint64_t count) {
     if (recorder == NULL)
         return R10_CLOSED;
-    return r10_event(recorder, number, count);
+    return r10_event_unchecked(recorder, number, count);
 }
 
-static inline uint32_t r10_checked_commit(r10 *recorder) {
+static inline uint32_t r10_commit(r10 *recorder) {
     if (recorder == NULL)
         return R10_CLOSED;
-    return r10_commit(recorder);
+    return r10_commit_unchecked(recorder);
 }
 
-static inline uint32_t r10_checked_stop(r10 *recorder, size_t *taken, size_t *left) {
+static inline uint32_t r10_stop(r10 *recorder, size_t *taken, size_t *left) {
     if (recorder == NULL)
         return R10_CLOSED;
     if (taken == NULL || left == NULL)
         return R10_ROOM;
-    return r10_stop(recorder, taken, left);
+    return r10_stop_unchecked(recorder, taken, left);
 }
 
-static inline uint32_t r10_checked_seal(r10 *recorder) {
+static inline uint32_t r10_seal(r10 *recorder) {
     if (recorder == NULL)
         return R10_CLOSED;
-    return r10_seal(recorder);
+    return r10_seal_unchecked(recorder);
 }
 
-static inline uint32_t r10_checked_erase(r10 *recorder) {
+static inline uint32_t r10_erase(r10 *recorder) {
     if (recorder == NULL)
         return R10_CLOSED;
-    return r10_erase(recorder);
+    return r10_erase_unchecked(recorder);
 }
 
-static inline uint32_t r10_checked_offer_uart(r10 *recorder, uint16_t channel, uint64_t count, bool parity, uint16_t sub,
-                                              const void *bytes, size_t length) {
+static inline uint32_t r10_offer_uart(r10 *recorder, uint16_t channel, uint64_t count, bool parity, uint16_t sub, const void *bytes,
+                                      size_t length) {
     if (recorder == NULL)
         return R10_CLOSED;
     if (bytes == NULL && length > 0)
         return R10_ROOM;
-    return r10_offer_uart(recorder, channel, count, parity, sub, bytes, length);
+    return r10_offer_uart_unchecked(recorder, channel, count, parity, sub, bytes, length);
 }
 
-static inline uint32_t r10_checked_offer_1553(r10 *recorder, uint16_t channel, uint64_t count, uint16_t status, uint16_t gap,
-                                              const uint16_t *words, size_t length) {
+static inline uint32_t r10_offer_1553(r10 *recorder, uint16_t channel, uint64_t count, uint16_t status, uint16_t gap,
+                                      const uint16_t *words, size_t length) {
     if (recorder == NULL)
         return R10_CLOSED;
     if (words == NULL && length > 0)
         return R10_ROOM;
-    return r10_offer_1553(recorder, channel, count, status, gap, words, length);
+    return r10_offer_1553_unchecked(recorder, channel, count, status, gap, words, length);
 }
 
-static inline uint32_t r10_checked_offer_arinc(r10 *recorder, uint16_t channel, uint64_t count, uint8_t bus, bool format,
-                                               bool parity, bool high, uint32_t word) {
+static inline uint32_t r10_offer_arinc(r10 *recorder, uint16_t channel, uint64_t count, uint8_t bus, bool format, bool parity,
+                                       bool high, uint32_t word) {
     if (recorder == NULL)
         return R10_CLOSED;
-    return r10_offer_arinc(recorder, channel, count, bus, format, parity, high, word);
+    return r10_offer_arinc_unchecked(recorder, channel, count, bus, format, parity, high, word);
 }
 
-static inline uint32_t r10_checked_offer_discrete(r10 *recorder, uint16_t channel, uint64_t count, uint32_t states) {
+static inline uint32_t r10_offer_discrete(r10 *recorder, uint16_t channel, uint64_t count, uint32_t states) {
     if (recorder == NULL)
         return R10_CLOSED;
-    return r10_offer_discrete(recorder, channel, count, states);
+    return r10_offer_discrete_unchecked(recorder, channel, count, states);
 }
 
-static inline uint32_t r10_checked_offer_message(r10 *recorder, uint16_t channel, uint64_t count, bool data_error, bool format,
-                                                 uint16_t sub, const void *bytes, size_t length) {
+static inline uint32_t r10_offer_message(r10 *recorder, uint16_t channel, uint64_t count, bool data_error, bool format,
+                                         uint16_t sub, const void *bytes, size_t length) {
     if (recorder == NULL)
         return R10_CLOSED;
     if (bytes == NULL && length > 0)
         return R10_ROOM;
-    return r10_offer_message(recorder, channel, count, data_error, format, sub, bytes, length);
+    return r10_offer_message_unchecked(recorder, channel, count, data_error, format, sub, bytes, length);
 }
 
-static inline uint32_t r10_checked_lost(r10 *recorder, uint16_t channel, uint64_t count) {
+static inline uint32_t r10_lost(r10 *recorder, uint16_t channel, uint64_t count) {
     if (recorder == NULL)
         return R10_CLOSED;
-    return r10_lost(recorder, channel, count);
+    return r10_lost_unchecked(recorder, channel, count);
 }
 
-static inline uint32_t r10_checked_port_open(const void *script, size_t script_length, uint16_t channel, r10_port *port,
-                                             r10_outlet *outlet) {
+static inline uint32_t r10_port_open(const void *script, size_t script_length, uint16_t channel, r10_port *port, r10_outlet *outlet) {
     if (port == NULL || outlet == NULL)
         return R10_CLOSED;
     if (script == NULL && script_length > 0)
         return R10_ROOM;
-    return r10_port_open(script, script_length, channel, port, outlet);
+    return r10_port_open_unchecked(script, script_length, channel, port, outlet);
 }
 
-static inline uint32_t r10_checked_port_uart(r10_port *port, uint64_t count, bool parity, uint16_t sub, const void *bytes,
-                                             size_t length) {
+static inline uint32_t r10_port_uart(r10_port *port, uint64_t count, bool parity, uint16_t sub, const void *bytes, size_t length) {
     if (port == NULL)
         return R10_CLOSED;
     if (bytes == NULL && length > 0)
         return R10_ROOM;
-    return r10_port_uart(port, count, parity, sub, bytes, length);
+    return r10_port_uart_unchecked(port, count, parity, sub, bytes, length);
 }
 
-static inline uint32_t r10_checked_port_1553(r10_port *port, uint64_t count, uint16_t status, uint16_t gap, const uint16_t *words,
-                                             size_t length) {
+static inline uint32_t r10_port_1553(r10_port *port, uint64_t count, uint16_t status, uint16_t gap, const uint16_t *words,
+                                     size_t length) {
     if (port == NULL)
         return R10_CLOSED;
     if (words == NULL && length > 0)
         return R10_ROOM;
-    return r10_port_1553(port, count, status, gap, words, length);
+    return r10_port_1553_unchecked(port, count, status, gap, words, length);
 }
 
-static inline uint32_t r10_checked_port_arinc(r10_port *port, uint64_t count, uint8_t bus, bool format, bool parity, bool high,
-                                              uint32_t word) {
+static inline uint32_t r10_port_arinc(r10_port *port, uint64_t count, uint8_t bus, bool format, bool parity, bool high, uint32_t word) {
     if (port == NULL)
         return R10_CLOSED;
-    return r10_port_arinc(port, count, bus, format, parity, high, word);
+    return r10_port_arinc_unchecked(port, count, bus, format, parity, high, word);
 }
 
-static inline uint32_t r10_checked_port_discrete(r10_port *port, uint64_t count, uint32_t states) {
+static inline uint32_t r10_port_discrete(r10_port *port, uint64_t count, uint32_t states) {
     if (port == NULL)
         return R10_CLOSED;
-    return r10_port_discrete(port, count, states);
+    return r10_port_discrete_unchecked(port, count, states);
 }
 
-static inline uint32_t r10_checked_port_message(r10_port *port, uint64_t count, bool data_error, bool format, uint16_t sub,
-                                                const void *bytes, size_t length) {
+static inline uint32_t r10_port_message(r10_port *port, uint64_t count, bool data_error, bool format, uint16_t sub,
+                                        const void *bytes, size_t length) {
     if (port == NULL)
         return R10_CLOSED;
     if (bytes == NULL && length > 0)
         return R10_ROOM;
-    return r10_port_message(port, count, data_error, format, sub, bytes, length);
+    return r10_port_message_unchecked(port, count, data_error, format, sub, bytes, length);
 }
 
-static inline uint32_t r10_checked_port_lost(r10_port *port, uint64_t count) {
+static inline uint32_t r10_port_lost(r10_port *port, uint64_t count) {
     if (port == NULL)
         return R10_CLOSED;
-    return r10_port_lost(port, count);
+    return r10_port_lost_unchecked(port, count);
 }
 
-static inline uint32_t r10_checked_port_state(r10_port *port, r10_port_info *info) {
+static inline uint32_t r10_port_state(r10_port *port, r10_port_info *info) {
     if (port == NULL)
         return R10_CLOSED;
     if (info == NULL)
         return R10_ROOM;
-    return r10_port_state(port, info);
+    return r10_port_state_unchecked(port, info);
 }
 
-static inline void r10_checked_port_close(r10_port *port) {
+static inline void r10_port_close(r10_port *port) {
     if (port != NULL)
-        r10_port_close(port);
+        r10_port_close_unchecked(port);
 }
 
-static inline void r10_checked_outlet_close(r10_outlet *outlet) {
+static inline void r10_outlet_close(r10_outlet *outlet) {
     if (outlet != NULL)
-        r10_outlet_close(outlet);
+        r10_outlet_close_unchecked(outlet);
 }
 
-static inline uint32_t r10_checked_carry_one(r10 *recorder, r10_outlet *outlet, bool *carried) {
+static inline uint32_t r10_carry_one(r10 *recorder, r10_outlet *outlet, bool *carried) {
     if (recorder == NULL || outlet == NULL)
         return R10_CLOSED;
     if (carried == NULL)
         return R10_ROOM;
-    return r10_carry_one(recorder, outlet, carried);
+    return r10_carry_one_unchecked(recorder, outlet, carried);
 }
 
-static inline uint32_t r10_checked_files(r10 *recorder, size_t *count) {
+static inline uint32_t r10_files(r10 *recorder, size_t *count) {
     if (recorder == NULL)
         return R10_CLOSED;
     if (count == NULL)
         return R10_ROOM;
-    return r10_files(recorder, count);
+    return r10_files_unchecked(recorder, count);
 }
 
-static inline uint32_t r10_checked_file(r10 *recorder, size_t number, r10_file_info *info, uint8_t *name, size_t name_room) {
+static inline uint32_t r10_file(r10 *recorder, size_t number, r10_file_info *info, uint8_t *name, size_t name_room) {
     if (recorder == NULL)
         return R10_CLOSED;
     if (info == NULL || (name == NULL && name_room > 0))
         return R10_ROOM;
-    return r10_file(recorder, number, info, name, name_room);
+    return r10_file_unchecked(recorder, number, info, name, name_room);
 }
 
-static inline uint32_t r10_checked_status(r10 *recorder, r10_status_info *info) {
+static inline uint32_t r10_status(r10 *recorder, r10_status_info *info) {
     if (recorder == NULL)
         return R10_CLOSED;
     if (info == NULL)
         return R10_ROOM;
-    return r10_status(recorder, info);
+    return r10_status_unchecked(recorder, info);
 }
 
-static inline uint32_t r10_checked_fault(r10 *recorder, r10_fault_info *info) {
+static inline uint32_t r10_fault(r10 *recorder, r10_fault_info *info) {
     if (recorder == NULL)
         return R10_CLOSED;
     if (info == NULL)
         return R10_ROOM;
-    return r10_fault(recorder, info);
+    return r10_fault_unchecked(recorder, info);
 }
 
-static inline uint32_t r10_checked_account(r10 *recorder, size_t place, r10_account_info *info) {
+static inline uint32_t r10_account(r10 *recorder, size_t place, r10_account_info *info) {
     if (recorder == NULL)
         return R10_CLOSED;
     if (info == NULL)
         return R10_ROOM;
-    return r10_account(recorder, place, info);
+    return r10_account_unchecked(recorder, place, info);
 }
 
-static inline uint32_t r10_checked_losses(r10 *recorder, size_t place, r10_losses_info *info) {
+static inline uint32_t r10_losses(r10 *recorder, size_t place, r10_losses_info *info) {
     if (recorder == NULL)
         return R10_CLOSED;
     if (info == NULL)
         return R10_ROOM;
-    return r10_losses(recorder, place, info);
+    return r10_losses_unchecked(recorder, place, info);
 }
 
-static inline uint32_t r10_checked_take_waiting(r10 *recorder, uint16_t channel, bool *there, r10_entry *entry) {
+static inline uint32_t r10_take_waiting(r10 *recorder, uint16_t channel, bool *there, r10_entry *entry) {
     if (recorder == NULL)
         return R10_CLOSED;
     if (there == NULL || entry == NULL)
         return R10_ROOM;
-    return r10_take_waiting(recorder, channel, there, entry);
+    return r10_take_waiting_unchecked(recorder, channel, there, entry);
 }
 
-static inline uint64_t r10_checked_untold(const r10_account_info *account, const r10_losses_info *losses, uint64_t found, uint64_t found_lost) {
-    return account == NULL || losses == NULL ? 0 : r10_untold(account, losses, found, found_lost);
+static inline uint64_t r10_untold(const r10_account_info *account, const r10_losses_info *losses, uint64_t found, uint64_t found_lost) {
+    return account == NULL || losses == NULL ? 0 : r10_untold_unchecked(account, losses, found, found_lost);
 }
 
-static inline uint32_t r10_checked_channel(r10 *recorder, size_t place, r10_channel_info *info) {
+static inline uint32_t r10_channel(r10 *recorder, size_t place, r10_channel_info *info) {
     if (recorder == NULL)
         return R10_CLOSED;
     if (info == NULL)
         return R10_ROOM;
-    return r10_channel(recorder, place, info);
+    return r10_channel_unchecked(recorder, place, info);
 }
 
-static inline uint32_t r10_checked_cursor(r10 *recorder, size_t file, const uint16_t *channels, size_t channel_count,
-                                          uint64_t from, uint64_t to, size_t *cursor) {
+static inline uint32_t r10_cursor(r10 *recorder, size_t file, const uint16_t *channels, size_t channel_count, uint64_t from,
+                                  uint64_t to, size_t *cursor) {
     if (recorder == NULL)
         return R10_CLOSED;
     if ((channels == NULL && channel_count > 0) || cursor == NULL)
         return R10_ROOM;
-    return r10_cursor(recorder, file, channels, channel_count, from, to, cursor);
+    return r10_cursor_unchecked(recorder, file, channels, channel_count, from, to, cursor);
 }
 
-static inline uint32_t r10_checked_advance(r10 *recorder, size_t cursor, size_t *queued) {
+static inline uint32_t r10_advance(r10 *recorder, size_t cursor, size_t *queued) {
     if (recorder == NULL)
         return R10_CLOSED;
     if (queued == NULL)
         return R10_ROOM;
-    return r10_advance(recorder, cursor, queued);
+    return r10_advance_unchecked(recorder, cursor, queued);
 }
 
-static inline uint32_t r10_checked_next(r10 *recorder, size_t cursor, bool *there, r10_entry *entry, uint8_t *bytes,
-                                        size_t byte_room, uint16_t *words, size_t word_room) {
+static inline uint32_t r10_next(r10 *recorder, size_t cursor, bool *there, r10_entry *entry, uint8_t *bytes, size_t byte_room,
+                                uint16_t *words, size_t word_room) {
     if (recorder == NULL)
         return R10_CLOSED;
     if (there == NULL || entry == NULL || (bytes == NULL && byte_room > 0) || (words == NULL && word_room > 0))
         return R10_ROOM;
-    return r10_next(recorder, cursor, there, entry, bytes, byte_room, words, word_room);
+    return r10_next_unchecked(recorder, cursor, there, entry, bytes, byte_room, words, word_room);
 }
 
-static inline uint32_t r10_checked_take(r10 *recorder, size_t cursor, bool *there, r10_entry *entry) {
+static inline uint32_t r10_take(r10 *recorder, size_t cursor, bool *there, r10_entry *entry) {
     if (recorder == NULL)
         return R10_CLOSED;
     if (there == NULL || entry == NULL)
         return R10_ROOM;
-    return r10_take(recorder, cursor, there, entry);
+    return r10_take_unchecked(recorder, cursor, there, entry);
 }
 
-static inline uint32_t r10_checked_taken(r10 *recorder, uint8_t *bytes, size_t byte_room, uint16_t *words, size_t word_room) {
+static inline uint32_t r10_taken(r10 *recorder, uint8_t *bytes, size_t byte_room, uint16_t *words, size_t word_room) {
     if (recorder == NULL)
         return R10_CLOSED;
     if ((bytes == NULL && byte_room > 0) || (words == NULL && word_room > 0))
         return R10_ROOM;
-    return r10_taken(recorder, bytes, byte_room, words, word_room);
+    return r10_taken_unchecked(recorder, bytes, byte_room, words, word_room);
 }
 
-static inline uint32_t r10_checked_close_cursor(r10 *recorder, size_t cursor) {
+static inline uint32_t r10_close_cursor(r10 *recorder, size_t cursor) {
     if (recorder == NULL)
         return R10_CLOSED;
-    return r10_close_cursor(recorder, cursor);
+    return r10_close_cursor_unchecked(recorder, cursor);
 }
 
-static inline uint32_t r10_checked_find(r10 *recorder, size_t file, uint16_t channel, uint64_t count, bool *there, size_t *number,
-                                        r10_entry *entry, uint8_t *bytes, size_t byte_room, uint16_t *words, size_t word_room) {
+static inline uint32_t r10_find(r10 *recorder, size_t file, uint16_t channel, uint64_t count, bool *there, size_t *number,
+                                r10_entry *entry, uint8_t *bytes, size_t byte_room, uint16_t *words, size_t word_room) {
     if (recorder == NULL)
         return R10_CLOSED;
     if (there == NULL || number == NULL || entry == NULL || (bytes == NULL && byte_room > 0) || (words == NULL && word_room > 0))
         return R10_ROOM;
-    return r10_find(recorder, file, channel, count, there, number, entry, bytes, byte_room, words, word_room);
+    return r10_find_unchecked(recorder, file, channel, count, there, number, entry, bytes, byte_room, words, word_room);
 }
 
-static inline uint32_t r10_checked_count_at(r10 *recorder, size_t file, const r10_civil *civil, bool *there, uint64_t *count) {
+static inline uint32_t r10_count_at(r10 *recorder, size_t file, const r10_civil *civil, bool *there, uint64_t *count) {
     if (recorder == NULL)
         return R10_CLOSED;
     if (civil == NULL || there == NULL || count == NULL)
         return R10_ROOM;
-    return r10_count_at(recorder, file, civil, there, count);
+    return r10_count_at_unchecked(recorder, file, civil, there, count);
 }
 
-#define r10_check_script r10_checked_check_script
-#define r10_format r10_checked_format
-#define r10_open r10_checked_open
-#define r10_set_aside r10_checked_set_aside
-#define r10_orders r10_checked_orders
-#define r10_order r10_checked_order
-#define r10_queue r10_checked_queue
-#define r10_disk_failed r10_checked_disk_failed
-#define r10_close r10_checked_close
-#define r10_mount r10_checked_mount
-#define r10_dismount r10_checked_dismount
-#define r10_tick r10_checked_tick
-#define r10_start r10_checked_start
-#define r10_pump r10_checked_pump
-#define r10_event r10_checked_event
-#define r10_commit r10_checked_commit
-#define r10_stop r10_checked_stop
-#define r10_seal r10_checked_seal
-#define r10_erase r10_checked_erase
-#define r10_offer_uart r10_checked_offer_uart
-#define r10_offer_1553 r10_checked_offer_1553
-#define r10_offer_arinc r10_checked_offer_arinc
-#define r10_offer_discrete r10_checked_offer_discrete
-#define r10_offer_message r10_checked_offer_message
-#define r10_lost r10_checked_lost
-#define r10_port_open r10_checked_port_open
-#define r10_port_uart r10_checked_port_uart
-#define r10_port_1553 r10_checked_port_1553
-#define r10_port_arinc r10_checked_port_arinc
-#define r10_port_discrete r10_checked_port_discrete
-#define r10_port_message r10_checked_port_message
-#define r10_port_lost r10_checked_port_lost
-#define r10_port_state r10_checked_port_state
-#define r10_port_close r10_checked_port_close
-#define r10_outlet_close r10_checked_outlet_close
-#define r10_carry_one r10_checked_carry_one
-#define r10_files r10_checked_files
-#define r10_file r10_checked_file
-#define r10_status r10_checked_status
-#define r10_fault r10_checked_fault
-#define r10_channel r10_checked_channel
-#define r10_account r10_checked_account
-#define r10_losses r10_checked_losses
-#define r10_take_waiting r10_checked_take_waiting
-#define r10_untold r10_checked_untold
-#define r10_cursor r10_checked_cursor
-#define r10_advance r10_checked_advance
-#define r10_next r10_checked_next
-#define r10_take r10_checked_take
-#define r10_taken r10_checked_taken
-#define r10_close_cursor r10_checked_close_cursor
-#define r10_find r10_checked_find
-#define r10_count_at r10_checked_count_at
-
+#undef R10_SYMBOL
 /* clang-format on */
 #endif
 
@@ -1398,5 +1457,6 @@ R10_SIZE(r10_queue_info, 24);
 R10_SIZE(r10_fault_info, 16);
 R10_SIZE(r10_script_info, 40);
 #undef R10_SIZE
+#undef R10_CALL
 
 #endif

@@ -14,6 +14,10 @@
 #ifndef R10_POSIX_H
 #define R10_POSIX_H
 
+#ifndef _GNU_SOURCE
+#error "r10_posix.h: say #define _GNU_SOURCE before the first include of the program, or -D_GNU_SOURCE to the compiler"
+#endif
+
 #include "r10.h"
 
 #include <errno.h>
@@ -25,6 +29,7 @@
 #include <sys/mman.h>
 #include <sys/stat.h>
 #include <sys/sysmacros.h>
+#include <sys/types.h>
 #include <unistd.h>
 
 enum { R10_RUN_BLOCKS = 128, R10_GIVE_BACK = 65536 };
@@ -35,6 +40,7 @@ typedef struct r10_disk {
     uint64_t operations; /* the runs and syncs that were done */
     uint64_t blocks;     /* the blocks that were written */
     uint64_t kept;       /* the blocks that were written since pages were given back */
+    pid_t owner;         /* the process that opened it: another one, after a fork, does nothing on it */
     bool failed;         /* a write or a sync failed: nothing more is done on it until it is opened again */
     uint8_t bytes[512 * R10_RUN_BLOCKS];
 } r10_disk;
@@ -70,6 +76,7 @@ static inline int r10_disk_drop(int file, int answer) {
 static inline int r10_disk_take(r10_disk *disk, int file, size_t blocks) {
     disk->operations = disk->blocks = disk->kept = 0;
     disk->failed = false;
+    disk->owner = getpid();
     disk->region.at = NULL;
     disk->file = file;
     if (flock(disk->file, LOCK_EX | LOCK_NB) != 0)
@@ -126,9 +133,14 @@ static inline int r10_disk_gave_up(r10_disk *disk, r10 *recorder) {
 }
 
 /* Does on the disk what waits. After a 0 what the last call answered is durable, where it answers so. -1 where the disk failed, now or at an earlier call: errno says
- * why, EIO at later calls. A later operation may not be done without an earlier one, so nothing more is done then. Close both, and open the disk again. */
+ * why, EIO at later calls. -1 and EPERM, with nothing done, in a process that a fork made after the open: it has a copy of the recorder, and the disk is
+ * the parent's. A later operation may not be done without an earlier one, so nothing more is done then. Close both, and open the disk again. */
 static inline int r10_disk_settle(r10_disk *disk, r10 *recorder) {
     r10_run_info run;
+    if (disk->owner != getpid()) {
+        errno = EPERM;
+        return -1;
+    }
     if (disk->failed) {
         errno = EIO;
         return -1;

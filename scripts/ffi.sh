@@ -104,15 +104,16 @@ build() {
 share() {
     local names="$room/names"
     want_commands ffi cc ld ar nm objcopy
-    sed -n 's/^\(uint32_t\|uint64_t\|void\) \(r10_[a-z0-9_]*\)(.*/\2/p' "$top/ffi/r10.h" >"$names"
+    sed -n 's/^\(R10_CALL \)\{0,1\}\(uint32_t\|uint64_t\|void\) \(r10_[a-z0-9_]*\)(.*/\3/p' "$top/ffi/r10.h" >"$names"
     ld -r -o "$room/all.o" --whole-archive "$library" --no-whole-archive "${below[@]}" &&
         objcopy --keep-global-symbols="$names" "$room/all.o" "$room/r10.o" &&
         rm -f "$1/libr10.a" && ar rcsD "$1/libr10.a" "$room/r10.o" &&
-        cc -shared -Wl,-soname,"libr10.so.$major" -Wl,--no-undefined -Wl,-Bsymbolic -Wl,-z,now -o "$1/libr10.so.$version" \
-        "$room/r10.o" &&
+        cc -shared -Wl,-soname,"libr10.so.$major" -Wl,--no-undefined -Wl,-Bsymbolic -Wl,-z,now \
+        -Wl,--version-script="$top/ffi/r10.map" -o "$1/libr10.so.$version" "$room/r10.o" &&
         ln -sf "libr10.so.$version" "$1/libr10.so.$major" && ln -sf "libr10.so.$major" "$1/libr10.so" ||
         give_up "libr10.a and libr10.so were not made"
-    nm -D --defined-only "$1/libr10.so" | awk '{ print $3 }' | sort >"$room/shown"
+    # (each has a version, and each version is a name of its own)
+    nm -D --defined-only "$1/libr10.so" | awk '$2 == "T" { print $3 }' | sed '/@@R10_[0-9.]*$/s/@@.*//' | sort >"$room/shown"
     nm -g --defined-only "$1/libr10.a" | awk 'NF == 3 { print $3 }' | sort >"$room/shown_static"
     sort "$names" | diff - "$room/shown" >&2 && sort "$names" | diff - "$room/shown_static" >&2 ||
         give_up "the libraries do not show the names of ffi/r10.h and no others"
@@ -124,6 +125,15 @@ proved_or_not() {
 }
 
 # Headers, libraries and r10.pc, for a prefix, in the folder that stands for it.
+# The crates of the library, as a program in Rust names them by their paths.
+rust_crates() {
+    local it
+    for it in r10 r10-sys; do
+        (cd "$top/ffi/rust" && find -L "$it" -type f ! -path '*/target/*' ! -name Cargo.lock \
+            -exec install -D -m 644 {} "$1/{}" \;) || return
+    done
+}
+
 install_for() {
     local lib=$2/${R10_LIBDIR:-lib} proved toolchain
     mkdir -p "$2/include" "$lib/pkgconfig" || give_up "can't make folders in $2"
@@ -133,6 +143,7 @@ install_for() {
         put_note "$(about libr10 "$proved" "$toolchain")" "$lib/libr10.so.$version" "$lib/libr10.a" ||
         give_up "the libraries do not take their note"
     install -m 644 "$top/ffi/r10.h" "$top/ffi/r10_posix.h" "$2/include" || give_up "can't write into $2"
+    rust_crates "$2/share/r10/rust" || give_up "can't write into $2"
     sed "s|@PREFIX@|$(for_sed "$1")|; s|@VERSION@|$version|; s|@LIBDIR@|$(for_sed "${R10_LIBDIR:-lib}")|; s|@PROVED@|$proved|
         s|@COMMIT@|$(commit_of)|; s|@TOOLCHAIN@|$(for_sed "$toolchain")|" "$top/ffi/r10.pc.in" >"$lib/pkgconfig/r10.pc" ||
         give_up "can't write into $2"
@@ -158,6 +169,21 @@ under_threads() {
         give_up "ports, with the thread sanitizer: status $?"
     diff <(sed 's/100000/10000/' "$top/ffi/ports.expected") "$room/ports_threads.out" >&2 ||
         give_up "what was printed with the thread sanitizer is not ffi/ports.expected"
+}
+
+# A program in a folder of its own over the crates that are installed, which prints the library's version; and both crates packed.
+rust_user() {
+    mkdir -p "$2/src" &&
+        printf '[package]\nname = "user"\nversion = "0.1.0"\nedition = "2024"\n\n[dependencies]\nr10 = { path = "%s" }\n' \
+            "$1/share/r10/rust/r10" >"$2/Cargo.toml" &&
+        echo 'fn main() { println!("{}", r10::version()); }' >"$2/src/main.rs" &&
+        [ "$(R10_LIB_DIR=$1/lib R10_STATIC=1 CARGO_TARGET_DIR=$room/rust_user cargo run --offline --quiet --manifest-path \
+            "$2/Cargo.toml")" = "$(sed -n 's/^pub const R10_VERSION: u32 = \(.*\);/\1/p' "$top/ffi/rust/r10-sys/src/lib.rs")" ] &&
+        R10_LIB_DIR=$1/lib R10_STATIC=1 CARGO_TARGET_DIR=$room/rust_user cargo package --offline --quiet --allow-dirty \
+            --manifest-path "$top/ffi/rust/Cargo.toml" -p r10-sys -p r10 2>"$room/package.out" || {
+        cat "$room/package.out" >&2
+        return 1
+    }
 }
 
 # The program in Rust over the crates of ffi/rust, without a network, over the libraries in a folder.
@@ -315,6 +341,8 @@ check() {
                     give_up "a test of ffi/rust failed ($kind)"
                 }
             done
+            # what is installed is used by a program elsewhere, and is what cargo packs
+            rust_user "$room/installed" "$room/user" || give_up "a program over the installed crates does not run: see above"
             "$room/example_rs" 1000 100 >"$room/rs.out" || give_up "example_rs: status $?"
             compare example_rs.expected "$room/rs.out"
             "$room/example_rs" 1000 100 "$room/medium_rs" >"$room/rs.out" || give_up "example_rs over a file: status $?"

@@ -4,7 +4,7 @@
 use std::fmt::Write;
 use std::ops::RangeInclusive;
 
-use r10::{Content, Entry, Error, Message, Recorder};
+use r10::{Content, Entry, Message, Recorder, Refusal as Refused};
 use serde::Deserialize;
 
 use crate::clock;
@@ -215,7 +215,7 @@ impl Keys {
 
 impl Head {
     /// Offers the message with these bytes to the recorder.
-    pub fn offer(self, recorder: &mut Recorder, channel: u16, count: u64, bytes: &[u8]) -> Result<(), Error> {
+    pub fn offer(self, recorder: &mut Recorder, channel: u16, count: u64, bytes: &[u8]) -> Result<(), Refused> {
         let mut words = [0; MOST_WORDS];
         let message = match self {
             Head::Uart { parity, sub } => Message::Uart { parity, sub, bytes },
@@ -225,7 +225,7 @@ impl Head {
                     *word = u16::from_le_bytes([it[0], it[1]]);
                 }
                 if bytes.len() > 2 * MOST_WORDS {
-                    return Err(Error::TOO_LONG);
+                    return Err(Refused::TooLong);
                 }
                 Message::Bus1553 { status, gap_times, words: &words[..length] }
             }
@@ -238,7 +238,7 @@ impl Head {
 }
 
 /// Offers to a recorder what waited in a lane of another one. (No lane has a time or an event.)
-pub fn offer_again(recorder: &mut Recorder, channel: u16, entry: &Entry) -> Result<(), Error> {
+pub fn offer_again(recorder: &mut Recorder, channel: u16, entry: &Entry) -> Result<(), Refused> {
     let message = match &entry.content {
         Content::Uart { parity, sub, bytes } => Message::Uart { parity: *parity, sub: *sub, bytes },
         Content::Bus1553 { status, gap_times, words } => Message::Bus1553 { status: *status, gap_times: *gap_times, words },
@@ -324,7 +324,7 @@ mod tests {
             };
             let text = format!("{TOP}kind = \"{}\"\n{more}\n", kind.name());
             let settings = settings::read(&text, Path::new("/")).unwrap();
-            let mut recorder = Recorder::format(Region::memory(99), 64, &settings.script).map_err(|it| it.0).unwrap();
+            let mut recorder = Recorder::format(Region::memory(99), 64, &settings.script).map_err(|it| it.refusal).unwrap();
             let civil = Civil { year: 2024, month: 2, day: 29, hour: 12, minute: 34, second: 56, centi: 78 };
             recorder.mount().and_then(|()| recorder.tick(1000, &civil)).and_then(|()| recorder.start("F", b"")).unwrap();
             let (head, length) = kind.of_bytes(datagram, settings.channels[0].sub).unwrap();
@@ -333,10 +333,10 @@ mod tests {
             offer.head.offer(&mut recorder, 5, 1002, &offer.bytes).unwrap();
             assert_eq!((recorder.pump(5, 9), recorder.commit()), (Ok(2), Ok(())));
             let cursor = recorder.cursor(0, &[5], ALL_COUNTS).unwrap();
-            assert_eq!(recorder.advance(cursor), Ok(2));
+            assert_eq!(recorder.advance(&cursor), Ok(2));
             for wanted in wanted {
                 let mut out = String::new();
-                print(&mut out, &recorder.next(cursor).unwrap().unwrap().content);
+                print(&mut out, &recorder.next(&cursor).unwrap().unwrap().content);
                 assert_eq!(out, wanted);
                 // the name, and a value for each key
                 let words: Vec<_> = out.split(' ').collect();

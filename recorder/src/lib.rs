@@ -2,7 +2,7 @@
 //!
 //! The recorder itself is the library under the crate `r10`. Here are its inputs, its disk, its clock, and those who ask it
 //! things. One thread owns it: [`owner`].
-#![forbid(unsafe_code)]
+#![deny(unsafe_code)]
 
 /// What a version ends with where the library below these programs is not known to be proved. For a build over a proved one
 /// `scripts/recorder.sh` sets `R10_PROVED`.

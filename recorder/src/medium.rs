@@ -11,7 +11,7 @@ use std::time::{Duration, Instant};
 use nix::errno::Errno;
 use nix::fcntl::PosixFadviseAdvice;
 use nix::sys::stat::{major, minor};
-use r10::{Disk, Error, Recorder, Region};
+use r10::{Disk, Recorder, Refusal as Refused, Region};
 
 use crate::inputs::Seldom;
 use crate::settings::Settings;
@@ -204,16 +204,16 @@ impl Medium {
     /// something else in its front, unless that is to go by force. What went so.
     pub fn format(&self, force: bool) -> Result<Option<String>, Refusal> {
         let disk = self.take()?;
-        let mut recorder = Recorder::open(disk.into(), ROOM, &self.script).map_err(|it| Refusal::Wrong(it.0.to_string()))?;
+        let mut recorder = Recorder::open(disk.into(), ROOM, &self.script).map_err(|it| Refusal::Wrong(it.refusal.to_string()))?;
         // (nothing of a mount is on the disk before it is settled)
         let gone = match recorder.mount() {
             Ok(()) if force => Some(files_of(&mut recorder).map_err(|it| Refusal::Failed(it.to_string()))?),
-            Err(Error::BAD_DIRECTORY) if self.has_letters()? => Some(
+            Err(Refused::BadDirectory) if self.has_letters()? => Some(
                 "a directory that does not fit these settings, or is damaged; `ch10 rescue` finds recordings without one"
                     .to_string(),
             ),
-            Err(Error::BAD_DIRECTORY) if self.has_others()? => Some(format!("something else in its first {} KiB", FRONT >> 10)),
-            Err(Error::BAD_DIRECTORY) => None,
+            Err(Refused::BadDirectory) if self.has_others()? => Some(format!("something else in its first {} KiB", FRONT >> 10)),
+            Err(Refused::BadDirectory) => None,
             _ => {
                 return Err(Refusal::Wrong(format!(
                     "the medium {} has a recorder's directory already: to empty it, start the service and give .ERASE",
@@ -234,7 +234,7 @@ impl Medium {
             )));
         }
         let region = recorder.close();
-        let mut recorder = Recorder::format(region, ROOM, &self.script).map_err(|it| Refusal::Wrong(it.0.to_string()))?;
+        let mut recorder = Recorder::format(region, ROOM, &self.script).map_err(|it| Refusal::Wrong(it.refusal.to_string()))?;
         self.settle(&mut recorder)?;
         Ok(gone)
     }
@@ -335,15 +335,23 @@ impl Medium {
         }
     }
 
+    /// The file or the device, locked and mapped.
+    #[allow(unsafe_code)]
+    fn open(&self) -> io::Result<Disk> {
+        // SAFETY: a medium is the service's alone while it runs, which its manual asks of an operator. Another service, and each
+        // program over the library, is refused the lock. Blocks are read by calls of the system before they are read here.
+        unsafe { Disk::open(&self.path, self.blocks) }
+    }
+
     /// Takes the medium for this program alone.
     fn take(&self) -> Result<Disk, Refusal> {
         let start = Instant::now();
-        let mut opened = Disk::open(&self.path, self.blocks);
+        let mut opened = self.open();
         // one that was killed just now has it until the system has cleared it away
         let is_taken = |it: &io::Error| matches!(it.kind(), io::ErrorKind::WouldBlock | io::ErrorKind::ResourceBusy);
         while opened.as_ref().is_err_and(is_taken) && start.elapsed() < GONE {
             std::thread::sleep(Duration::from_millis(20));
-            opened = Disk::open(&self.path, self.blocks);
+            opened = self.open();
         }
         opened.map_err(|error| match error.kind() {
             io::ErrorKind::WouldBlock => Refusal::Taken(format!(
@@ -402,11 +410,11 @@ impl Medium {
     /// Opens a recorder and mounts it, without a write yet.
     fn mounted(&self) -> Result<Recorder, Refusal> {
         let mut recorder = Recorder::open(self.region()?, ROOM, &self.script)
-            .map_err(|(error, _)| Refusal::Wrong(format!("the recorder cannot be opened: {error}")))?;
+            .map_err(|it| Refusal::Wrong(format!("the recorder cannot be opened: {}", it.refusal)))?;
         match recorder.mount() {
             Ok(()) => (),
-            Err(Error::BAD_DIRECTORY) if self.has_letters()? => return Err(self.does_not_fit()),
-            Err(Error::BAD_DIRECTORY) => {
+            Err(Refused::BadDirectory) if self.has_letters()? => return Err(self.does_not_fit()),
+            Err(Refused::BadDirectory) => {
                 return Err(Refusal::Wrong(format!(
                     "the medium {} has no directory of this recorder: a new device wants `r10d --format SETTINGS`",
                     self.name()
@@ -421,7 +429,7 @@ impl Medium {
     /// it then.
     pub fn set_aside(&self) -> Result<Recorder, Refusal> {
         let (mut recorder, _) = Recorder::set_aside(self.region()?, ROOM, &self.script)
-            .map_err(|(error, _)| Refusal::Failed(format!("the last file cannot be set aside: {error}")))?;
+            .map_err(|it| Refusal::Failed(format!("the last file cannot be set aside: {}", it.refusal)))?;
         self.settle(&mut recorder)?;
         recorder.mount().map_err(|it| Refusal::Failed(format!("the medium {} cannot be mounted: {it}", self.name())))?;
         self.settle(&mut recorder)?;
@@ -470,7 +478,7 @@ impl Medium {
 }
 
 /// The files of a mounted medium in words.
-fn files_of(recorder: &mut Recorder) -> Result<String, Error> {
+fn files_of(recorder: &mut Recorder) -> Result<String, Refused> {
     let files = recorder.files()?;
     let names: Vec<String> = files.iter().map(|it| printed(&it.name)).collect();
     let bytes: u64 = files.iter().map(|it| it.size).sum();

@@ -7,7 +7,7 @@ use std::sync::atomic::{AtomicBool, Ordering::Relaxed};
 use std::sync::mpsc::Receiver;
 use std::time::{Duration, Instant};
 
-use r10::{Error, Recorder};
+use r10::{Recorder, Refusal as Refused};
 
 use crate::acknowledge::Acknowledge;
 use crate::chapter6::CRITICAL;
@@ -35,18 +35,18 @@ use crate::{room, warning, watchdog};
 #[derive(Debug)]
 pub enum Trouble {
     /// the file's area, or the directory, has no room
-    Full(Error),
+    Full(Refused),
     /// the recorder refused a call, and nothing has changed
-    Refused(Error),
+    Refused(Refused),
     /// the disk failed, or the recorder did
     Failed(String),
 }
 
-impl From<Error> for Trouble {
-    fn from(error: Error) -> Trouble {
+impl From<Refused> for Trouble {
+    fn from(error: Refused) -> Trouble {
         match error {
-            Error::MEDIUM_FULL | Error::DIRECTORY_FULL => Trouble::Full(error),
-            Error::MEDIUM | Error::FAILED | Error::NO_MEMORY => {
+            Refused::MediumFull | Refused::DirectoryFull => Trouble::Full(error),
+            Refused::Medium | Refused::Failed | Refused::NoMemory => {
                 Trouble::Failed(format!("the recorder failed: {error} ({})", error.number()))
             }
             _ => Trouble::Refused(error),
@@ -650,9 +650,9 @@ mod tests {
         fn counts_of(&mut self, channel: u16) -> Vec<u64> {
             let recorder = self.owner.recorder().unwrap();
             let cursor = recorder.cursor(0, &[channel], ALL_COUNTS).unwrap();
-            recorder.advance(cursor).unwrap();
+            recorder.advance(&cursor).unwrap();
             let mut found = Vec::new();
-            while let Some(entry) = recorder.next(cursor).unwrap() {
+            while let Some(entry) = recorder.next(&cursor).unwrap() {
                 found.push(entry.count);
             }
             recorder.close_cursor(cursor).unwrap();
@@ -685,8 +685,8 @@ mod tests {
             let mut found = Vec::new();
             for file in 0..recorder.files().unwrap().len() {
                 let cursor = recorder.cursor(file, &[id], ALL_COUNTS).unwrap();
-                recorder.advance(cursor).unwrap();
-                while let Some(entry) = recorder.next(cursor).unwrap() {
+                recorder.advance(&cursor).unwrap();
+                while let Some(entry) = recorder.next(&cursor).unwrap() {
                     if let r10::Content::Message { bytes, .. } = entry.content {
                         let text = String::from_utf8(bytes.clone()).unwrap();
                         let words: Vec<&str> = text.splitn(4, ' ').collect();
@@ -729,7 +729,7 @@ mod tests {
             let mut found = Vec::new();
             for file in 0..files.len() {
                 let cursor = recorder.cursor(file, &[channel], ALL_COUNTS).unwrap();
-                found.push(recorder.advance(cursor).unwrap());
+                found.push(recorder.advance(&cursor).unwrap());
                 recorder.close_cursor(cursor).unwrap();
             }
             found
@@ -996,9 +996,9 @@ mod tests {
         // (the last one of a full medium may have room for nothing)
         for (file, entries) in found[..found.len() - 1].iter().copied().enumerate() {
             let cursor = recorder.cursor(file, &[id], ALL_COUNTS).unwrap();
-            recorder.advance(cursor).unwrap();
+            recorder.advance(&cursor).unwrap();
             let mut last = String::new();
-            while let Some(entry) = recorder.next(cursor).unwrap() {
+            while let Some(entry) = recorder.next(&cursor).unwrap() {
                 if let r10::Content::Message { bytes, .. } = entry.content {
                     last = String::from_utf8(bytes.clone()).unwrap();
                 }
@@ -1092,8 +1092,8 @@ mod tests {
         for mut recorder in one.into_iter().chain(two) {
             for file in 0..recorder.files().unwrap().len() {
                 let cursor = recorder.cursor(file, &[5], ALL_COUNTS).unwrap();
-                recorder.advance(cursor).unwrap();
-                while let Some(entry) = recorder.next(cursor).unwrap() {
+                recorder.advance(&cursor).unwrap();
+                while let Some(entry) = recorder.next(&cursor).unwrap() {
                     found.push((entry.count, entry.gap));
                 }
                 recorder.close_cursor(cursor).unwrap();

@@ -5,7 +5,7 @@ use std::sync::atomic::{AtomicUsize, Ordering::Relaxed};
 use std::sync::mpsc::{Sender, channel};
 use std::time::Instant;
 
-use r10::{Cursor, Error};
+use r10::{Cursor, Refusal as Refused};
 
 use crate::clock::COUNTS;
 use crate::control::Reply;
@@ -120,10 +120,9 @@ impl Owner {
                 self.readers.push(it);
                 return Ok(has_more);
             }
-            Ok((false, _)) => self.drop_reader(&it),
+            Ok((false, _)) => (),
             Err(Trouble::Refused(error)) => {
                 it.give(format!("E 05 COMMAND FAILED: {error}\n"));
-                self.drop_reader(&it);
             }
             Err(trouble) => return Err(trouble),
         }
@@ -149,21 +148,12 @@ impl Owner {
     pub(crate) fn end_readers(&mut self, why: &str) {
         for it in std::mem::take(&mut self.readers) {
             it.give(words::No::Mode(why.to_string()).line());
-            self.drop_reader(&it);
         }
     }
 
     /// Gives up the readers whose clients are gone.
     pub fn drop_gone(&mut self) {
-        let (gone, here) = std::mem::take(&mut self.readers).into_iter().partition::<Vec<_>, _>(Reader::is_gone);
-        self.readers = here;
-        gone.iter().for_each(|it| self.drop_reader(it));
-    }
-
-    fn drop_reader(&mut self, it: &Reader) {
-        if let (What::Follow { cursor: Some(cursor), .. }, Some(recorder)) = (&it.what, &mut self.recorder) {
-            let _ = recorder.close_cursor(*cursor);
-        }
+        self.readers.retain(|it| !it.is_gone());
     }
 
     /// What became durable since the last time. False where the client is gone.
@@ -187,21 +177,24 @@ impl Owner {
             }
             (*file, *from) = (current, 0);
         }
-        let place = match *cursor {
+        let place = match cursor.take() {
             Some(it) => it,
-            None => *cursor.insert(recorder.cursor(*file, &it.channels, *from..=COUNTS - 1)?),
+            None => recorder.cursor(*file, &it.channels, *from..=COUNTS - 1)?,
         };
         let mut text = if std::mem::take(skipped) {
             format!("skipped: it was read too slowly; what came before count {from} is in the file\n")
         } else {
             String::new()
         };
-        recorder.advance(place)?;
-        while let Some(entry) = recorder.next(place)? {
+        recorder.advance(&place)?;
+        while let Some(entry) = recorder.next(&place)? {
             entries::print(&mut text, &entry);
             if text.len() >= 1 << 16 && !it.give(std::mem::take(&mut text)) {
                 return Ok(false);
             }
+        }
+        if let What::Follow { cursor, .. } = &mut it.what {
+            *cursor = Some(place);
         }
         Ok(it.give(text))
     }
@@ -221,12 +214,11 @@ impl Owner {
         let step = if self.state == State::Recording { STEPS.0 } else { STEPS.1 };
         let recorder = self.recorder.as_mut().ok_or_else(|| Trouble::Failed("no medium is mounted".to_string()))?;
         let place = recorder.cursor(file, &it.channels, from..=end)?;
-        let count = recorder.advance(place)?;
+        let count = recorder.advance(&place)?;
         let mut text = String::new();
-        while let Some(entry) = recorder.next(place)? {
+        while let Some(entry) = recorder.next(&place)? {
             entries::print(&mut text, &entry);
             if text.len() >= 1 << 16 && !it.give(std::mem::take(&mut text)) {
-                recorder.close_cursor(place)?;
                 return Ok((false, false));
             }
         }
@@ -251,7 +243,7 @@ impl Owner {
     }
 
     /// Whether a file may be read now: while one is recorded, another one that is long would hold up what comes.
-    pub fn may_read(&mut self, file: usize) -> Result<bool, Error> {
+    pub fn may_read(&mut self, file: usize) -> Result<bool, Refused> {
         const LONG: u64 = 64 << 20;
         if self.state != State::Recording || self.file.as_ref().is_some_and(|it| it.number == file) {
             return Ok(true);
@@ -261,7 +253,7 @@ impl Owner {
     }
 
     /// Reads a file that is closed plainly, before it is read through the mapping, and says what is wrong with it.
-    pub fn read_file_plainly(&mut self, file: usize) -> Result<Option<String>, Error> {
+    pub fn read_file_plainly(&mut self, file: usize) -> Result<Option<String>, Refused> {
         let Some(recorder) = &mut self.recorder else { return Ok(None) };
         let files = recorder.files()?;
         let Some(found) = files.get(file).filter(|it| it.closed) else { return Ok(None) };

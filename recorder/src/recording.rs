@@ -3,7 +3,7 @@ use std::fmt;
 use std::ops::Range;
 use std::time::Instant;
 
-use r10::{Error, Queue};
+use r10::{Queue, Refusal as Refused};
 use time::OffsetDateTime;
 
 use crate::clock;
@@ -66,7 +66,7 @@ impl Owner {
             // (a message that has no room is refused by the recorder; what is kept for lines it does not know)
             let room = free.saturating_sub(kept) / (lane.longest as u64 + ENTRY);
             if kept > 0 && room == 0 {
-                return Err(Trouble::Full(Error::MEDIUM_FULL));
+                return Err(Trouble::Full(Refused::MediumFull));
             }
             let most = (PUMPED / (lane.longest + 64)).max(1).min(if kept > 0 { room as usize } else { usize::MAX });
             let id = lane.channel.id;
@@ -203,7 +203,7 @@ impl Owner {
     pub(crate) fn note_event(&mut self, number: u16) -> Result<(), Trouble> {
         let mut count = self.count();
         let mut done = self.recorder()?.event(number, count);
-        if done == Err(Error::MEDIUM_FULL) {
+        if done == Err(Refused::MediumFull) {
             self.next_file(Ended::Full)?;
             self.begin_file()?;
             if self.state == State::Recording {
@@ -211,7 +211,7 @@ impl Owner {
                 done = self.recorder()?.event(number, count);
             }
         }
-        if done == Err(Error::MEDIUM_FULL) {
+        if done == Err(Refused::MediumFull) {
             warning!("event {number} had no room, and is in no file");
         }
         done?;
@@ -350,7 +350,7 @@ impl Owner {
             if left == 0 {
                 return Ok(());
             }
-            let begun = if self.has_taken() { self.start(None) } else { Err(Trouble::Full(Error::MEDIUM_FULL)) };
+            let begun = if self.has_taken() { self.start(None) } else { Err(Trouble::Full(Refused::MediumFull)) };
             if matches!(begun, Err(Trouble::Full(_))) && self.next_medium(None)? {
                 continue;
             }
@@ -368,7 +368,7 @@ impl Owner {
             self.stop(why)?;
         }
         let is_all = !self.has_taken() && self.file.is_some() && why == Ended::Full;
-        let begun = if is_all { Err(Trouble::Full(Error::MEDIUM_FULL)) } else { self.record_on() };
+        let begun = if is_all { Err(Trouble::Full(Refused::MediumFull)) } else { self.record_on() };
         match begun {
             Err(Trouble::Full(error)) => self.has_no_room(error),
             other => other,
@@ -376,7 +376,7 @@ impl Owner {
     }
 
     /// The medium has no room for a file: it goes on on the next one, or nothing is recorded until an erase.
-    pub(crate) fn has_no_room(&mut self, error: Error) -> Result<(), Trouble> {
+    pub(crate) fn has_no_room(&mut self, error: Refused) -> Result<(), Trouble> {
         if !self.next_medium(None)? {
             self.state = State::Full;
             self.medium.keep(true);

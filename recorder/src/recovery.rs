@@ -3,7 +3,7 @@
 use std::ops::Range;
 use std::time::{Duration, Instant};
 
-use r10::{Content, Error, Recorder};
+use r10::{Content, Recorder, Refusal as Refused};
 
 use crate::clock::{self, COUNTS};
 use crate::keeps::Current;
@@ -19,7 +19,7 @@ use crate::{error, info, warning};
 const JUDGED: u128 = 400_000;
 
 /// Of a channel in a file the count of its last message, and how many it has.
-fn last_of(recorder: &mut Recorder, file: usize, channel: u16) -> Result<Option<(u64, usize)>, Error> {
+fn last_of(recorder: &mut Recorder, file: usize, channel: u16) -> Result<Option<(u64, usize)>, Refused> {
     let (mut there, mut not, mut found) = (0, COUNTS, None);
     while there < not {
         let middle = u64::midpoint(there, not);
@@ -35,7 +35,7 @@ fn last_of(recorder: &mut Recorder, file: usize, channel: u16) -> Result<Option<
 }
 
 /// The last time of a file: its count, and the time in nanoseconds since 1970.
-fn last_time(recorder: &mut Recorder, file: usize, channel: u16) -> Result<Option<(u64, i128)>, Error> {
+fn last_time(recorder: &mut Recorder, file: usize, channel: u16) -> Result<Option<(u64, i128)>, Refused> {
     let Some((count, _)) = last_of(recorder, file, channel)? else { return Ok(None) };
     let Some((_, entry)) = recorder.find(file, channel, count)? else { return Ok(None) };
     let Content::Time { civil } = entry.content else { return Ok(None) };
@@ -45,7 +45,7 @@ fn last_time(recorder: &mut Recorder, file: usize, channel: u16) -> Result<Optio
 impl Owner {
     /// Mounts the medium, and closes a file that was cut off, or sets it aside. Whether there was one.
     pub(crate) fn open(&mut self) -> Result<bool, Refusal> {
-        let failed = |it: Error| Refusal::Failed(it.to_string());
+        let failed = |it: Refused| Refusal::Failed(it.to_string());
         let mut recorder = self.medium.mount()?;
         self.medium.is_opened();
         self.tick_now(&mut recorder)?;
@@ -124,12 +124,12 @@ impl Owner {
         }
         match recorder.seal() {
             Ok(()) => (),
-            Err(Error::BAD_FILE) => {
+            Err(Refused::BadFile) => {
                 let at = recorder.fault().ok().flatten().map_or(String::new(), |it| format!(", {it}"));
                 return Ok(Some(format!("it is not as this recorder writes it{at}")));
             }
-            Err(error @ Error::MEDIUM_FULL) => return Ok(Some(error.to_string())),
-            Err(Error::MEDIUM) => return self.is_last_try("the medium cannot be written".to_string()),
+            Err(error @ Refused::MediumFull) => return Ok(Some(error.to_string())),
+            Err(Refused::Medium) => return self.is_last_try("the medium cannot be written".to_string()),
             Err(error) => return Err(Refusal::Failed(error.to_string())),
         }
         match recorder.settle() {
@@ -145,16 +145,16 @@ impl Owner {
 
     /// What of the messages that waited for a commit, when the recorder failed, is in its file after all: the rest is lost, and
     /// is said so.
-    pub(crate) fn account(&mut self, recorder: &mut Recorder, files: &[r10::File], reads: bool) -> Result<(), Error> {
+    pub(crate) fn account(&mut self, recorder: &mut Recorder, files: &[r10::File], reads: bool) -> Result<(), Refused> {
         let is_its = |it: &&Current| files.get(it.number).is_some_and(|file| file.name == it.name);
         let mut file = self.file.as_ref().filter(is_its).filter(|_| reads).map(|it| it.number);
         for place in 0..self.lanes.len() {
             let lane = &self.lanes[place];
-            let mut is_there = |count: u64| -> Result<bool, Error> {
+            let mut is_there = |count: u64| -> Result<bool, Refused> {
                 let Some(number) = file else { return Ok(false) };
                 match recorder.find(number, lane.channel.id, count) {
                     // it is damaged: what was not committed is found nowhere
-                    Err(Error::BAD_FILE) => {
+                    Err(Refused::BadFile) => {
                         file = None;
                         Ok(false)
                     }
@@ -218,7 +218,7 @@ impl Owner {
 
     /// Puts into the log channel that a file was cut off by a kill or a loss of power: what each channel has of it, and how long
     /// nothing was recorded. Of one that cannot be read it is not known.
-    fn log_cut(&mut self, recorder: &mut Recorder, files: &[r10::File], was_open: bool, reads: bool) -> Result<(), Error> {
+    fn log_cut(&mut self, recorder: &mut Recorder, files: &[r10::File], was_open: bool, reads: bool) -> Result<(), Refused> {
         let Some((number, file)) = files.len().checked_sub(1).and_then(|at| Some((at, files.get(at)?))) else { return Ok(()) };
         let mut found = Vec::new();
         let ids: Vec<u16> = self.lanes.iter().filter(|_| reads).map(|it| it.channel.id).collect();

@@ -442,7 +442,7 @@ fn line_too_deep(text: &str) -> Option<usize> {
 
 /// Whether the library takes the settings of a script: of a region of one block it then says that this is another number of blocks.
 fn is_taken(script: &str) -> bool {
-    r10::Recorder::open(r10::Region::memory(1), 1, script).err().map(|it| it.0) == Some(r10::Error::BLOCKS)
+    r10::Recorder::open(r10::Region::memory(1), 1, script).err().map(|it| it.refusal) == Some(r10::Refusal::Blocks)
 }
 
 /// What the crate says of types, in the words of who writes settings.

@@ -4,7 +4,7 @@ use std::net::{IpAddr, SocketAddr};
 use std::sync::atomic::Ordering::Relaxed;
 use std::time::Duration;
 
-use r10::Error;
+use r10::Refusal as Refused;
 use serde_json::json;
 
 use crate::clock::{self, COUNTS};
@@ -126,10 +126,10 @@ impl From<Trouble> for Undone {
     fn from(trouble: Trouble) -> Undone {
         match trouble {
             Trouble::Full(error) => No::Full(format!("{error}; copy the files, then give .ERASE")).into(),
-            Trouble::Refused(error @ (Error::BAD_NAME | Error::NAME_TAKEN | Error::BAD_EVENT)) => {
+            Trouble::Refused(error @ (Refused::BadName | Refused::NameTaken | Refused::BadEvent)) => {
                 No::Parameter(format!("{error}; give another one")).into()
             }
-            Trouble::Refused(error @ (Error::NO_FILE | Error::PLACE | Error::NO_CHANNEL)) => {
+            Trouble::Refused(error @ (Refused::NoFile | Refused::Place | Refused::NoChannel)) => {
                 No::Parameter(format!("{error}; .FILES and .HEALTH list what there is")).into()
             }
             Trouble::Refused(error) => No::Failed(error.to_string()).into(),
@@ -138,8 +138,8 @@ impl From<Trouble> for Undone {
     }
 }
 
-impl From<Error> for Undone {
-    fn from(error: Error) -> Undone {
+impl From<Refused> for Undone {
+    fn from(error: Refused) -> Undone {
         Trouble::from(error).into()
     }
 }
@@ -425,7 +425,7 @@ impl Owner {
                 (_, Some(civil)) => {
                     self.readable(file - 1)?;
                     match self.recorder()?.count_at(file - 1, &civil) {
-                        Err(error @ (Error::BAD_CIVIL | Error::BAD_FILE)) => return Err(No::Parameter(error.to_string()).into()),
+                        Err(error @ (Refused::BadCivil | Refused::BadFile)) => return Err(No::Parameter(error.to_string()).into()),
                         other => Some(other?.unwrap_or(0)),
                     }
                 }

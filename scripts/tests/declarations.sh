@@ -56,5 +56,10 @@ check "the crate r10-sys declares them all" is "$crate" "$header"
 rest=$(sed '/^unsafe extern/,/^}/d' "$top/ffi/rust/r10-sys/src/lib.rs")
 check "and it has nothing else" is \
     "$(grep -cE '^ *(pub )?(unsafe )?(fn|enum|trait|impl|mod|macro_rules!|static|type) ' <<<"$rest")" 0
+of_map=$(sed -n 's/^ *\(r10_[a-z0-9_]*\);$/\1/p' "$top/ffi/r10.map" | sort)
+check "each call has the version from which it is there" is "$of_map" \
+    "$(sed -n 's/^fn \(r10_[a-z0-9_]*\)(.*/\1/p' <<<"$header" | sort)"
+check "the number of features is how many there are" is \
+    "$(sed -n 's/^#define R10_FEATURES //p' "$top/ffi/r10.h")" "$(wc -l <<<"$of_map")"
 # shellcheck disable=SC2154
 exit "$failed"

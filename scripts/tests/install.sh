@@ -165,8 +165,8 @@ if command -v pkg-config >/dev/null && command -v cc >/dev/null; then
         "$(cat "$top/ffi/calls.expected")"
     check "with the static one too" is "$("$room/static")" "$(cat "$top/ffi/calls.expected")"
     check "the shared one gives the calls of the header and no other name" is \
-        "$(nm -D --defined-only "$flat/usr/lib/libr10.so" | sed 's/.* //' | sort | tr '\n' ' ')" \
-        "$(sed -n 's/^\(uint32_t\|uint64_t\|void\) \(r10_[a-z0-9_]*\)(.*/\2/p' "$top/ffi/r10.h" | sort | tr '\n' ' ')"
+        "$(nm -D --defined-only "$flat/usr/lib/libr10.so" | sed -n '/ T /s/.* \(.*\)@@R10_[0-9.]*$/\1/p' | sort | tr '\n' ' ')" \
+        "$(sed -n 's/^ *\(r10_[a-z0-9_]*\);$/\1/p' "$top/ffi/r10.map" | sort | tr '\n' ' ')"
 else
     echo "NOT TRIED: linking (no pkg-config or cc here)"
 fi

@@ -178,8 +178,14 @@ def page_of_header(header: pathlib.Path, version: str) -> dict[str, str]:
     lines = [re.sub(r'^ \* ?', '', line) for line in ('  * ' + first[1]).replace('  * ', ' * ', 1).splitlines()]
     about, _, rest = '\n'.join(lines).partition('\n\n')
     described = []
+    shows = False
     for line in rest.splitlines():
-        if line.startswith(' - '):
+        if line.startswith('    ') != shows:
+            shows = not shows
+            described.append('.EX' if shows else '.EE')
+        if shows:
+            described.append(roff(line))
+        elif line.startswith(' - '):
             described += ['.IP \\(bu 2', roff(line[3:])]
         elif line.strip():
             described.append(roff(line.strip()))
@@ -191,7 +197,8 @@ def page_of_header(header: pathlib.Path, version: str) -> dict[str, str]:
     for part in re.findall(r'/\* -{4} .*?(?=/\* -{4} |\Z)', declared, re.S):
         title = re.sub(r'^/\* -+ | \*/$', '', part.splitlines()[0]).partition('. ')[0]
         part = re.sub(r'\n#ifdef __cplusplus.*', '', part, flags=re.S)
-        parts.append((roff(title.upper()), ['.EX'] + [roff(line) for line in part.strip('\n').splitlines()] + ['.EE']))
+        shown = [roff(line.removeprefix('R10_CALL ')) for line in part.strip('\n').splitlines()]
+        parts.append((roff(title.upper()), ['.EX'] + shown + ['.EE']))
     return {'man3/r10.h.3': page('r10.h', 3, version, 'a flight recorder as a library',
                                  ['#include <r10.h>', 'cc ... $(pkg-config --cflags --libs r10)'], parts, ['r10(1)'])}
 

@@ -47,6 +47,7 @@ pub const R10_OPEN: u32 = 45;
 
 /// A recorder, or none where it is all zeros.
 #[repr(C)]
+#[derive(Debug)]
 pub struct r10 {
     pub held: *mut c_void,
     pub open: bool,
@@ -166,6 +167,7 @@ pub struct r10_losses_info {
 
 /// The sending end of a channel's lane between two threads, or none where it is all zeros.
 #[repr(C)]
+#[derive(Debug)]
 pub struct r10_port {
     pub held: *mut c_void,
     pub open: bool,
@@ -173,6 +175,7 @@ pub struct r10_port {
 
 /// Its receiving end, or none where it is all zeros.
 #[repr(C)]
+#[derive(Debug)]
 pub struct r10_outlet {
     pub held: *mut c_void,
     pub open: bool,

@@ -32,11 +32,14 @@ const RUN: usize = 512 * 128;
 const GIVE_BACK: usize = 32 << 20;
 
 /// A file or a block device, opened by this program alone, mapped, and synced when the recorder says so.
+#[derive(Debug)]
 pub struct Disk {
     file: File,
     at: *mut c_void,
     length: usize,
     kept: usize,
+    /// the process that opened it
+    owner: u32,
     /// a write or a sync failed: nothing more is done, since a later operation may not be done without an earlier one
     failed: bool,
 }
@@ -45,19 +48,35 @@ pub struct Disk {
 unsafe impl Send for Disk {}
 
 impl Disk {
-    /// Takes a file or a block device of at least so many blocks for this program alone, makes sure that what is read is on the disk, and maps it. `WouldBlock` where
-    /// another program has it; `ResourceBusy` of a block device that is mounted, or that another program has.
-    pub fn open(path: impl AsRef<Path>, blocks: usize) -> io::Result<Disk> {
+    /// Takes a file or a block device of at least so many blocks of 512 bytes for this program alone, sees that what is read is on the
+    /// disk, and maps it.
+    ///
+    /// # Safety
+    ///
+    /// The blocks are mapped, so for as long as the value lives no one else may write them, and a file may not be made shorter: what
+    /// [`Region::bytes`] lends would change, or a read of it would end the program by a signal. The call locks the file (`flock`), which
+    /// stops every other program that locks it too, and this crate. A sector under a block that the disk cannot read ends the program
+    /// by a signal as well: [`Region::read_plainly`] answers an error there.
+    ///
+    /// # Errors
+    ///
+    /// `WouldBlock` where another program has it; `ResourceBusy` of a block device that is mounted, or that another program has;
+    /// `InvalidInput` where it has fewer blocks, or none are wanted.
+    pub unsafe fn open(path: impl AsRef<Path>, blocks: usize) -> io::Result<Disk> {
         let path = path.as_ref();
         let mut how = OpenOptions::new();
         // A block device that is mounted, or a partition of which is, is refused by the system: `ResourceBusy`.
         if std::fs::metadata(path)?.file_type().is_block_device() {
             how.custom_flags(O_EXCL);
         }
-        Disk::take(how.read(true).write(true).open(path)?, blocks)
+        // SAFETY: as this function's caller promises.
+        unsafe { Disk::take(how.read(true).write(true).open(path)?, blocks) }
     }
 
-    fn take(mut file: File, blocks: usize) -> io::Result<Disk> {
+    /// # Safety
+    ///
+    /// As that of [`Disk::open`].
+    unsafe fn take(mut file: File, blocks: usize) -> io::Result<Disk> {
         lock(&file)?;
         let length = 512 * blocks;
         if length == 0 || file.seek(SeekFrom::End(0))? < length as u64 {
@@ -65,12 +84,14 @@ impl Disk {
         }
         // After a sync that failed the system's copies may read otherwise than the disk.
         file.sync_data()?;
+        // SAFETY: it takes numbers alone. It is a hint.
         unsafe { posix_fadvise(file.as_raw_fd(), 0, 0, POSIX_FADV_DONTNEED) };
+        // SAFETY: a new mapping of an open file, where the system wants it.
         let at = unsafe { mmap(std::ptr::null_mut(), length, PROT_READ | PROT_WRITE, MAP_PRIVATE | MAP_NORESERVE, file.as_raw_fd(), 0) };
         if at as isize == -1 {
             return Err(io::Error::last_os_error());
         }
-        Ok(Disk { file, at, length, kept: 0, failed: false })
+        Ok(Disk { file, at, length, kept: 0, owner: std::process::id(), failed: false })
     }
 
     /// Makes a file of so many blocks, allocated whole and formatted by the script, under another name, and gives it its own only then. What is there already
@@ -106,12 +127,14 @@ impl Disk {
 
     fn make_in(file: File, blocks: usize, script: &str) -> io::Result<()> {
         file.set_len(0)?;
+        // SAFETY: it takes numbers alone.
         let refused = unsafe { posix_fallocate(file.as_raw_fd(), 0, 512 * blocks as i64) };
         if refused != 0 {
             return Err(io::Error::from_raw_os_error(refused));
         }
-        let mut recorder = Recorder::format(Disk::take(file, blocks)?.into(), 64, script).map_err(|(error, _)| io::Error::other(error))?;
-        recorder.settle()
+        // SAFETY: the file was made by this call under a name that no one else takes, and is locked.
+        let disk = unsafe { Disk::take(file, blocks)? };
+        Recorder::format(disk.into(), 64, script).map_err(|it| io::Error::other(it.refusal))?.settle()
     }
 }
 
@@ -146,16 +169,19 @@ fn is_at(file: &File, path: &Path) -> bool {
 
 impl Drop for Disk {
     fn drop(&mut self) {
+        // SAFETY: the mapping is this value's own, and what borrows it is gone.
         unsafe { munmap(self.at, self.length) };
     }
 }
 
+#[derive(Debug)]
 enum Kind {
     Memory(Memory),
     Disk(Disk),
 }
 
 /// Blocks of plain memory. The library has a pointer to them, so no reference to them is kept here.
+#[derive(Debug)]
 struct Memory {
     bytes: *mut [u8],
 }
@@ -165,11 +191,13 @@ unsafe impl Send for Memory {}
 
 impl Drop for Memory {
     fn drop(&mut self) {
+        // SAFETY: it came from a box, and the recorder over it is closed.
         drop(unsafe { Box::from_raw(self.bytes) });
     }
 }
 
 /// What a recorder lies over.
+#[derive(Debug)]
 pub struct Region {
     kind: Kind,
     buffer: Vec<u8>,
@@ -185,7 +213,9 @@ impl Region {
     /// What its blocks hold.
     pub fn bytes(&self) -> &[u8] {
         match &self.kind {
+            // SAFETY: the memory lives as long as this value, and the library writes it only in calls that borrow the recorder alone.
             Kind::Memory(memory) => unsafe { &*memory.bytes },
+            // SAFETY: so does the mapping, which no one else writes (`Disk::open`).
             Kind::Disk(disk) => unsafe { std::slice::from_raw_parts(disk.at.cast(), disk.length) },
         }
     }
@@ -201,9 +231,12 @@ impl Region {
         &mut self.buffer
     }
 
-    /// `Err` where the disk failed before: nothing more may be done on it.
+    /// `Err` where the disk failed before, or is another process's: nothing more may be done on it.
     pub(crate) fn goes_on(&self) -> io::Result<()> {
         match &self.kind {
+            Kind::Disk(disk) if disk.owner != std::process::id() => {
+                Err(io::Error::new(io::ErrorKind::PermissionDenied, "the disk is the process's that opened it, before a fork"))
+            }
             Kind::Disk(disk) if disk.failed => Err(io::Error::other("the disk failed before: close the recorder, and open the disk again")),
             _ => Ok(()),
         }
@@ -244,16 +277,15 @@ impl Region {
     }
 
     /// Nothing waits: the file holds what the mapping holds, so its pages can be given back, and are read from the file when they are wanted.
-    pub(crate) fn settled(&mut self) -> io::Result<()> {
+    pub(crate) fn settled(&mut self) {
         if let Kind::Disk(disk) = &mut self.kind
             && disk.kept >= GIVE_BACK
         {
             disk.kept = 0;
-            if unsafe { madvise(disk.at, disk.length, MADV_DONTNEED) } != 0 {
-                return Err(io::Error::last_os_error());
-            }
+            // SAFETY: the mapping is this value's own, and no one borrows it here. It is a hint: under mlockall the system refuses it, and
+            // the pages stay in memory.
+            unsafe { madvise(disk.at, disk.length, MADV_DONTNEED) };
         }
-        Ok(())
     }
 }
 

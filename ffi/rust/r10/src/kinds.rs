@@ -5,29 +5,124 @@ use r10_sys as sys;
 /// A message as it is offered.
 #[derive(Clone, Copy, Debug, PartialEq, Eq)]
 pub enum Message<'a> {
-    Uart { parity: bool, sub: u16, bytes: &'a [u8] },
-    Bus1553 { status: u16, gap_times: u16, words: &'a [u16] },
-    Arinc { bus: u8, format: bool, parity: bool, high: bool, word: u32 },
-    Discrete { states: u32 },
-    Message { data_error: bool, format: bool, sub: u16, bytes: &'a [u8] },
+    /// Bytes of a serial line (Chapter 11, UART data packets).
+    Uart {
+        /// A parity error was met.
+        parity: bool,
+        /// The subchannel.
+        sub: u16,
+        /// At most 65,535 bytes.
+        bytes: &'a [u8],
+    },
+    /// A message of a MIL-STD-1553 bus (Chapter 11, format 1).
+    Bus1553 {
+        /// The block status word, of which the bits 0x3E38 are free.
+        status: u16,
+        /// The gap times word, in units of 100 ns.
+        gap_times: u16,
+        /// At most 36 command, status and data words, as they were on the bus.
+        words: &'a [u16],
+    },
+    /// A word of an ARINC 429 bus (Chapter 11, format 0).
+    Arinc {
+        /// The bus.
+        bus: u8,
+        /// A format error was met.
+        format: bool,
+        /// A parity error was met.
+        parity: bool,
+        /// A bus of high speed.
+        high: bool,
+        /// The word of 32 bits.
+        word: u32,
+    },
+    /// The states of discretes (Chapter 11, format 1).
+    Discrete {
+        /// A bit for each, as many as the channel has.
+        states: u32,
+    },
+    /// A message of any other source (Chapter 11, message data packets).
+    Message {
+        /// A data error was met.
+        data_error: bool,
+        /// A format error was met.
+        format: bool,
+        /// The subchannel, below 16,384.
+        sub: u16,
+        /// At most 65,535 bytes.
+        bytes: &'a [u8],
+    },
 }
 
 /// What an entry of a file says.
 #[derive(Clone, Debug, PartialEq, Eq)]
 pub enum Content {
-    Uart { parity: bool, sub: u16, bytes: Vec<u8> },
-    Bus1553 { status: u16, gap_times: u16, words: Vec<u16> },
-    Arinc { bus: u8, format: bool, parity: bool, high: bool, word: u32 },
-    Discrete { states: u32 },
-    Message { data_error: bool, format: bool, sub: u16, bytes: Vec<u8> },
-    Time { civil: Civil },
-    Event { number: u16, occurrence: u16 },
+    /// Bytes of a serial line (Chapter 11, UART data packets).
+    Uart {
+        /// A parity error was met.
+        parity: bool,
+        /// The subchannel.
+        sub: u16,
+        /// At most 65,535 bytes.
+        bytes: Vec<u8>,
+    },
+    /// A message of a MIL-STD-1553 bus (Chapter 11, format 1).
+    Bus1553 {
+        /// The block status word, of which the bits 0x3E38 are free.
+        status: u16,
+        /// The gap times word, in units of 100 ns.
+        gap_times: u16,
+        /// At most 36 command, status and data words, as they were on the bus.
+        words: Vec<u16>,
+    },
+    /// A word of an ARINC 429 bus (Chapter 11, format 0).
+    Arinc {
+        /// The bus.
+        bus: u8,
+        /// A format error was met.
+        format: bool,
+        /// A parity error was met.
+        parity: bool,
+        /// A bus of high speed.
+        high: bool,
+        /// The word of 32 bits.
+        word: u32,
+    },
+    /// The states of discretes (Chapter 11, format 1).
+    Discrete {
+        /// A bit for each, as many as the channel has.
+        states: u32,
+    },
+    /// A message of any other source (Chapter 11, message data packets).
+    Message {
+        /// A data error was met.
+        data_error: bool,
+        /// A format error was met.
+        format: bool,
+        /// The subchannel, below 16,384.
+        sub: u16,
+        /// At most 65,535 bytes.
+        bytes: Vec<u8>,
+    },
+    /// A time packet.
+    Time {
+        /// The civil time at the entry's count.
+        civil: Civil,
+    },
+    /// An event.
+    Event {
+        /// Its number, at most 4,095.
+        number: u16,
+        /// How many events of this number stand earlier in the file.
+        occurrence: u16,
+    },
 }
 
 /// Offers a message to a recorder, by the call of its kind.
 #[inline]
 pub(crate) fn offer(raw: &mut sys::r10, channel: u16, count: u64, message: Message) -> u32 {
     use sys::*;
+    // SAFETY: the handle is borrowed by this call alone, and slices are read in it, by their lengths.
     unsafe {
         match message {
             Message::Uart { parity, sub, bytes } => r10_offer_uart(raw, channel, count, parity, sub, bytes.as_ptr(), bytes.len()),
@@ -43,6 +138,7 @@ pub(crate) fn offer(raw: &mut sys::r10, channel: u16, count: u64, message: Messa
 #[inline]
 pub(crate) fn offer_at(raw: &mut sys::r10_port, count: u64, message: Message) -> u32 {
     use sys::*;
+    // SAFETY: the handle is borrowed by this call alone, and slices are read in it, by their lengths.
     unsafe {
         match message {
             Message::Uart { parity, sub, bytes } => r10_port_uart(raw, count, parity, sub, bytes.as_ptr(), bytes.len()),

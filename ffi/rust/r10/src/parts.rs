@@ -1,5 +1,5 @@
 //! A long file in parts.
-use crate::{Cursor, Error, Recorder};
+use crate::{Cursor, Recorder, Refusal};
 use std::ops::RangeInclusive;
 
 /// One second.
@@ -30,7 +30,7 @@ impl Parts {
     }
 
     /// Where the next part's first entry is, where channels are given: before it there is nothing to read.
-    fn first(&self, recorder: &mut Recorder) -> Result<u64, Error> {
+    fn first(&self, recorder: &mut Recorder) -> Result<u64, Refusal> {
         if self.channels.is_empty() {
             return Ok(self.from);
         }
@@ -43,8 +43,8 @@ impl Parts {
         Ok(first)
     }
 
-    /// A cursor that has the next part in its queue, and how many entries that is; none where all is read. Its caller closes it.
-    pub fn next(&mut self, recorder: &mut Recorder) -> Result<Option<(Cursor, usize)>, Error> {
+    /// A cursor that has the next part in its queue, and how many entries that is; none where all is read.
+    pub fn next(&mut self, recorder: &mut Recorder) -> Result<Option<(Cursor, usize)>, Refusal> {
         if self.from > self.to {
             return Ok(None);
         }
@@ -53,13 +53,7 @@ impl Parts {
         loop {
             let last = if self.to - first < span { self.to } else { first + (span - 1) };
             let cursor = recorder.cursor(self.file, &self.channels, self.from..=last)?;
-            let queued = match recorder.advance(cursor) {
-                Ok(queued) => queued,
-                Err(error) => {
-                    recorder.close_cursor(cursor)?;
-                    return Err(error);
-                }
-            };
+            let queued = recorder.advance(&cursor)?;
             if queued > self.most && last > first {
                 recorder.close_cursor(cursor)?;
                 span = (last - first).div_ceil(2);

@@ -1,5 +1,5 @@
 //! Offers from other threads.
-use crate::{Error, Message, answer, kinds};
+use crate::{Message, Refusal, answer, kinds};
 use r10_sys as sys;
 
 /// The sending end of a channel's lane between two threads. It can be moved to another thread, and offers there without a lock.
@@ -24,16 +24,19 @@ pub struct Outlet {
 /// What became of the messages that were offered at a port.
 #[derive(Clone, Copy, Debug, PartialEq, Eq)]
 pub struct PortState {
+    /// The channel's ID.
     pub channel: u16,
+    /// The messages that it took.
     pub accepted: u64,
-    /// messages that were refused for an overflow, or lost before they were offered
+    /// Messages that were refused for an overflow, or lost before they were offered
     pub lost: u64,
-    /// how many messages the port has room for
+    /// How many messages the port has room for
     pub capacity: usize,
 }
 
 // SAFETY: what an end leads to is reached by that end alone, but for the ring between the two, whose words are atomic. The library keeps nothing by thread.
 unsafe impl Send for Port {}
+// SAFETY: as of the port.
 unsafe impl Send for Outlet {}
 
 /// Opens a port and its outlet for a channel of the script that the recorder is opened by. A channel has one port at most, and is offered to by that alone.
@@ -44,7 +47,7 @@ unsafe impl Send for Outlet {}
 /// # [[channel]]\nid = 3\nkind = \"uart\"\ncapacity = 8\ncheck = 0\nbytes = 4096\nnumber = 100\n";
 /// # const CIVIL: Civil = Civil { year: 2024, month: 2, day: 29, hour: 12, minute: 0, second: 0, centi: 0 };
 /// # fn main() -> Result<(), Error> {
-/// # let mut recorder = Recorder::format(Region::memory(64), 4, SCRIPT).map_err(|(error, _)| error)?;
+/// # let mut recorder = Recorder::format(Region::memory(64), 4, SCRIPT)?;
 /// # recorder.mount()?;
 /// # recorder.tick(1000, &CIVIL)?;
 /// # recorder.start("FLT1", b"")?;
@@ -56,28 +59,31 @@ unsafe impl Send for Outlet {}
 /// # Ok(())
 /// # }
 /// ```
-pub fn open_port(script: &str, channel: u16) -> Result<(Port, Outlet), Error> {
+pub fn open_port(script: &str, channel: u16) -> Result<(Port, Outlet), Refusal> {
     let none = std::ptr::null_mut();
     let mut port = Port { raw: sys::r10_port { held: none, open: false } };
     let mut outlet = Outlet { raw: sys::r10_outlet { held: none, open: false } };
+    // SAFETY: slices are read or written in the call alone, by their lengths; the rest is this function's.
     answer(unsafe { sys::r10_port_open(script.as_ptr(), script.len(), channel, &mut port.raw, &mut outlet.raw) })?;
     Ok((port, outlet))
 }
 
 impl Port {
     /// Puts a message after those that were offered before it.
-    pub fn offer(&mut self, count: u64, message: Message) -> Result<(), Error> {
+    pub fn offer(&mut self, count: u64, message: Message) -> Result<(), Refusal> {
         answer(kinds::offer_at(&mut self.raw, count, message))
     }
 
     /// So many messages were lost before they were offered: the next one that is accepted has them in its gap.
-    pub fn lose(&mut self, count: u64) -> Result<(), Error> {
+    pub fn lose(&mut self, count: u64) -> Result<(), Refusal> {
+        // SAFETY: the port is this value's own.
         answer(unsafe { sys::r10_port_lost(&mut self.raw, count) })
     }
 
     /// What became of the messages that were offered.
-    pub fn state(&mut self) -> Result<PortState, Error> {
+    pub fn state(&mut self) -> Result<PortState, Refusal> {
         let mut info = sys::r10_port_info::default();
+        // SAFETY: what is lent for the answer is this function's.
         answer(unsafe { sys::r10_port_state(&mut self.raw, &mut info) })?;
         Ok(PortState { channel: info.channel, accepted: info.accepted, lost: info.lost, capacity: info.capacity })
     }
@@ -91,12 +97,14 @@ impl Outlet {
 
 impl Drop for Port {
     fn drop(&mut self) {
+        // SAFETY: it is this value's own, and closed once.
         unsafe { sys::r10_port_close(&mut self.raw) };
     }
 }
 
 impl Drop for Outlet {
     fn drop(&mut self) {
+        // SAFETY: it is this value's own, and closed once.
         unsafe { sys::r10_outlet_close(&mut self.raw) };
     }
 }

@@ -1,5 +1,5 @@
 //! A disk that fails: the system refuses to write beyond a length, which is a limit of this whole program.
-use r10::{Civil, Disk, Error, Message, Recorder};
+use r10::{Civil, Disk, Message, Recorder, Refusal};
 use std::io::ErrorKind;
 
 #[repr(C)]
@@ -16,6 +16,9 @@ unsafe extern "C" {
     fn getrlimit(which: i32, limit: *mut Limit) -> i32;
     fn setrlimit(which: i32, limit: *const Limit) -> i32;
     fn signal(number: i32, does: usize) -> usize;
+    fn fork() -> i32;
+    fn waitpid(process: i32, status: *mut i32, how: i32) -> i32;
+    fn _exit(status: i32) -> !;
 }
 
 fn limit_files(bytes: Option<u64>) {
@@ -33,12 +36,18 @@ const SCRIPT: &str = "blocks = 512\ndirectory = 7\nvolume = \"VOL\"\nnodes = 100
 
 const CIVIL: Civil = Civil { year: 2024, month: 2, day: 29, hour: 12, minute: 34, second: 56, centi: 78 };
 
-fn offer(recorder: &mut Recorder, count: u64) -> Result<(), Error> {
+fn offer(recorder: &mut Recorder, count: u64) -> Result<(), Refusal> {
     for n in 0..20 {
         recorder.offer(5, count + n, Message::Message { data_error: false, format: false, sub: 0, bytes: &[7; 1000] })?;
         recorder.pump(5, 1)?;
     }
     recorder.commit()
+}
+
+/// The disk of a file that this test alone has.
+fn open(path: &std::path::Path, blocks: usize) -> std::io::Result<Disk> {
+    // SAFETY: nothing else writes the file, whose name has this program's number, or makes it shorter.
+    unsafe { Disk::open(path, blocks) }
 }
 
 #[test]
@@ -63,11 +72,24 @@ fn nothing_is_done_after_a_failure() -> Result<(), Box<dyn std::error::Error>> {
     Disk::make(&path, 512, SCRIPT)?;
     assert_eq!(Disk::make(&path, 512, SCRIPT).err().map(|error| error.kind()), Some(ErrorKind::AlreadyExists));
 
-    let mut recorder = Recorder::open(Disk::open(&path, 512)?.into(), 4, SCRIPT).map_err(|(error, _)| error)?;
+    let mut recorder = Recorder::open(open(&path, 512)?.into(), 4, SCRIPT)?;
     recorder.mount()?;
     recorder.tick(1000, &CIVIL)?;
     recorder.start("FLT1", b"")?;
     offer(&mut recorder, 1001)?;
+    // a child of fork has a copy of the recorder, and is refused the disk; what waits is left to the parent
+    let mut status = 1;
+    // SAFETY: the child makes one call and ends; what that allocates the C library allows after a fork.
+    match unsafe { fork() } {
+        0 => {
+            let refused = recorder.settle().is_err_and(|it| it.kind() == ErrorKind::PermissionDenied);
+            // SAFETY: it ends the child.
+            unsafe { _exit(i32::from(!refused)) }
+        }
+        // SAFETY: the number is this function's.
+        child => assert!(unsafe { waitpid(child, &mut status, 0) } == child && status == 0, "a child of fork was not refused the disk"),
+    }
+    assert!(recorder.queue()?.waiting > 0);
     recorder.settle()?;
     offer(&mut recorder, 2001)?;
     limit_files(Some(512 * 16));
@@ -76,16 +98,16 @@ fn nothing_is_done_after_a_failure() -> Result<(), Box<dyn std::error::Error>> {
     let waiting = recorder.queue()?.waiting;
     assert!(recorder.settle().is_err(), "a disk that failed is used again");
     assert!(waiting > 0 && recorder.queue()?.waiting == waiting, "an operation was done after one that failed");
-    assert_eq!(recorder.commit(), Err(Error::MEDIUM));
-    assert_eq!(recorder.commit(), Err(Error::FAILED));
+    assert_eq!(recorder.commit(), Err(Refusal::Medium));
+    assert_eq!(recorder.commit(), Err(Refusal::Failed));
     drop(recorder);
 
-    let mut recorder = Recorder::open(Disk::open(&path, 512)?.into(), 4, SCRIPT).map_err(|(error, _)| error)?;
+    let mut recorder = Recorder::open(open(&path, 512)?.into(), 4, SCRIPT)?;
     recorder.mount()?;
     recorder.seal()?;
     recorder.settle()?;
     let cursor = recorder.cursor(0, &[5], r10::ALL_COUNTS)?;
-    assert_eq!(recorder.advance(cursor)?, 20);
+    assert_eq!(recorder.advance(&cursor)?, 20);
     std::fs::remove_file(&path)?;
     Ok(())
 }

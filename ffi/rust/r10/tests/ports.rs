@@ -1,5 +1,5 @@
 //! Threads that offer at ports, beside the one that owns the recorder.
-use r10::{ALL_COUNTS, Civil, Content, Error, Gap, Message, Port, Recorder, Region, open_port};
+use r10::{ALL_COUNTS, Civil, Content, Error, Gap, Message, Port, Recorder, Refusal, Region, open_port};
 use std::thread;
 
 const SCRIPT: &str = "blocks = 65536
@@ -31,7 +31,7 @@ fn word(word: u32) -> Message<'static> {
 }
 
 fn recording() -> Result<Recorder, Error> {
-    let mut recorder = Recorder::format(Region::memory(65_536), 64, SCRIPT).map_err(|(error, _)| error)?;
+    let mut recorder = Recorder::format(Region::memory(65_536), 64, SCRIPT)?;
     recorder.mount()?;
     recorder.tick(1000, &CIVIL)?;
     recorder.start("FLT1", b"")?;
@@ -39,10 +39,10 @@ fn recording() -> Result<Recorder, Error> {
 }
 
 /// Offers so many words, each with its number, and says what became of them.
-fn offer_all(mut port: Port, words: u32) -> Result<(u64, u64), Error> {
+fn offer_all(mut port: Port, words: u32) -> Result<(u64, u64), Refusal> {
     for n in 0..words {
         match port.offer(2000 + u64::from(n), word(n)) {
-            Ok(()) | Err(Error::OVERFLOW) => (),
+            Ok(()) | Err(Refusal::Overflow) => (),
             Err(error) => return Err(error),
         }
         if n % 16 == 0 {
@@ -80,9 +80,9 @@ fn what_threads_offer_is_recorded_once_and_in_order() -> Result<(), Error> {
         let (accepted, lost) = thread.join().expect("the thread ended")?;
         assert_eq!(accepted + lost, u64::from(WORDS));
         let cursor = recorder.cursor(0, &[*channel], ALL_COUNTS)?;
-        assert_eq!(recorder.advance(cursor)? as u64, accepted);
+        assert_eq!(recorder.advance(&cursor)? as u64, accepted);
         let mut next = 0;
-        while let Some(entry) = recorder.next(cursor)? {
+        while let Some(entry) = recorder.next(&cursor)? {
             let n = entry.count - 2000;
             assert_eq!(entry.content, Content::Arinc { bus: 0, format: false, parity: false, high: false, word: n as u32 });
             assert_eq!(entry.gap, if n == next { Gap::None } else { Gap::Lost(n - next) });
@@ -96,15 +96,15 @@ fn what_threads_offer_is_recorded_once_and_in_order() -> Result<(), Error> {
 fn a_port_refuses_what_a_lane_refuses_and_a_full_lane_loses_nothing() -> Result<(), Error> {
     let mut recorder = recording()?;
     let (mut port, mut outlet) = open_port(SCRIPT, 3)?;
-    assert_eq!(open_port(SCRIPT, 9).err(), Some(Error::NO_CHANNEL));
-    assert_eq!(open_port("blocks = 8", 3).err(), Some(Error::SCRIPT));
-    assert_eq!(port.offer(1 << 48, word(0)), Err(Error::COUNT_RANGE));
-    assert_eq!(port.offer(10, Message::Discrete { states: 0 }), Err(Error::WRONG_KIND));
+    assert_eq!(open_port(SCRIPT, 9).err(), Some(Refusal::NoChannel));
+    assert_eq!(open_port("blocks = 8", 3).err(), Some(Refusal::Script));
+    assert_eq!(port.offer(1 << 48, word(0)), Err(Refusal::CountRange));
+    assert_eq!(port.offer(10, Message::Discrete { states: 0 }), Err(Refusal::WrongKind));
     for n in 0..64 {
         port.offer(10 + n, word(0))?;
     }
-    assert_eq!(port.offer(10, word(0)), Err(Error::COUNT_BACK));
-    assert_eq!(port.offer(100, word(0)), Err(Error::OVERFLOW));
+    assert_eq!(port.offer(10, word(0)), Err(Refusal::CountBack));
+    assert_eq!(port.offer(100, word(0)), Err(Refusal::Overflow));
     port.lose(2)?;
     let state = port.state()?;
     assert_eq!((state.channel, state.accepted, state.lost, state.capacity), (3, 64, 3, 64));
@@ -115,7 +115,7 @@ fn a_port_refuses_what_a_lane_refuses_and_a_full_lane_loses_nothing() -> Result<
     assert_eq!(recorder.carry(&mut outlet, usize::MAX)?, 1);
     drop(port);
     assert_eq!(recorder.carry(&mut outlet, usize::MAX)?, 0);
-    let channel = recorder.channel(3)?.ok_or(Error::NO_CHANNEL)?;
+    let channel = recorder.channel(3)?.ok_or(Refusal::NoChannel)?;
     assert_eq!((channel.waiting, channel.lost), (64, 3));
     Ok(())
 }

@@ -1,5 +1,5 @@
 //! Scripts that cannot be taken, what a damaged medium is answered, and a long file in parts.
-use r10::{ALL_COUNTS, Civil, Entry, Error, Fault, Message, Parts, Recorder, Region, Script, check_script};
+use r10::{ALL_COUNTS, Civil, Entry, Error, Fault, Message, Parts, Recorder, Refusal, Region, Script, check_script};
 
 const SCRIPT: &str = "blocks = 2048
 directory = 2
@@ -26,7 +26,7 @@ number = 10
 const CIVIL: Civil = Civil { year: 2024, month: 2, day: 29, hour: 12, minute: 34, second: 56, centi: 78 };
 
 fn recording() -> Result<Recorder, Error> {
-    let mut recorder = Recorder::format(Region::memory(2048), 64, SCRIPT).map_err(|(error, _)| error)?;
+    let mut recorder = Recorder::format(Region::memory(2048), 64, SCRIPT)?;
     recorder.mount()?;
     recorder.tick(1000, &CIVIL)?;
     recorder.start("FLT1", b"ABCD")?;
@@ -49,25 +49,25 @@ fn a_script_says_its_medium_or_what_is_wrong() {
         (format!("{SCRIPT}colour = 8\n"), Some(21), "line 21, channel table 2: unknown key \"colour\""),
     ] {
         let error = check_script(&wrong).expect_err("a wrong script was taken");
-        assert_eq!((error.error, error.line), (Error::SCRIPT, line), "{error}");
+        assert_eq!((error.refusal, error.line), (Refusal::Script, line), "{error}");
         assert!(error.to_string().starts_with(text), "{error}");
     }
 }
 
 #[test]
 fn a_damaged_medium_is_named() -> Result<(), Error> {
-    let mut recorder = Recorder::open(Region::memory(2048), 64, SCRIPT).map_err(|(error, _)| error)?;
+    let mut recorder = Recorder::open(Region::memory(2048), 64, SCRIPT)?;
     assert_eq!(recorder.fault()?, None);
-    assert_eq!(recorder.mount(), Err(Error::BAD_DIRECTORY));
+    assert_eq!(recorder.mount(), Err(Refusal::BadDirectory));
     assert_eq!(recorder.fault()?, Some(Fault::Directory { block: 1 }));
-    assert_eq!(recorder.commit(), Err(Error::NOT_MOUNTED));
+    assert_eq!(recorder.commit(), Err(Refusal::NotMounted));
     assert_eq!(recorder.fault()?, Some(Fault::Directory { block: 1 }));
     Ok(())
 }
 
 fn rest(recorder: &mut Recorder, cursor: r10::Cursor) -> Result<Vec<Entry>, Error> {
     let mut entries = Vec::new();
-    while let Some(entry) = recorder.next(cursor)? {
+    while let Some(entry) = recorder.next(&cursor)? {
         entries.push(entry);
     }
     recorder.close_cursor(cursor)?;
@@ -79,7 +79,7 @@ fn parts_are_what_one_cursor_gives() -> Result<(), Error> {
     let mut recorder = recording()?;
     for (channels, counts) in [(&[][..], ALL_COUNTS), (&[4][..], ALL_COUNTS), (&[][..], 2_000_000..=90_000_000)] {
         let cursor = recorder.cursor(0, channels, counts.clone())?;
-        let queued = recorder.advance(cursor)?;
+        let queued = recorder.advance(&cursor)?;
         let whole = rest(&mut recorder, cursor)?;
         assert_eq!(queued, whole.len());
         for most in [1, 5, 100, 10_000] {
