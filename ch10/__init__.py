@@ -19,6 +19,7 @@
     tmats        the setup text: attributes, names of channels and buses
     survey       one pass over a recording: what each channel has, what was passed over, its clocks and setup text
     own_index, kept    what is known of a recording for a range of time: by its own index, and by the one beside it
+    row          media in a row as one image
     replay       the entries of a recording in order, in parts that stand for themselves
     fields       the columns of entries
     recording    the interface for other programs: files, packets and typed entries of an input

@@ -10,10 +10,10 @@ import re
 import sys
 from typing import BinaryIO, Callable, List, NoReturn, Optional, Tuple, TYPE_CHECKING
 
-from .inputs import MOST_FRONT, Front, Output, Source, date_given, given, source_given
+from .inputs import MOST_FRONT, Front, Output, Source, date_given, given, listed, source_given
 from .kinds import BY_NAME, KINDS
 from .range_words import add_words, filled, run_of
-from .standard import Data, Fault, Value, Wrong
+from .standard import Data, Fault, Value, Words, Wrong
 
 if TYPE_CHECKING:
     from .times import Bound
@@ -72,7 +72,8 @@ public standard alone.
   ch10 rescue IMAGE FOLDER    the recordings on a medium without its directory
 
 The last five name files. All others read standard input and write standard
-output. Other recorders' files are read too: packets of a type that is not known
+output. With --media PATH, a medium or a folder of media in a row, given as often
+as there are, they read these in place of it, as one image. Other recorders' files are read too: packets of a type that is not known
 are passed over, and counted as opaque. The one packet of r10's own is the loss
 report.
 summary goes on after damage. The other commands answer what comes before the
@@ -386,6 +387,55 @@ def words_of(words: List[str]) -> Namespace:
     return asked
 
 
+def media_of(words: List[str]) -> Tuple[List[str], List[str]]:
+    """The words of a call without --media, and the media that it names."""
+    left: List[str] = []
+    media: List[str] = []
+    rest = iter(words)
+    for word in rest:
+        if word == '--':
+            return left + [word, *rest], media
+        if word == '--media':
+            path = next(rest, None)
+            if path is None:
+                raise Wrong('--media wants a path: a medium, or a folder of media')
+            media.append(path)
+        elif word.startswith('--media='):
+            media.append(word[len('--media='):])
+        else:
+            left.append(word)
+    return left, media
+
+
+# Of an image that is a row these commands go over all files, where a call names none.
+EACH_FILE = ('csv', 'json')
+ALL_FILES = ('summary', 'sqlite', 'file')
+
+
+def over_media(asked: Words, media: List[str], out: Output) -> List[str]:
+    """Does what a call asks for of media in a row. The faults, a line each."""
+    from .row import image_of  # read when it is asked for
+    if getattr(asked, 'opens', False):
+        raise Wrong('%s names its inputs itself: give it the media without --media' % asked.command)
+    data = image_of(media, out.notes)
+    count = len(listed(data)[1])
+    if asked.file is not None or asked.command in ALL_FILES or count < 2:
+        asked.run(asked, data, out)
+        return []
+    if asked.command not in EACH_FILE:
+        raise Wrong('the media have %d files: give --file N, from 0 on; summary lists them' % count)
+    said: List[str] = []
+    for number in range(count):
+        asked.file, asked.goes_on = number, number > 0
+        try:
+            asked.run(asked, data, out)
+        except Fault as fault:
+            said += ['file %d: %s' % (number, it) for it in fault.lines()]
+            if not asked.keep_going:
+                break
+    return said
+
+
 def answer(words: List[str], source: Callable[[], Data], to: Callable[[], BinaryIO],
            date: Optional[Callable[[], Optional[datetime.date]]] = None,
            file: Optional[Callable[[], Optional[Source]]] = None) -> Tuple[int, Optional[str]]:
@@ -399,11 +449,16 @@ def answer(words: List[str], source: Callable[[], Data], to: Callable[[], Binary
         out = Output(to())
         line: List[str] = []
         try:
+            words, media = media_of(words)
             asked = words_of(words)
             asked.date = date() if date else None
             asked.source = file() if file else None
             Front.most = asked.front << 20 if getattr(asked, 'front', None) else MOST_FRONT
-            asked.run(asked, None if getattr(asked, 'opens', False) else source(), out)
+            if media:
+                asked.date = asked.source = None
+                line = over_media(asked, media, out)
+            else:
+                asked.run(asked, None if getattr(asked, 'opens', False) else source(), out)
         except Help as text:
             out.line(str(text).rstrip())
         except Fault as fault:

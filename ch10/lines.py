@@ -247,7 +247,7 @@ def written(asked: Namespace, data: Data, out: Output, is_json: bool) -> Tuple[S
     survey, within, ordered, parts = in_range(asked, data, begin, end)
     form = form_of(asked, survey, is_json, out)
     title_line = form.title()
-    if title_line:
+    if title_line and not getattr(asked, 'goes_on', False):
         out.line(title_line + (',quality' if asked.quality else ''))
     jobs = jobs_of(asked.jobs, end - begin)
     many = Vector(form, ordered, within, asked.quality)

@@ -29,6 +29,19 @@ impl Dates {
     }
 }
 
+impl Dates {
+    /// Date and time of a file's begin: of two the later one sorts after the other.
+    pub fn begin(&self, file: usize) -> String {
+        let mut words = self.line(file).split(' ');
+        format!("{} {}", words.next().unwrap_or("-"), words.next().unwrap_or("-"))
+    }
+
+    /// The time of a file's end.
+    pub fn end(&self, file: usize) -> &str {
+        self.line(file).split(' ').next_back().unwrap_or("-")
+    }
+}
+
 fn of_entry(bytes: &[u8], file: usize) -> String {
     let at = BLOCK * (file / ENTRIES) + HEAD + ENTRY * (file % ENTRIES);
     let part = |from: usize| bytes.get(at + from..at + from + 8).filter(|it| it.iter().all(u8::is_ascii_digit));

@@ -73,13 +73,15 @@ pub struct Commits {
     last: Instant,
     count: u64,
     has_news: bool,
+    /// of the messages that were accepted since the last one
+    bytes: usize,
     /// from a message's coming to its being durable
     pub times: Times,
 }
 
 impl Default for Commits {
     fn default() -> Commits {
-        Commits { last: Instant::now(), count: 0, has_news: false, times: Times::default() }
+        Commits { last: Instant::now(), count: 0, has_news: false, bytes: 0, times: Times::default() }
     }
 }
 
@@ -87,6 +89,17 @@ impl Commits {
     /// Something was taken into the file that is not durable.
     pub fn has_more(&mut self) {
         self.has_news = true;
+    }
+
+    /// So does a message of so many bytes.
+    pub fn has_message(&mut self, bytes: usize) {
+        self.has_news = true;
+        self.bytes += bytes;
+    }
+
+    /// The bytes of the messages that were accepted since the last one.
+    pub fn bytes(&self) -> usize {
+        self.bytes
     }
 
     /// When the next one is due, if one is.
@@ -112,6 +125,7 @@ impl Commits {
     pub fn done(&mut self) {
         self.count += 1;
         self.has_news = false;
+        self.bytes = 0;
         self.last = Instant::now();
     }
 }

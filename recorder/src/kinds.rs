@@ -4,7 +4,7 @@
 use std::fmt::Write;
 use std::ops::RangeInclusive;
 
-use r10::{Content, Entry, Message, Recorder, Refusal as Refused};
+use r10::{Content, Message, Recorder, Refusal as Refused};
 use serde::Deserialize;
 
 use crate::clock;
@@ -235,23 +235,6 @@ impl Head {
         };
         recorder.offer(channel, count, message)
     }
-}
-
-/// Offers to a recorder what waited in a lane of another one. (No lane has a time or an event.)
-pub fn offer_again(recorder: &mut Recorder, channel: u16, entry: &Entry) -> Result<(), Refused> {
-    let message = match &entry.content {
-        Content::Uart { parity, sub, bytes } => Message::Uart { parity: *parity, sub: *sub, bytes },
-        Content::Bus1553 { status, gap_times, words } => Message::Bus1553 { status: *status, gap_times: *gap_times, words },
-        Content::Arinc { bus, format, parity, high, word } => {
-            Message::Arinc { bus: *bus, format: *format, parity: *parity, high: *high, word: *word }
-        }
-        Content::Discrete { states } => Message::Discrete { states: *states },
-        Content::Message { data_error, format, sub, bytes } => {
-            Message::Message { data_error: *data_error, format: *format, sub: *sub, bytes }
-        }
-        Content::Time { .. } | Content::Event { .. } => return Ok(()),
-    };
-    recorder.offer(channel, entry.count, message)
 }
 
 /// Prints what an entry says, as `r10 play` does after channel, count and gap. Times and events are of no channel's kind.

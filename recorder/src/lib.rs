@@ -17,6 +17,7 @@ pub const VERSION: &str = match option_env!("R10_PROVED") {
 };
 
 pub mod acknowledge;
+mod again;
 pub mod alarms;
 pub mod bit;
 pub mod bodies;

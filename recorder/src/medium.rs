@@ -13,8 +13,9 @@ use nix::fcntl::PosixFadviseAdvice;
 use nix::sys::stat::{major, minor};
 use r10::{Disk, Recorder, Refusal as Refused, Region};
 
+use crate::dates::Dates;
 use crate::inputs::Seldom;
-use crate::settings::Settings;
+use crate::settings::{Settings, is_of_devices};
 use crate::{info, warning, watchdog};
 
 /// How many operations may wait before the library asks for memory.
@@ -43,6 +44,16 @@ fn is_mark(path: &Path) -> bool {
     path.symlink_metadata().is_ok_and(|it| it.is_file() && it.len() == 0)
 }
 
+/// Where the mark of a medium that is to be kept stands: in the settings' folder for marks, by its volume's name, or beside it.
+fn mark_of(settings: &Settings, place: usize) -> Option<PathBuf> {
+    if let Some(folder) = &settings.marks {
+        return Some(folder.join(settings.volume_at(place) + ".keep"));
+    }
+    let mut name = settings.media[place].clone().into_os_string();
+    name.push(".keep");
+    (!is_of_devices(&settings.media[place])).then(|| name.into())
+}
+
 pub struct Medium {
     /// its place among those of the settings, from 0
     pub place: usize,
@@ -51,6 +62,8 @@ pub struct Medium {
     blocks: usize,
     directory: usize,
     script: String,
+    /// the file that marks it as one to be kept, where there can be one
+    kept: Option<PathBuf>,
     /// the file or device that was opened at the path
     opened: Option<(u64, u64)>,
     gone: Seldom,
@@ -87,6 +100,7 @@ impl Medium {
             blocks: settings.blocks,
             directory: settings.directory,
             script: settings.script_at(place),
+            kept: mark_of(settings, place),
             opened: None,
             gone: Seldom::default(),
             ahead: 0,
@@ -98,9 +112,8 @@ impl Medium {
         self.path.display().to_string().chars().map(|it| if it.is_control() { '?' } else { it }).collect()
     }
 
-    /// Whether its path is one of a device, which is there or not, and is never made.
     fn is_of_devices(&self) -> bool {
-        self.path.starts_with("/dev") && !self.path.starts_with("/dev/shm")
+        is_of_devices(&self.path)
     }
 
     /// Makes the file, where nothing of its name is there.
@@ -197,6 +210,29 @@ impl Medium {
         let folder = mark.parent().filter(|it| !it.as_os_str().is_empty()).unwrap_or(Path::new("."));
         if let Err(error) = done.and_then(|()| File::open(folder)?.sync_all()) {
             warning!("{}: {error}; a loss of power between two files may not be gone on from", mark.display());
+        }
+    }
+
+    /// Whether it is marked to be kept: a file of any kind is at the mark's place. What cannot be looked at counts as a mark.
+    pub fn is_kept(&self) -> bool {
+        let Some(mark) = &self.kept else { return false };
+        let folder = mark.parent().filter(|it| !it.as_os_str().is_empty()).unwrap_or(Path::new("."));
+        !folder.is_dir() || !matches!(mark.symlink_metadata(), Err(error) if error.kind() == io::ErrorKind::NotFound)
+    }
+
+    /// Marks it as one to be kept, or takes the mark off. That stands over a loss of power.
+    pub fn mark_kept(&self, is_kept: bool) -> io::Result<()> {
+        let none = || io::Error::other("a device wants the key `marks` in the settings, a folder for such marks");
+        let mark = self.kept.as_ref().ok_or_else(none)?;
+        let folder = mark.parent().filter(|it| !it.as_os_str().is_empty()).unwrap_or(Path::new("."));
+        let done = if is_kept {
+            OpenOptions::new().write(true).create(true).truncate(false).open(mark).map(|_| ())
+        } else {
+            fs::remove_file(mark)
+        };
+        match done {
+            Err(error) if !is_kept && error.kind() == io::ErrorKind::NotFound => Ok(()),
+            other => other.and_then(|()| File::open(folder)?.sync_all()),
         }
     }
 
@@ -379,12 +415,28 @@ impl Medium {
         })
     }
 
-    /// The files that it has, of which none is there where nothing has its path yet. Nothing is written to it.
-    pub fn look(&self) -> Result<Vec<r10::File>, Refusal> {
+    /// The files that it has, and their dates. It has none where nothing has its path yet. Nothing is written to it.
+    pub fn look(&self) -> Result<(Vec<r10::File>, Dates), Refusal> {
         if self.path.symlink_metadata().is_err() && !self.is_of_devices() {
-            return Ok(Vec::new());
+            return Ok((Vec::new(), Dates::default()));
         }
-        self.mounted()?.files().map_err(|it| Refusal::Failed(format!("the medium {} cannot be read: {it}", self.name())))
+        self.files_of(&mut self.mounted()?)
+    }
+
+    fn files_of(&self, recorder: &mut Recorder) -> Result<(Vec<r10::File>, Dates), Refusal> {
+        let files = recorder.files().map_err(|it| Refusal::Failed(format!("the medium {} cannot be read: {it}", self.name())))?;
+        let dates = Dates::read(recorder, files.len());
+        Ok((files, dates))
+    }
+
+    /// Opens a recorder over a medium that may be overwritten, with what it holds. Nothing is written to it, and its first blocks are
+    /// read plainly.
+    pub fn open_old(&self, most: u64) -> Result<(Recorder, Vec<r10::File>, Dates), Refusal> {
+        let mut recorder = self.mounted()?;
+        let (files, dates) = self.files_of(&mut recorder)?;
+        let first = self.first_block(&[]);
+        self.read_plainly(&recorder, first..first + most)?;
+        Ok((recorder, files, dates))
     }
 
     /// Opens a recorder over the medium and mounts it.
@@ -539,6 +591,7 @@ mod tests {
             blocks: 99,
             directory: 1,
             script: String::new(),
+            kept: None,
             opened: None,
             gone: Seldom::default(),
             ahead: 0,

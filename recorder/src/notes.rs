@@ -229,7 +229,7 @@ impl Owner {
                     notes.last = note.count;
                     lane.longest = lane.longest.max(bytes.len());
                     lane.waiting += 1;
-                    lane.pending.push_back(Pending { count: note.count, lost: std::mem::take(&mut lane.told) });
+                    lane.pending.push_back(Pending { count: note.count, lost: std::mem::take(&mut lane.told), kept: None });
                     notes.taken.push_back(note);
                     self.commits.has_more();
                 }

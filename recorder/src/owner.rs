@@ -17,7 +17,7 @@ use crate::control::Command;
 use crate::feed::{Came, Item, Outlet};
 use crate::inputs::Seldom;
 use crate::keeps::{Commits, Current, Failures, Intake, Wish};
-use crate::kinds::Kind;
+use crate::kinds::{Head, Kind};
 use crate::live::Live;
 use crate::losses::{Causes, Moment};
 use crate::medium::{Medium, Refusal};
@@ -97,16 +97,29 @@ pub(crate) struct Pending {
     pub(crate) count: u64,
     /// how many lost messages the recorder was given before it
     pub(crate) lost: u64,
+    /// what is kept of it, and how many bytes; none of a line of the log
+    pub(crate) kept: Option<(Head, usize)>,
+}
+
+impl Pending {
+    pub(crate) fn length(&self) -> usize {
+        self.kept.map_or(0, |it| it.1)
+    }
 }
 
 /// A channel on its way.
 pub struct Lane {
     pub channel: settings::Channel,
     pub came: Arc<Came>,
-    /// messages in the recorder's lane
+    /// messages in the recorder's lane, and those that are to be offered again
     pub(crate) waiting: usize,
-    /// counts of the messages that were accepted and are not durable, those that wait last
+    /// the messages that were accepted and are not durable: those that wait last, and of these those that are to be offered again
     pub(crate) pending: VecDeque<Pending>,
+    /// their bytes
+    pub(crate) kept: VecDeque<u8>,
+    /// how many are to be offered again, and how many bytes they have
+    pub(crate) again: usize,
+    pub(crate) again_bytes: usize,
     pub durable: u64,
     /// durable ones in the file that is recorded
     pub durable_in_file: u64,
@@ -145,6 +158,9 @@ impl Lane {
             came,
             waiting: 0,
             pending: VecDeque::new(),
+            kept: VecDeque::new(),
+            again: 0,
+            again_bytes: 0,
             durable: 0,
             durable_in_file: 0,
             lost: 0,
@@ -502,6 +518,13 @@ impl Owner {
             self.begin_file()?;
         }
         let is_recording = self.state == State::Recording && !self.stop.leaves;
+        // (what is kept until it is durable has its bound too)
+        if is_recording && self.commits.bytes() >= self.settings.kept {
+            self.commit()?;
+        }
+        if is_recording && self.lanes[place].again > 0 {
+            self.pump(place)?;
+        }
         if is_recording && self.lanes[place].waiting >= self.lanes[place].channel.capacity {
             self.pump(place)?;
             // (a stop commits once, at its end)
@@ -523,9 +546,8 @@ impl Owner {
                 tell_lost(recorder, lane);
                 match item.head.offer(recorder, lane.channel.id, item.count, bytes) {
                     Ok(()) => {
-                        lane.waiting += 1;
-                        lane.pending.push_back(Pending { count: item.count, lost: std::mem::take(&mut lane.told) });
-                        self.commits.has_more();
+                        lane.accepted(item.count, item.head, bytes);
+                        self.commits.has_message(bytes.len());
                     }
                     Err(error) => {
                         let id = lane.channel.id;
@@ -665,6 +687,33 @@ mod tests {
                 self.feed.message(0, 0, HEAD, &[7; 60]);
             }
             self.feed.flush();
+        }
+
+        /// Messages come with numbers in them.
+        fn comes_numbered(&mut self, first: u32, count: u32) {
+            for number in first..first + count {
+                self.feed.message(0, 0, HEAD, &[&number.to_le_bytes()[..], &vec![7; number as usize % 90]].concat());
+            }
+            self.feed.flush();
+        }
+
+        /// The numbers of the messages of all files, each with the losses before it. Their bytes and the order of their counts are compared.
+        fn numbers(&mut self) -> Vec<(u32, u64)> {
+            let recorder = self.owner.recorder().unwrap();
+            let (mut found, mut last) = (Vec::new(), 0);
+            for file in 0..recorder.files().unwrap().len() {
+                let cursor = recorder.cursor(file, &[5], ALL_COUNTS).unwrap();
+                recorder.advance(&cursor).unwrap();
+                while let Some(entry) = recorder.next(&cursor).unwrap() {
+                    let r10::Content::Message { bytes, .. } = &entry.content else { panic!("no message") };
+                    let number = u32::from_le_bytes(bytes[..4].try_into().unwrap());
+                    assert!(entry.count > last && bytes[4..] == vec![7; number as usize % 90], "message {number}");
+                    last = entry.count;
+                    found.push((number, if let r10::Gap::Lost(lost) = entry.gap { lost } else { 0 }));
+                }
+                recorder.close_cursor(cursor).unwrap();
+            }
+            found
         }
 
         /// Takes in what came, into the next file where one is full.
@@ -840,7 +889,7 @@ mod tests {
     }
 
     /// What was not committed when the disk failed is looked for: what is there counts as recorded in the totals of that file, and the
-    /// rest as lost after its last message.
+    /// rest waits for the next one. No message is in both, and none is lost.
     #[test]
     fn what_is_found_after_a_failure_is_in_the_totals() {
         let mut it = Alone::recording("found", 3000, 64);
@@ -854,14 +903,184 @@ mod tests {
         it.owner.fail("it was made to");
         it.owner.retry();
         it.comes(3);
-        assert_eq!((it.ask(".STOP"), it.counts(), it.entries(5)), (String::new(), (13, 5, 0, 0), vec![10, 3]));
+        assert_eq!((it.ask(".STOP"), it.counts(), it.entries(5)), (String::new(), (18, 0, 0, 0), vec![10, 8]));
         let (totals, before) = (it.lines("total"), it.lines("before"));
         assert!(totals[0].starts_with("file=1 ") && totals[1].starts_with("file=2 "), "{totals:?}");
-        assert!(totals[0].ends_with("came=15 recorded=10 lost=5 after=5 waiting=0 carried=0 passed=0"), "{totals:?}");
-        assert!(totals[1].ends_with("came=3 recorded=3 lost=0 after=0 waiting=0 carried=0 passed=0"), "{totals:?}");
-        assert_eq!(before, ["channel=5 waiting=0 lost=5 told=5"]);
+        assert!(totals[0].ends_with("came=15 recorded=10 lost=0 after=0 waiting=5 carried=0 passed=0"), "{totals:?}");
+        assert!(totals[1].ends_with("came=3 recorded=8 lost=0 after=0 waiting=0 carried=0 passed=0"), "{totals:?}");
+        assert_eq!(before, ["channel=5 waiting=5 lost=0 told=0"]);
         let states: Vec<_> = it.lines("disk").iter().map(|it| it.split(' ').next().unwrap().to_string()).collect();
         assert_eq!(states, ["state=failed", "state=well"]);
+    }
+
+    /// What was not committed is offered again after a failure, though it is more than a lane has room for, and once more where the disk
+    /// fails in that too: each message is there once, in its order, with its bytes and the losses before it.
+    #[test]
+    fn what_was_not_committed_is_recorded_again() {
+        let mut it = Alone::with_media("again", "[\"medium\"]", 6000, 64);
+        it.owner.settings.commit = Duration::from_hours(1);
+        it.comes_numbered(0, 40);
+        it.takes_in();
+        it.owner.commit().unwrap();
+        it.feed.lost(0, Cause::System, 3);
+        it.comes_numbered(40, 500);
+        it.feed.lost(0, Cause::Line, 4);
+        it.feed.flush();
+        it.takes_in();
+        it.owner.fail("it was made to");
+        it.owner.retry();
+        // (some of it is with the new recorder, and some not yet)
+        it.owner.give_again(0).unwrap();
+        assert_eq!((it.owner.lanes[0].waiting, it.owner.lanes[0].again), (500, 436));
+        it.owner.fail("it was made to");
+        it.owner.retry();
+        it.comes_numbered(540, 60);
+        assert_eq!((it.ask(".STOP"), it.counts()), (String::new(), (600, 7, 0, 0)));
+        assert_eq!(it.entries(5), [40, 0, 560]);
+        let found = it.numbers();
+        let wanted = (0..600).map(|it| {
+            (
+                it,
+                match it {
+                    40 => 3,
+                    540 => 4,
+                    _ => 0,
+                },
+            )
+        });
+        assert_eq!(found, wanted.collect::<Vec<_>>());
+        assert!(it.owner.lanes[0].kept.is_empty() && it.owner.lanes[0].pending.is_empty());
+    }
+
+    /// What is kept of messages has a bound: then it is made durable.
+    #[test]
+    fn what_is_kept_has_a_bound() {
+        let mut it = Alone::with_media("bound", "[\"medium\"]", 6000, 5000);
+        it.owner.settings.commit = Duration::from_hours(1);
+        it.owner.settings.kept = 6000;
+        for _ in 0..10 {
+            it.comes(100);
+            it.takes_in();
+            assert!(it.owner.lanes[0].kept.len() <= 6060, "{}", it.owner.lanes[0].kept.len());
+        }
+        assert_eq!((it.ask(".STOP"), it.counts(), it.entries(5)), (String::new(), (1000, 0, 0, 0), vec![1000]));
+    }
+
+    /// A medium that fails for good: what it had not acknowledged goes to the next one, after the losses before it, and is not lost.
+    #[test]
+    fn what_a_failed_medium_did_not_acknowledge_goes_to_the_next() {
+        let mut it = Alone::with_media("fails", "[\"one\", \"two\"]", 3000, 64);
+        it.owner.settings.commit = Duration::from_hours(1);
+        it.comes_numbered(0, 10);
+        it.takes_in();
+        it.owner.commit().unwrap();
+        it.feed.lost(0, Cause::System, 2);
+        it.comes_numbered(10, 100);
+        it.takes_in();
+        assert!(it.owner.leave_failed("it was made to"));
+        assert_eq!((it.owner.state, it.owner.medium.place, it.owner.row.left()), (State::Recording, 1, 0));
+        it.comes_numbered(110, 3);
+        assert_eq!((it.ask(".STOP"), it.counts(), it.entries(5)), (String::new(), (113, 2, 0, 0), vec![103]));
+        let wanted: Vec<_> = (10..113).map(|it| (it, if it == 10 { 2 } else { 0 })).collect();
+        assert_eq!(it.numbers(), wanted);
+        let line = it.lines("medium").pop().unwrap();
+        assert!(line.starts_with("state=failed volume=V-001 path=") && line.ends_with("why=\"it was made to\""), "{line}");
+    }
+
+    /// Fills the medium in use, until the recording goes on on another one, or ends. The name of a file that the one before has.
+    fn fills(it: &mut Alone) -> String {
+        let before = it.owner.medium.place;
+        let mut name = String::new();
+        it.owner.row.wait_for_look();
+        while it.owner.medium.place == before && (it.owner.state != State::Full || it.owner.row.is_looking()) {
+            name = it.owner.file.as_ref().map_or(name, |it| it.name.clone());
+            it.comes(200);
+            it.takes_in();
+            if it.owner.state == State::Recording {
+                let done = it.owner.commit();
+                it.owner.mind(done);
+            }
+            let done = it.owner.turn();
+            it.owner.mind(done);
+        }
+        if it.owner.state == State::Recording {
+            let done = it.owner.commit();
+            it.owner.mind(done);
+        }
+        name
+    }
+
+    /// Where the settings say so the oldest closed medium is overwritten, and none that is marked, open or damaged. What it held is in
+    /// the log channel.
+    #[test]
+    fn the_oldest_medium_is_overwritten() {
+        let media = "[\"one\", \"two\", \"three\", \"four\"]\noverwrite = true";
+        let mut it = Alone::with_media("ring", media, 700, 5_000);
+        let path = |it: &Alone, place: usize| Medium::at(&it.owner.settings, place);
+        let first = fills(&mut it);
+        fills(&mut it);
+        fills(&mut it);
+        assert_eq!((it.owner.medium.place, it.lines("medium").len()), (3, 1));
+        // the first one is the oldest; the second one is marked, and the third one damaged, before the next seams
+        std::fs::write(path(&it, 1).path().with_file_name("two.keep"), "").unwrap();
+        let two = std::fs::read(path(&it, 1).path()).unwrap();
+        fills(&mut it);
+        let lines = it.lines("medium");
+        assert_eq!((it.owner.state == State::Full, it.owner.medium.place), (false, 0), "{lines:?}");
+        let line = lines.iter().find(|it| it.starts_with("state=overwritten volume=V-001 ")).unwrap();
+        assert!(line.contains(" files=") && line.contains(&first), "{line}, {first}");
+        it.owner.row.wait_for_next();
+        it.owner.row.let_go();
+        let three = path(&it, 2).path().to_path_buf();
+        let file = std::fs::OpenOptions::new().write(true).open(&three).unwrap();
+        std::os::unix::fs::FileExt::write_all_at(&file, &[0, 9], 512 + 10).unwrap();
+        let bytes = std::fs::read(&three).unwrap();
+        fills(&mut it);
+        assert_eq!((it.owner.state == State::Full, it.owner.medium.place), (false, 3));
+        assert!(std::fs::read(&three).unwrap() == bytes, "the damaged one was written to");
+        assert!(std::fs::read(path(&it, 1).path()).unwrap() == two, "the marked one was written to");
+        // now the first one is marked too, by a word, and is the next one that is open ahead: the recording ends
+        assert_eq!(it.ask(".KEEP 1"), "");
+        assert!(it.ask(".MEDIA").contains("MEDIUM 1 V-001 kept ") && it.ask(".KEEP").contains("MEDIUM 4 V-004 in_use "));
+        fills(&mut it);
+        assert_eq!((it.owner.state, it.owner.medium.place), (State::Full, 3));
+        let lost = it.counts().1;
+        it.comes(5);
+        it.takes_in();
+        assert_eq!(it.counts().1, lost + 5);
+        assert!(it.ask(".RECORD").starts_with("E 04"));
+        // and goes on once a mark is off
+        assert_eq!((it.ask(".KEEP V-001 off"), it.ask(".RECORD")), (String::new(), String::new()));
+        assert_eq!((it.owner.state, it.owner.medium.place), (State::Recording, 0));
+        assert_eq!(it.ask(".STOP"), "");
+        let notes = it.lines("warning");
+        assert!(notes.iter().any(|it| it.contains("(V-001) is marked to be kept; it is not overwritten")), "{notes:?}");
+        assert!(notes.iter().any(|it| it.contains("no medium may be overwritten")), "{notes:?}");
+        assert!(it.ask(".KEEP 9").starts_with("E 01") && it.ask(".KEEP 1 never").starts_with("E 01"));
+    }
+
+    /// A medium whose files cannot be taken off is passed over; one without a file that is put in meanwhile is taken before the oldest.
+    #[test]
+    fn a_medium_that_cannot_be_overwritten_is_passed_over() {
+        let media = "[\"one\", \"two\", \"three\", \"four\"]\noverwrite = true";
+        let mut it = Alone::with_media("passed", media, 700, 5_000);
+        for _ in 0..3 {
+            fills(&mut it);
+        }
+        it.owner.row.wait_for_next();
+        it.owner.row.fail_next();
+        let one = Medium::at(&it.owner.settings, 0).path().to_path_buf();
+        let bytes = std::fs::read(&one).unwrap();
+        fills(&mut it);
+        assert_eq!((it.owner.state == State::Full, it.owner.medium.place), (false, 1), "{:?}", it.lines("warning"));
+        assert_eq!(it.owner.failures.count(), 0);
+        assert!(std::fs::read(&one).unwrap() == bytes, "the first one was written to");
+        it.owner.row.wait_for_next();
+        let three = Medium::at(&it.owner.settings, 2).path().to_path_buf();
+        std::fs::rename(&three, three.with_file_name("away")).unwrap();
+        fills(&mut it);
+        assert_eq!((it.owner.state == State::Full, it.owner.medium.place), (false, 2));
+        assert!(std::fs::read(&one).unwrap() == bytes, "the first one was written to");
     }
 
     /// Starts and stops without a message take no place in the directory, which has 32 here; nor do failures of the disk.

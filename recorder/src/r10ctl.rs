@@ -239,7 +239,7 @@ fn of_line(word: &str, line: &str) -> Value {
             }
             it
         }
-        ("media", ["MEDIUM", place, volume, state, ..]) if parts.len() > 4 => {
+        ("media" | "keep", ["MEDIUM", place, volume, state, ..]) if parts.len() > 4 => {
             json!({ "medium": number(place), "volume": volume, "state": state, "path": parts[4..].join(" ") })
         }
         ("media", ["MEDIA", size, used, left]) => {

@@ -59,7 +59,11 @@ fn are_many(queue: Queue) -> bool {
 impl Owner {
     /// Takes a channel's messages from its lane into the file.
     pub(crate) fn pump(&mut self, place: usize) -> Result<(), Trouble> {
-        while self.lanes[place].waiting > 0 {
+        loop {
+            self.give_again(place)?;
+            if self.lanes[place].waiting == 0 {
+                return Ok(());
+            }
             self.read_ahead()?;
             let (free, kept) = (self.recorder()?.status()?.free, self.kept_for_lines(place));
             let lane = &self.lanes[place];
@@ -79,7 +83,6 @@ impl Owner {
                 self.settle()?;
             }
         }
-        Ok(())
     }
 
     fn read_plainly(&self, blocks: Range<u64>) -> Result<(), Trouble> {
@@ -125,16 +128,15 @@ impl Owner {
         self.commits.done();
         for (place, lane) in self.lanes.iter_mut().enumerate() {
             let count = lane.pending.len() - lane.waiting.min(lane.pending.len());
-            let durable = lane.pending.drain(..count);
+            let durable = lane.are_durable(count);
             lane.durable += count as u64;
             lane.durable_in_file += count as u64;
             // (lines of the log did not come in: how long one waited says nothing of messages)
             if let Some(notes) = self.notes.as_mut().filter(|it| it.place == place) {
-                drop(durable);
                 notes.are_durable(count);
                 continue;
             }
-            durable.for_each(|it| self.commits.times.add(now.saturating_sub(it.count)));
+            durable.iter().for_each(|it| self.commits.times.add(now.saturating_sub(*it)));
             if count > 0
                 && let (Some(to), Some(Current { number, .. })) = (&mut self.acknowledge, &self.file)
             {
@@ -321,7 +323,7 @@ impl Owner {
         let stopped = self.recorder()?.stop()?;
         self.settle()?;
         for place in 0..self.lanes.len() {
-            self.lanes[place].waiting = self.recorder()?.channel_at(place)?.waiting;
+            self.lanes[place].waiting = self.recorder()?.channel_at(place)?.waiting + self.lanes[place].again;
         }
         self.is_durable();
         // (where the file took more at its end)
@@ -380,7 +382,13 @@ impl Owner {
         if !self.next_medium(None)? {
             self.state = State::Full;
             self.medium.keep(true);
-            error!("{error}: nothing is recorded, and what comes is counted as lost; copy the files, then give .ERASE and .RECORD");
+            let what = "nothing is recorded, and what comes is counted as lost";
+            if self.settings.overwrite {
+                let why = "no medium may be overwritten: each is marked to be kept, has an open file, or is damaged";
+                self.note(true, &format!("{error}, and {why}; {what}; take a mark off (.KEEP NUMBER OFF), then give .RECORD"));
+            } else {
+                error!("{error}: {what}; copy the files, then give .ERASE and .RECORD");
+            }
         }
         Ok(())
     }

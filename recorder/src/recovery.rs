@@ -7,7 +7,6 @@ use r10::{Content, Recorder, Refusal as Refused};
 
 use crate::clock::{self, COUNTS};
 use crate::keeps::Current;
-use crate::losses::Causes;
 use crate::medium::{Refusal, printed};
 use crate::notes::{self, Line};
 use crate::owner::{Owner, State, Trouble};
@@ -62,7 +61,7 @@ impl Owner {
             // what is looked into for messages that were not committed is read plainly first
             let first = self.medium.first_block(&files[..files.len() - 1]);
             if let Err(refusal) = self.medium.read_plainly(&recorder, first..first + file.blocks) {
-                warning!("{}; what was not committed counts as lost", refusal.text());
+                warning!("{}; what was not committed is recorded again, and may be there too", refusal.text());
                 reads = false;
             }
         }
@@ -106,6 +105,9 @@ impl Owner {
             file.size
         );
         self.log_for_sure(Line::new("aside").with("file", number).with("name", name).with("why", why));
+        if self.settings.overwrite {
+            self.keep_damaged();
+        }
         Ok((recorder, false))
     }
 
@@ -143,8 +145,8 @@ impl Owner {
         if self.failures.tries() < self.settings.tries { Err(Refusal::Failed(why)) } else { Ok(Some(why)) }
     }
 
-    /// What of the messages that waited for a commit, when the recorder failed, is in its file after all: the rest is lost, and
-    /// is said so.
+    /// What of the messages that waited for a commit, when the recorder failed, is in its file after all: the rest is offered again. A
+    /// file that cannot be read may have some of it too.
     pub(crate) fn account(&mut self, recorder: &mut Recorder, files: &[r10::File], reads: bool) -> Result<(), Refused> {
         let is_its = |it: &&Current| files.get(it.number).is_some_and(|file| file.name == it.name);
         let mut file = self.file.as_ref().filter(is_its).filter(|_| reads).map(|it| it.number);
@@ -169,23 +171,17 @@ impl Owner {
                 if is_there(lane.pending[middle].count)? { there = middle + 1 } else { not = middle }
             }
             let lane = &mut self.lanes[place];
-            let lost = lane.pending.len() - there;
             lane.durable += there as u64;
             lane.durable_in_file += there as u64;
-            lane.given = 0;
-            // what the recorder was given of losses is in no file either, where the message is not that was to carry it
-            lane.untold += std::mem::take(&mut lane.told) + lane.pending.drain(..).skip(there).map(|it| it.lost).sum::<u64>();
-            lane.waiting = 0;
+            lane.are_durable(there);
             if let Some(notes) = self.notes.as_mut().filter(|it| it.place == place) {
-                // lines are kept until they are durable
                 notes.are_durable(there);
-                notes.wait_again();
-                continue;
             }
-            if lost > 0 {
-                self.stop.missed = self.stop.missed.map(|it| it + lost as u64);
-                self.note_lost(place, Causes { disk: lost as u64, ..Causes::default() });
-            }
+            self.offer_again_of(place);
+        }
+        let again = self.waiting();
+        if again > 0 {
+            self.note(false, &format!("{again} messages that were not durable are recorded again"));
         }
         // (a file that was closed has said so at its end)
         if self.file.as_ref().is_some_and(|it| !it.is_ended) {
@@ -194,12 +190,26 @@ impl Owner {
         Ok(())
     }
 
+    /// What is kept of a channel, and in no file, is offered again; so are lines of the log, which are kept elsewhere. (What the recorder
+    /// was given of losses is in no file either, where the message is not that was to carry it.)
+    pub(crate) fn offer_again_of(&mut self, place: usize) {
+        let lane = &mut self.lanes[place];
+        if let Some(notes) = self.notes.as_mut().filter(|it| it.place == place) {
+            lane.untold += lane.pending.drain(..).map(|it| it.lost).sum::<u64>();
+            notes.wait_again();
+        }
+        lane.offer_all_again();
+    }
+
     /// The disk failed: as after a loss of power. The recorder and the mapping go, with what the system kept, and all is opened
     /// again.
     pub(crate) fn fail(&mut self, why: &str) {
         self.failures.failed(why);
         let tries = self.failures.tries();
-        error!("{why}; what was not committed may be lost; the medium is opened again (try {} of {})", tries, self.settings.tries);
+        error!(
+            "{why}; the medium is opened again, and what was not committed is recorded again (try {} of {})",
+            tries, self.settings.tries
+        );
         self.log_disk("failed", why);
         self.recorder = None;
         self.interrupt_readers("the disk failed");

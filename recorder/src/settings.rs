@@ -122,6 +122,12 @@ pub struct Settings {
     pub file: PathBuf,
     /// the medium, or several in a row
     pub media: Vec<PathBuf>,
+    /// the oldest medium of a row is overwritten where none is without a file
+    pub overwrite: bool,
+    /// a folder for the marks of media that are to be kept; without it a mark is beside the medium
+    pub marks: Option<PathBuf>,
+    /// so many bytes of messages that are not durable are kept, to be recorded again where the disk fails
+    pub kept: usize,
     /// of each medium
     pub blocks: usize,
     pub directory: usize,
@@ -225,11 +231,13 @@ impl Settings {
         let channels = |it: &Settings| it.channels.iter().map(channel).collect::<Vec<_>>();
         [
             ("medium or media", self.media != other.media),
+            ("overwrite or marks", (self.overwrite, &self.marks) != (other.overwrite, &other.marks)),
             ("blocks, directory, volume, nodes, time, event or a channel's form", self.script != other.script),
             ("setup", self.setup != other.setup),
             ("start", self.begin != other.begin),
             ("prefix", self.prefix != other.prefix),
             ("stop_seconds", self.stop_for != other.stop_for),
+            ("kept_mib", self.kept != other.kept),
             ("seal_seconds", self.seal_for != other.seal_for),
             ("log", self.log != other.log),
             ("clock_event", self.clock_event != other.clock_event),
@@ -271,6 +279,9 @@ impl fmt::Display for Fault {
 struct Document {
     medium: Option<Spanned<PathBuf>>,
     media: Option<Spanned<MediaKey>>,
+    overwrite: Option<Spanned<bool>>,
+    marks: Option<Spanned<PathBuf>>,
+    kept_mib: Option<Spanned<u64>>,
     blocks: Option<Spanned<u64>>,
     directory: Option<Spanned<u64>>,
     volume: Spanned<String>,
@@ -379,6 +390,11 @@ const LONGEST_SOCKET: usize = 107;
 /// The rates that a serial line may have.
 pub const RATES: [u32; 13] =
     [1200, 2400, 4800, 9600, 19_200, 38_400, 57_600, 115_200, 230_400, 460_800, 500_000, 921_600, 1_000_000];
+
+/// Whether a path is one of a device, which is there or not, and is never made.
+pub fn is_of_devices(path: &Path) -> bool {
+    path.starts_with("/dev") && !path.starts_with("/dev/shm")
+}
 
 /// Reads a settings file, or says what is wrong with it, a line each.
 pub fn of_file(path: &Path) -> Result<Settings, Vec<String>> {
@@ -537,6 +553,7 @@ impl Reader<'_> {
     fn settings(&mut self, it: Document) -> Settings {
         let directory = self.number_or("directory", &it.directory, 63, 1..=64);
         let (media, blocks) = self.media(&it, directory);
+        let overwrite = self.overwrite(&it, &media);
         // (the number of a medium of a row has room after it)
         let volume = self.word("volume", &it.volume, if media.len() > 1 { 31 - DIGITS } else { 32 });
         let nodes = self.number_or("nodes", &it.nodes, 1000, 1..=32_765);
@@ -611,6 +628,9 @@ impl Reader<'_> {
         Settings {
             file: PathBuf::new(),
             media,
+            overwrite,
+            marks: it.marks.as_ref().map(|it| self.path(it.get_ref())),
+            kept: (self.number_or("kept_mib", &it.kept_mib, 32, 1..=4096) << 20) as usize,
             blocks: blocks as usize,
             directory: directory as usize,
             script,
@@ -757,6 +777,21 @@ impl Reader<'_> {
         (media, blocks)
     }
 
+    /// Whether the oldest medium is overwritten. A device has nothing beside it that could be a mark.
+    fn overwrite(&mut self, it: &Document, media: &[PathBuf]) -> bool {
+        let Some(at) = it.overwrite.as_ref().filter(|at| *at.get_ref()) else { return false };
+        if media.len() < 2 {
+            self.fault(at, "overwrite = true: it wants `media` with two or more; without it nothing is overwritten".to_string());
+        }
+        if it.marks.is_none()
+            && let Some(path) = media.iter().find(|it| is_of_devices(it))
+        {
+            let what = "nothing beside it can mark that it is to be kept; give a folder for marks, as marks = \"/var/lib/r10\"";
+            self.fault(at, format!("overwrite = true: {path:?} is a device, and {what}"));
+        }
+        true
+    }
+
     /// No two things have one path: what one writes the other would read, or take away.
     fn paths(&mut self, it: &Document, media: &[PathBuf]) {
         let mut named: Vec<_> = it.medium.iter().map(|at| ("medium", at)).collect();
@@ -765,6 +800,7 @@ impl Reader<'_> {
         named.extend(it.acknowledge.iter().map(|at| ("acknowledge", at)));
         named.extend(it.control.token.iter().map(|at| ("control.token", at)));
         named.extend(it.group.iter().map(|at| ("group", at)));
+        named.extend(it.marks.iter().map(|at| ("marks", at)));
         for input in it.channel.iter().filter_map(|it| it.input.as_ref()).map(Spanned::get_ref) {
             named.extend(input.serial.iter().map(|at| ("serial", at)));
             named.extend(input.lines.iter().filter(|at| at.get_ref() != Path::new("-")).map(|at| ("lines", at)));
@@ -1090,6 +1126,15 @@ input = { udp = \"127.0.0.1:20005\" }
             ("media = [\"c\"]", "line 5: control.socket = \"/f/c\": media has this path; give each a path of its own"),
             ("medium = \"m\"\nmedia = [\"a\"]", "line 1: medium: `media` is there too; take one of them out"),
             ("", "line 1: medium is missing: give a path, or `media` for several in a row"),
+            (
+                "medium = \"m\"\noverwrite = true",
+                "line 2: overwrite = true: it wants `media` with two or more; without it nothing is overwritten",
+            ),
+            (
+                "media = [\"a\", \"/dev/sdb\"]\noverwrite = true",
+                "line 2: overwrite = true: \"/dev/sdb\" is a device, and nothing beside it can mark that it is to be kept; \
+                 give a folder for marks, as marks = \"/var/lib/r10\"",
+            ),
             (folder, "line 2: blocks: `each` says how large a medium is; take the key out"),
         ] {
             assert_eq!(faults(&with(line))[..], [wanted.to_string()], "{line}");

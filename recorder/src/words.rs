@@ -42,7 +42,7 @@ impl No {
 }
 
 /// The words, what follows them, and what they do: `.HELP` prints them.
-pub const WORDS: [(&str, &str, &str); 28] = [
+pub const WORDS: [(&str, &str, &str); 29] = [
     (".STATUS", "", "state, warnings, and how much of the medium is used"),
     (".RECORD", "[NAME]", "begins a file"),
     (".STOP", "", "ends the recording"),
@@ -60,6 +60,7 @@ pub const WORDS: [(&str, &str, &str); 28] = [
     (".SETUP", "[0]", "which setup is used: there is one"),
     (".TMATS", "READ | VERSION", "the setup text, or its release of the standard"),
     (".MEDIA", "", "bytes of a block, blocks used, blocks left"),
+    (".KEEP", "[MEDIUM [ON|OFF]]", "marks a medium of a row as one that is not overwritten, or takes the mark off"),
     (".MOUNT", "", "takes the medium up again"),
     (".DISMOUNT", "", "gives the medium up, so that it can be taken away; over the UNIX socket alone"),
     (".BIT", "", "tries settings, medium, clock, channels and log, without touching what is recorded"),
@@ -148,7 +149,7 @@ impl From<Refused> for Undone {
 fn changes(word: &str, words: &[&str]) -> bool {
     match word {
         ".RECORD" | ".STOP" | ".ERASE" | ".MOUNT" | ".DISMOUNT" | ".SHUTDOWN" | ".NOTE" => true,
-        ".EVENT" | ".FIND" => !words.is_empty(),
+        ".EVENT" | ".FIND" | ".KEEP" => !words.is_empty(),
         ".PUBLISH" => words.first().is_some_and(|it| !it.eq_ignore_ascii_case("LIST")),
         ".CRITICAL" => words.len() > 1,
         _ => false,
@@ -240,6 +241,7 @@ impl Owner {
                 String::new()
             }
             ".PUBLISH" => self.publish(&words)?,
+            ".KEEP" => self.keep_word(&words)?,
             ".NOTE" => {
                 let text = self.note_of_crew(&words.join(" "), &command.by)?;
                 self.begin_file()?;

@@ -7,6 +7,7 @@ import subprocess
 import time
 from typing import Optional
 
+from trials_of_alarms import standing
 from trials_of_losses import cut_off, log_lines, sums
 from trying import LONG, NotTried, Room, Service, Trail, Wrong, channel, entries, files, judge, lines_of, must, r10, settings, trial
 from trying import udp_channels, until
@@ -518,9 +519,10 @@ def failing_run(
     else:
         figures = service.until_durable(messages)
         durable, lost = (sum(it[key] for it in figures['channels']) for key in ('durable', 'lost'))
+        by = [it['lost_by'] for it in standing(service)['channels']]
         must(
-            durable + lost == messages,
-            f'operation {fail}: of {messages} messages {durable} are durable and {lost} lost:\n{service.log()}',
+            durable + lost == messages and all(it['disk'] == 0 for it in by),
+            f'operation {fail}: of {messages} messages {durable} are durable and {lost} lost, {by}:\n{service.log()}',
         )
     load.wait()
     service.end(status=None)
@@ -597,8 +599,8 @@ def disk_failures(room: Room, each: int = 9) -> str:
 
 @trial
 def a_disk_that_fails_twice(room: Room) -> str:
-    """A disk that fails, is opened again, and fails again before another message is durable: what was accepted is in the files, or
-    in the gap of the next message that is."""
+    """A disk that fails, is opened again, and fails again before another message is durable: what was accepted is in the files,
+    once, and what was refused is in the gap of the next message."""
     service = Service(
         room,
         settings(channel(13, 'discrete', 'lines = "pipe"'), blocks=16384, directory=63, commit_ms=10, tries=100),
@@ -633,28 +635,20 @@ def a_disk_that_fails_twice(room: Room) -> str:
         gap, lost = gap + found - lost, found
         return True
 
-    def lose() -> None:
-        """Sends messages over a disk that fails, until one is lost: an operation for the clock may come before it and fail."""
-        for states in range(1, 99):
-            fail()
-            if is_lost(states):
-                return
-        raise Wrong('no message was lost')
-
     with open(room.folder / 'pipe', 'w', encoding='ascii') as pipe:
         must(not is_lost(200), 'the first message is lost')
-        # one is lost, and the disk fails again before there is another
-        lose()
-        fail_now()
-        must(not is_lost(201), 'a message is lost on a disk that is well')
-        # the next one has the number of the lost in it, and is lost with it
-        for _ in range(20):
-            lose()
+        # messages over a disk that fails in each of them: an operation for the clock may come before one and fail
+        for states in range(1, 20):
             fail()
-            if is_lost(202):
-                break
-        # the number was given to the recorder, and the message that was to carry it is refused
+            must(not is_lost(states), f'message {states} is lost')
+        # one is refused, and the disk fails before there is another, and as that one comes
         must(is_lost(0x1FF), 'a state out of range is taken')
+        fail_now()
+        fail()
+        must(not is_lost(201), 'a message is lost')
+        # the number was given to the recorder, and the message that was to carry it is refused
+        must(is_lost(0x1FF) and is_lost(0x1FF), 'a state out of range is taken')
+        fail_now()
         fail_now()
         must(not is_lost(203), 'a message is lost on a disk that is well')
         figures = service.figures()

@@ -2,15 +2,19 @@
 from __future__ import annotations
 
 import collections
+import json
 import pathlib
 import random
 import re
 import shutil
+import subprocess
 import time
+from typing import Callable
 
 from trials_of_alarms import on, scraped, standing
 from trials_of_losses import log_lines
-from trying import HOST, NotTried, Room, Service, channel, entries, files, load_numbers, must, settings, trial, udp_channels, until
+from trying import CH10, HOST, NotTried, Room, Service, channel, entries, files, load_numbers, must, settings, trial
+from trying import udp_channels, until
 
 # what a file of a row says: lines `medium NUMBER VOLUME` stand before the lines of its files
 Places = dict[tuple[int, int, int], int]
@@ -177,7 +181,7 @@ def kills_in_a_row(room: Room, count: int = 4, seed: int = 1) -> str:
         service.wait_for('is full, and can be taken away' if number % 4 else ' is full')
         time.sleep(chance.choice((0, 0, 0.001, 0.01)))
         service.kill()
-        must('what was not committed may be lost' not in service.log(), service.log())
+        must('the medium is opened again' not in service.log(), service.log())
         load.kill()
         load.wait()
         acknowledged.update(acknowledged_of((room.folder / 'lines').read_text()))
@@ -191,32 +195,183 @@ def kills_in_a_row(room: Room, count: int = 4, seed: int = 1) -> str:
     return f"{count} kills, {counted}, {found['seams']} seams"
 
 
+def on_both(paths: list[pathlib.Path], acknowledged: Places, channels: list[int]) -> int:
+    """Of a row whose first medium failed: each message that was acknowledged is on one medium alone, and the others are there, in
+    order on each. How many messages there are; those that stand on both media, as that was not known, count once."""
+    count = 0
+    for it in channels:
+        found: list[list[int]] = []
+        for path in paths:
+            image = path.read_bytes() if path.exists() else b''
+            numbers = [
+                number
+                for file in range(len(files(image)) if image else 0)
+                for _, number, _ in load_numbers(entries(image, file, it))
+            ]
+            must(numbers == sorted(set(numbers)), f'{path} channel {it}: the messages are {numbers}')
+            found.append(numbers)
+        first, second = found
+        known = sum(count for (medium, _, number), count in acknowledged.items() if (medium, number) == (1, it))
+        must(len(first) >= known, f'channel {it}: {len(first)} messages, and {known} were acknowledged')
+        is_once = not known or not second or second[0] > first[known - 1]
+        must(is_once, f'channel {it}: {second[:1]} was acknowledged, and is there twice')
+        count += len(set(first) | set(second))
+    return count
+
+
+def run_with_a_failing_medium(room: Room, fail: str, count: int, rate: int) -> str:
+    """A run over two media, the first of which fails: nothing is lost for it. What became of it."""
+    ports = room.ports(2)
+    text = settings(udp_channels(ports), medium=None, media=['medium', 'medium-2'], blocks=16384, tries=1, commit_ms=10)
+    # (an operation for each commit and file, and each second)
+    service = Service(room, text, disk={'fail': fail, 'hit': room.folder / 'hit'})
+    load = room.load(ports, count=count, rate=rate, size=100)
+    figures = service.until(
+        lambda it: sum(at['durable'] + at['lost'] for at in it['channels']) >= count and it['state'] == 'recording', 'not all came'
+    )
+    load.wait()
+    by = {it['id']: it['lost_by'] for it in standing(service)['channels']}
+    service.end()
+    paths = [room.folder / 'medium', room.folder / 'medium-2']
+    lost = sum(it['lost'] for it in figures['channels'])
+    found = on_both(paths, acknowledged_of((room.folder / 'lines').read_text()), [5, 6])
+    is_all = found + lost == count and all(it['disk'] == 0 for it in by.values())
+    must(is_all, f'{fail}: {found} of {count}, {by}:\n{service.log()}')
+    return service.log()
+
+
 @trial
 def a_row_with_a_medium_that_fails(room: Room) -> str:
     """A medium that fails for good is given up after its tries, and the recording goes on on the next one: what was acknowledged is
-    on the first, and what was not is there or in a gap of the next."""
+    on the first, and what was not is on the next, whichever operation of the disk is the first that fails."""
     if not room.has_disk:
         raise NotTried('there is no cc for recorder/tests/disk.c')
-    ports = room.ports(2)
-    text = settings(udp_channels(ports), medium=None, media=['medium', 'medium-2'], blocks=16384, tries=2)
-    # (an operation for each commit and file, and each second)
-    service = Service(room, text, disk={'fail': '60+:5'})
-    count = 4000
-    load = room.load(ports, count=count, rate=2000, size=100)
-    service.wait_for('medium-2 (TRIAL-002)')
-    must('medium (TRIAL-001) is given up: ' in service.log(), service.log())
-    load.wait()
-    figures = service.until_durable(count)
-    must(figures['state'] == 'recording' and figures['medium']['volume'] == 'TRIAL-002', f'{figures}')
+    count, hits = 600, 0
+    for number in (1, 2, 3, 4, 5, 7, 10, 14, 19, 25, 32):
+        for name in ('medium', 'medium-2', 'lines', 'hit'):
+            (room.folder / name).unlink(missing_ok=True)
+        log = run_with_a_failing_medium(room, f'{number}+:5', count, 3000)
+        if not (room.folder / 'hit').exists():
+            break
+        hits += 1
+        must('medium (TRIAL-001) is given up: ' in log, log)
+        two = (room.folder / 'medium-2').read_bytes()
+        lines = [it for file in range(len(files(two))) for it in log_lines(two, file)]
+        named = [it for it in lines if it.word == 'medium' and it.keys['state'] == 'failed']
+        must(named or any('is given up' in it.keys.get('text', '') for it in lines), 'the log channel does not name it')
+    must(hits > 5, f'{hits} runs met a failure')
+    return f'{hits} runs of {count} messages, each on one medium or, of what was not acknowledged, on both'
+
+
+def ch10(words: list[object]) -> subprocess.CompletedProcess[str]:
+    return subprocess.run([CH10, *map(str, words)], capture_output=True, text=True, stdin=subprocess.DEVNULL)
+
+
+def says(text: str) -> Callable[[str], bool]:
+    """Whether a log has a text."""
+    return lambda log: text in log
+
+
+def grows(path: pathlib.Path) -> Callable[[str], bool]:
+    """Whether a file has more than now, whatever a log says."""
+    before = path.stat().st_size if path.exists() else 0
+    return lambda _: path.exists() and path.stat().st_size > before
+
+
+def json_words(lines: str) -> list[int]:
+    """The numbers of messages, out of lines of JSON."""
+    return [int(json.loads(it)['bytes'][:8], 16) for it in lines.splitlines()]
+
+
+def pipe_words(image: bytes) -> list[int]:
+    """The numbers of messages that came by a pipe."""
+    return [int(it.words[-1][:8], 16) for file in range(len(files(image))) for it in entries(image, file, 5)]
+
+
+@trial
+def a_row_that_overwrites(room: Room) -> str:
+    """With `overwrite` the oldest closed medium is recorded on anew, and none that is marked. What stays are the last messages,
+    without one missing. A service that is killed while the files go from a medium goes on."""
+    text, paths = row_text(room, channel(5, 'message', 'lines = "pipe"'), 3, overwrite=True, blocks=1024)
+    paths = [room.folder / it for it in ('medium', 'medium-2', 'medium-3')]
+    text = text.replace('["medium-1", "medium-2", "medium-3"]', '["medium", "medium-2", "medium-3"]')
+    body, sent = 'ab' * 1000, 0
+
+    def fill(service: Service, holds: Callable[[str], bool]) -> None:
+        """Sends messages until something holds of the log."""
+        nonlocal sent
+        with open(room.folder / 'pipe', 'w') as pipe:
+            while not holds(service.log()):
+                pipe.write(f'bytes = "{sent:08x}{body}"\n')
+                pipe.flush()
+                sent += 1
+                must(service.child.poll() is None, service.log())
+                if sent % 50 == 0:
+                    wanted = sent - before
+                    service.until(lambda it: sum(it['channels'][0][at] for at in ('durable', 'waiting')) + 16 >= wanted, 'it hangs')
+
+    before = 0
+    service = Service(room, text)
+    fill(service, lambda it: it.count('is overwritten: it held ') >= 4)
+    service.until(lambda it: it['channels'][0]['durable'] == sent, 'not all is durable')
+    service.ask('.STOP')
+    places = [it for it in re.findall(r'medium \S+ \(TRIAL-00(\d)\) is overwritten', service.log())]
+    must(places[:4] == ['1', '2', '3', '1'], f'they are overwritten in the order {places}')
     service.end()
-    paths = [room.folder / 'medium', room.folder / 'medium-2']
-    found = read_row(paths, acknowledged_of((room.folder / 'lines').read_text()), [5, 6])
-    lost = sum(it['lost'] for it in figures['channels'])
-    # (of what was not acknowledged some may be there, and is counted as lost all the same)
-    must(found['untold'] == 0 and found['messages'] + lost >= count > found['messages'] and found['seams'] == 1, f'{found}, {lost}')
-    lines = [it for file in range(len(files(paths[1].read_bytes()))) for it in log_lines(paths[1].read_bytes(), file)]
-    must(any(it.word == 'medium' and it.keys['state'] == 'failed' for it in lines), 'the log channel does not name it')
-    return f"{found['messages']} messages on two media, {lost} lost"
+    images = sorted((pipe_words(it.read_bytes()) for it in paths), key=lambda it: it[:1])
+    numbers = [it for image in images for it in image]
+    is_all = numbers == list(range(numbers[0], sent)) and numbers[0] > 0
+    must(is_all, f'{numbers[0]} to {numbers[-1]} of {sent}, not one after another')
+    lines = [it for path in paths for file in range(len(files(path.read_bytes()))) for it in log_lines(path.read_bytes(), file)]
+    held = [it for it in lines if it.word == 'medium' and it.keys['state'] == 'overwritten']
+    must(held and all(int(it.keys['files']) > 0 and re.match(r'\d{4}-\d\d-\d\d ', it.keys['from']) for it in held), f'{lines}')
+    # ch10 reads them as one: by the time at which they begin, in whichever order they are named, over their seams
+    ran = ch10(['json', '--raw', '--channel', '5', '--media', paths[1], '--media', paths[0], '--media', paths[2]])
+    must(json_words(ran.stdout) == numbers and not ran.stderr, f'{ran.stderr}')
+    listed = ch10(['summary', '--media', room.folder]).stdout
+    must(f'volume TRIAL, {sum(len(files(it.read_bytes())) for it in paths)} files' in listed, listed)
+    csv = ch10(['csv', '--raw', '--channel', '5', '--media', room.folder]).stdout
+    must(csv.count('channel,') == 1 and len(csv.splitlines()) == 1 + len(numbers), csv[:300])
+    # one that is missing, or damaged, is named
+    ran = ch10(['json', '--raw', '--channel', '5', '--media', paths[0], '--media', paths[2]])
+    left = [it for image in sorted((pipe_words(paths[at].read_bytes()) for at in (0, 2)), key=lambda it: it[:1]) for it in image]
+    must(json_words(ran.stdout) == left, 'two media are read otherwise')
+    must('medium TRIAL-002 is missing: what it has is not here' in ran.stderr, ran.stderr)
+    (room.folder / 'damaged').write_bytes(b'x' * 4096)
+    ran = ch10(['summary', '--media', paths[0], '--media', room.folder / 'damaged'])
+    must('/damaged: ' in ran.stderr and 'its files are not here' in ran.stderr and ran.stdout, ran.stderr)
+    must(ch10(['svg', '--media', room.folder]).returncode == 2, 'a picture of many files is drawn')
+    # it begins where it was, and a kill while the files go from the next one leaves all or none of them
+    if not room.has_disk:
+        return f'{len(numbers)} messages on three media, the last of {sent}'
+    kills = 0
+    while kills < 3:
+        (room.folder / 'trail').unlink(missing_ok=True)
+        before = sent
+        service = Service(room, text, disk={'trail': room.folder / 'trail', 'slow': 200_000})
+        place = service.figures()['medium']['number']
+        if place != 3:
+            fill(service, says(f'recording goes on on {paths[place]}'))
+            service.end()
+            continue
+        # (nothing is written to the first medium but its new directory)
+        held_before = files(paths[0].read_bytes())
+        fill(service, grows(room.folder / 'trail'))
+        service.kill()
+        kills += 1
+        now = files(paths[0].read_bytes())
+        must(now in ([], held_before), f'the killed one has {now}, and had {held_before}')
+        before = sent
+        service = Service(room, text)
+        service.wait_for(': recording')
+        fill(service, lambda it: 'recording goes on on' in it)
+        must(service.figures()['state'] == 'recording', service.log())
+        service.end()
+    for path in paths:
+        must(all(it[-1] == '1' for it in files(path.read_bytes())), f'{path} has a file that is not closed')
+        found = pipe_words(path.read_bytes())
+        must(found == sorted(set(found)), f'{path}: {found}')
+    return f'{len(numbers)} messages on three media, the last of {sent}; {kills} kills'
 
 
 @trial
