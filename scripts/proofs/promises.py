@@ -6,7 +6,8 @@
     scripts/proofs/promises.py --list     prints a line for each clause that the table names: promise, function, clause, file
 
 A clause speaks of definitions, and these of others. The page has the names of those that a clause names, with a sum over the texts
-of these and of all that they stand on, near and far. So whoever changes a promise, or a word that it stands on, changes a line of
+of these and of all that they stand on, near and far. Clauses of the same function that no promise names have their names there, and
+one sum over their texts and all that these stand on. So whoever changes a promise, or a word that it stands on, changes a line of
 the page, and the gate fails until the page is made anew. Comments do not count, nor does how lines are broken.
 What a sum covers `scripts/proofs/reads.py` says: definitions, types of the code with what contracts see of them, traits with their
 contracts. Of the toolchain's definitions the names count, with the module that each is from.
@@ -168,10 +169,18 @@ def place_of(path: str) -> str:
     return f'[{path.removeprefix("crates/")}](../{path})'
 
 
-def contract_of(item: Item) -> str:
-    """A contract without comments."""
-    lines = [it.rstrip() for it in without_comments(item.text).split('\n')]
-    return '\n'.join(it for it in lines if it.strip() and not it.strip().startswith('#['))
+def is_beside(name: str, text: str, promises: list[Promise]) -> bool:
+    """Whether a clause states something that no promise names."""
+    return text.startswith('ensures') and (name if name != 'ensures' else '') not in {it.clause for it in promises}
+
+
+def contract_of(item: Item, promises: list[Promise]) -> str:
+    """A contract without comments, and without the clauses that no promise names."""
+    bare = without_comments(item.text)
+    for name, text in clauses_of(bare):
+        bare = bare.replace(text, '', 1) if is_beside(name, text, promises) else bare
+    lines = [it.rstrip() for it in bare.split('\n')]
+    return '\n'.join(it for it in lines if it.strip(' ;') and not it.strip().startswith('#['))
 
 
 def words_of_toolchain(tree: Tree, item: Item, bound: frozenset[str]) -> list[str]:
@@ -195,11 +204,19 @@ def section_of(sums: Sums, item: Item, promises: list[Promise]) -> list[str]:
     head, bound = bound_of(item)
     named = ', '.join(f'{f"`{it.clause}`" if it.clause else "its one clause"} (promise {it.number})' for it in promises)
     out = [f'### `{item.name}`', '', f'{place_of(item.path)}: {named}.', '',
-           '```', contract_of(item), '```', '']
+           '```', contract_of(item, promises), '```', '']
+    beside: list[tuple[str, str]] = []
+    below: list[Item] = []
     for name, text in clauses_of(without_comments(item.text)):
         found = definitions_of(tree, item, text, bound)
         word = f'`{name}`' if name not in ('requires', 'ensures') else name
-        out += [row_of(sums, word, found)] if found else []
+        if is_beside(name, text, promises):
+            beside.append((word, ' '.join(text.split())))
+            below += [it.item for it in found]
+        else:
+            out += [row_of(sums, word, found)] if found else []
+    if beside:
+        out.append(f'- beside these: {", ".join(it[0] for it in beside)}: {sums.total(below, *(it[1] for it in beside))}')
     types = [Definition(it.name, it) for it in tree.names_in(item, head, bound)]
     return [*out, row_of(sums, 'types', types, *words_of_toolchain(tree, item, bound)), '']
 
@@ -224,9 +241,9 @@ def page_of(tree: Tree) -> str:
         'Made by `scripts/proofs/promises.py` from the table and the sources, and compared by the gate. So a change of a promise,',
         'or of a word that it stands on, changes a line here.',
         '',
-        f'Here are the contracts of {len(clauses)} clauses of {len(by_item)} functions: each whole, without comments.',
+        f'Here are {len(clauses)} clauses of {len(by_item)} functions, with what each function asks, without comments.',
         'Below each stand the definitions that its clauses name, and a sum over these and all that they stand on, near and far.',
-        'The sum of *types* is also over the words of the toolchain in the contract.',
+        '*Beside these* are the other clauses of the contract, with a sum. That of *types* is also over words of the toolchain.',
         '`scripts/proofs/reads.py NAME` prints all texts.',
         '',
     ]

@@ -30,7 +30,7 @@ from typing import Iterator, NamedTuple
 TOP = Path(__file__).resolve().parents[2]
 PAGE = TOP / 'docs' / 'THEOREM.md'
 THEOREM = 'record_all'
-# So many steps below the clauses the page has the text of each definition; further down it has a sum over each.
+# So many steps below the clauses the page has the text of each definition; further down it has sums.
 IN_FULL = 1
 # The parts in which what the theorem stands on is read, one at a time: with the crates and the files that have it.
 PARTS = {
@@ -80,9 +80,10 @@ def without_comments(text: str) -> str:
     return re.sub(r'(?m)(?:--|//).*$', '', text)
 
 
-def sum_of(item: Item) -> str:
-    """A sum over a text: comments do not count, nor does how lines are broken."""
-    return hashlib.sha256(' '.join(without_comments(item.text).split()).encode()).hexdigest()[:8]
+def sum_over(items: list[Item]) -> str:
+    """A sum over some texts: comments do not count, nor does how lines are broken."""
+    texts = [f'{it.name} {" ".join(without_comments(it.text).split())}' for it in items]
+    return hashlib.sha256('\n'.join(texts).encode()).hexdigest()[:12]
 
 
 def over(lines: list[str], at: int, mark: str) -> int:
@@ -510,7 +511,7 @@ def page_of(tree: Tree) -> str:
         f'The theorem about a whole recording is `{THEOREM}` in [{where}](../{item.path}). '
         'Its clause `records` needs no word of a recorder.',
         'Here stands its contract, and then all that it stands on, in three parts that can be read one after the other.',
-        'Those right below a clause have their text here. The others stand by their files, each with a sum over its text:'
+        'Those right below a clause have their text here. The others stand by their files, with a sum over the texts of a file:'
         ' so each change of one is a line in the diff that makes it.',
         '',
         f"In all: {sums_of(found)}, without comments. The toolchain's definitions are not among them ({len(tree.outside)} names).",
@@ -535,7 +536,7 @@ def page_of(tree: Tree) -> str:
         for it in (read.item for read in reads if read.step > IN_FULL):
             by_file[link_to(it)].append(it)
         for link, its in by_file.items():
-            out += [f'{link}:', *(f'`{it.name}` {sum_of(it)}' + (',' if it != its[-1] else '') for it in its), '']
+            out += [f'{link}, {sum_over(its)}:', *(f'`{it.name}`' + (',' if it != its[-1] else '') for it in its), '']
     return '\n'.join(out).rstrip('\n') + '\n'
 
 

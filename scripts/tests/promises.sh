@@ -125,14 +125,18 @@ check "and is what would be written" ends 0 ""
 check "what stands there by hand stays" is "$(sed -n '1p;/^| 1 |/p;/^## /p' "$room/docs/PROMISES.md" | cut -c 1-20)" \
     "$(printf '%s\n' '# The promises' '## What is promised' '| 1 | It is. And on.' '## The contracts')"
 check "and may be changed" changes 0 "$room/docs/PROMISES.md" 's/^# The promises/# All promises/'
-check "it has a contract whole, without its comments" is \
-    "$(grep -c 'requires low\|ensures counted\|ensures same\|ensures { IsC\|no promise\|It counts' "$room/docs/PROMISES.md")" 5
+check "it has what is asked and what is promised, without comments" is \
+    "$(grep -c 'requires low\|ensures counted\|ensures same\|ensures { IsC\|no promise\|It counts' "$room/docs/PROMISES.md")" 4
+check "and the name of a clause beside, with a sum" is \
+    "$(grep -c '^- beside these: `same`: [0-9a-f]\{12\}$' "$room/docs/PROMISES.md")" 1
 check "and what a type gives for a word of a trait" says "$(cat "$room/docs/PROMISES.md")" '`took of Ring`'
 
 readonly change="a promise, or what it stands on"
 check "a clause that is emptied is seen" \
     changes 1 "$high/src/lib.rt" 's/ensures counted { IfOk.*/ensures counted { result ≡ result }/' "$change"
 check "so is a clause beside it" changes 1 "$high/src/lib.rt" 's/ensures same.*//' "$change"
+check "and one that says another thing" \
+    changes 1 "$high/src/lib.rt" 's/ensures same { result ≡ result }/ensures same { result ≡ Ok a }/' "$change"
 check "and what is asked" changes 1 "$high/src/lib.rt" 's/requires low { a ≡ 0 }/requires low { a ≡ 1 }/' "$change"
 check "and the function of one clause" \
     changes 1 "$high/src/lib.rt" 's/ensures { IsCount result }/ensures { result ≡ result }/' "$change"
