@@ -25,6 +25,12 @@ def block_1553(status: int) -> Tuple[str, str]:
     return 'B' if status >> 13 & 1 else 'A', named(status, ERRORS_1553)
 
 
+@lru_cache(maxsize=1 << 11)
+def flags_1553(status: int) -> str:
+    """The flags of a status word by name."""
+    return named(status, FLAGS_1553)
+
+
 @lru_cache(maxsize=1 << 16)
 def command_1553(command: Optional[int]) -> tuple:
     """Of a command word: RT, R (the terminal receives) or T (it transmits), subaddress, word count (1 to 32), and in place of that
@@ -63,7 +69,18 @@ def changed_bits(before: Optional[int], states: int, number: int) -> str:
     """Which discretes came on (+) and went off (-) since the states before."""
     if before is None or before == states:
         return ''
-    return ' '.join('%s%d' % ('+' if states >> bit & 1 else '-', bit) for bit in range(number) if (before ^ states) >> bit & 1)
+    differ, said, first = (before ^ states) & ((1 << number) - 1), [], 0
+    while differ:
+        if differ & 15:
+            said.append(changed_four(first, differ & 15, states & differ & 15))
+        differ, states, first = differ >> 4, states >> 4, first + 4
+    return ' '.join(said)
+
+
+@lru_cache(maxsize=None)
+def changed_four(first: int, differ: int, states: int) -> str:
+    """The same of four discretes from this one on, of which some differ."""
+    return ' '.join('%s%d' % ('+' if states >> bit & 1 else '-', first + bit) for bit in range(4) if differ >> bit & 1)
 
 
 def text_of(data: bytes) -> str:

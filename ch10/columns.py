@@ -28,6 +28,8 @@ LONGEST = 512  # bytes of a text that are taken together with others; longer one
 ROOM = bytes(4 * LONGEST)  # after bytes that columns are parts of
 FEW = 24  # packets below which one after the other is quicker
 NONE = -1  # of states before an entry that has none before
+NO_WORD = 1 << 16  # where a message has no such word
+MOST_DENSE = 8  # numbers for each key, up to which a table has all of them
 
 
 # ---- the bodies of packets
@@ -330,10 +332,47 @@ class Coded(Group):
         return columns[0] if self.number == 1 else list(zip(*columns))
 
     def columns(self) -> List[List[Value]]:
-        some, places = numpy.unique(self.keys, return_inverse=True)
+        some, places = distinct(self.keys)
         made = list(map(self.make, some.tolist()))
         rows: List[Value] = [made] if self.number == 1 else list(zip(*made)) if made else [()] * self.number
-        return [held(row)[places.reshape(-1)].tolist() for row in rows]
+        return [held(row)[places].tolist() for row in rows]
+
+
+def distinct(keys: Array) -> Tuple[Array, Array]:
+    """Which numbers there are, from the lowest on, and of each key the place of its number there."""
+    top = int(keys.max()) + 1 if len(keys) else 0
+    if top > MOST_DENSE * len(keys) or not len(keys) or int(keys.min()) < 0:
+        some, places = numpy.unique(keys, return_inverse=True)
+        return some, places.reshape(-1)
+    table = numpy.zeros(top, numpy.int64)
+    table[keys] = 1
+    some = numpy.flatnonzero(table)
+    table[some] = numpy.arange(len(some))
+    return some, table[keys]
+
+
+class HexWords(Coded):
+    """Words of 16 bits as four hex digits; none where a number is NO_WORD."""
+
+    def __init__(self, words: Array) -> None:
+        Coded.__init__(self, words, lambda word: None if word == NO_WORD else '%04x' % word)
+
+    def columns(self) -> List[List[Value]]:
+        text = hex_text(self.keys & 0xFFFF, 4)
+        found: List[Value] = [text[at:at + 4] for at in range(0, len(text), 4)]
+        for place in numpy.flatnonzero(self.keys == NO_WORD).tolist():
+            found[place] = None
+        return [found]
+
+
+def hex_rows(values: Array, digits: int) -> Array:
+    """Numbers as so many hex digits, 2, 4 or 8: a row for each."""
+    return numpy.frombuffer(hexlify(values.astype('>u%d' % (digits // 2)).tobytes()), numpy.uint8).reshape(-1, digits)
+
+
+def hex_text(values: Array, digits: int) -> str:
+    """The same as one text."""
+    return values.astype('>u%d' % (digits // 2)).tobytes().hex()
 
 
 class Hexed(Group):
@@ -343,13 +382,12 @@ class Hexed(Group):
         self.array, self.digits = values, digits
 
     def values(self) -> List[Value]:
-        form = '%%0%dx' % self.digits
-        return [form % value for value in self.array.tolist()]
+        text, digits = hex_text(self.array, self.digits), self.digits
+        return [text[at:at + digits] for at in range(0, len(text), digits)]
 
     def rows(self) -> Array:
         """The digits, a row for each."""
-        some = self.array.astype('>u%d' % (self.digits // 2))
-        return numpy.frombuffer(hexlify(some.tobytes()), numpy.uint8).reshape(-1, self.digits)
+        return hex_rows(self.array, self.digits)
 
 
 class Octets(Group):
@@ -360,11 +398,12 @@ class Octets(Group):
         self.source, self.start, self.size, self.then, self.rest = source, start, size, then, rest
 
     def values(self) -> List[Value]:
-        data = self.source.tobytes()
-        found = [data[at:at + size] for at, size in zip(self.start.tolist(), self.size.tolist())]
-        if self.then is not None:
-            found = [one + data[at:at + size] for one, at, size in zip(found, self.then.tolist(), self.rest.tolist())]
-        return [one.decode() for one in found]
+        data = str(self.source, 'ascii')
+        ends = self.start + self.size
+        if self.then is None or not self.rest.any():
+            return [data[at:end] for at, end in zip(self.start.tolist(), ends.tolist())]
+        return [data[at:end] + data[then:last] for at, end, then, last in zip(
+            self.start.tolist(), ends.tolist(), self.then.tolist(), (self.then + self.rest).tolist())]
 
 
 def octets_of(block: Block, more: Union[int, Array], size: Array) -> Octets:
@@ -396,9 +435,25 @@ class Printed(Group):
         self.data, self.start, self.size = block.batch.held('whole', lambda: block.batch.octets.tobytes()), block.at + more, size
         self.batch = block.batch
 
+    def classes(self) -> Array:
+        """Of each entry the classes of its bytes, of which one that does not print is 8; 8 where it has none."""
+        classes = self.batch.held('classes', lambda: numpy.frombuffer(self.data.translate(CLASSES), numpy.uint8))
+        ends = numpy.stack([self.start, self.start + self.size], 1).reshape(-1)
+        return numpy.where(self.size > 0, numpy.bitwise_or.reduceat(classes, ends)[::2], 8)
+
     def values(self) -> List[Value]:
-        data = self.data
-        return [text_of(data[at:at + size]) for at, size in zip(self.start.tolist(), self.size.tolist())]
+        found, data = [''] * len(self.start), self.data
+        if found:
+            some = numpy.flatnonzero(self.classes() & 8 == 0)
+            for place, at, size in zip(some.tolist(), self.start[some].tolist(), self.size[some].tolist()):
+                found[place] = text_of(data[at:at + size])
+        return list(found)
+
+
+# Of each byte: 8 where it does not print, 4 where it is written as two, 1 for a quote, 2 for a comma.
+CLASSES = bytes(8 if not (0x20 <= value < 0x7F or value in (9, 10, 13)) else 4 if value in (9, 10, 13, 0x5C) else 1 if value == 0x22
+                else 2 if value == 0x2C else 0
+                for value in range(256))
 
 
 class Bits(Group):

@@ -4,13 +4,14 @@ from __future__ import annotations
 
 from argparse import Namespace
 from copy import copy
+from functools import lru_cache
 import os
 import sqlite3
 from typing import Iterable, Iterator, List, Optional, Sequence, Tuple
 
-from .arrays import numpy
+from .arrays import Array, numpy
 from .bodies import MEANT, by_kind, read
-from .clocks import TimeLine, asked_of
+from .clocks import Clock, TimeLine, asked_of
 from .columns import NONE, Block, columns_of
 from .doubts import KINDS_READ, NO_SETUP, doubts_of, has_no_setup, judge, unread_in
 from .fields import Reader
@@ -24,7 +25,8 @@ from .replay import Ordered, Part
 from .standard import COUNT_BITS, Data, Fault, Value, Wrong
 from .store_schema import MOST_NUMBER
 from .survey import Survey, counts_of, name_of
-from .vector import between, in_order
+from .times import SECOND, civil
+from .vector import Decimals, between, in_order
 
 FRONT = (('file', WHOLE), ('channel', WHOLE), ('name', TEXT), ('count', WHOLE), ('time', TEXT), ('lost', WHOLE))
 TABLES = {kind.type: kind.word for kind in sorted(KINDS, key=lambda kind: kind.type)}
@@ -77,6 +79,25 @@ def columns_for(measured: Measured) -> Iterator[Tuple[int, str]]:
             yield kind, 'ALTER TABLE "%s" ADD COLUMN "%s" REAL' % (TABLES[kind], name.replace('"', '""'))
 
 
+# How a column says None by another value, of numbers and of texts: a text is no number, and no number a text.
+NONE_AS, EMPTY = ("nullif(?, '')", 'nullif(?, 0)'), ('', 0)
+
+
+def literal(column: Sequence[Value]) -> Optional[str]:
+    """The one value of a column, as a statement of SQL says it; None where there are several, or where it is better bound."""
+    value = column[0]
+    if value.__class__ not in PLAIN or value != column[-1] or column.count(value) < len(column):
+        return None
+    if value is None:
+        return 'NULL'
+    if value.__class__ is str:
+        return "'%s'" % value if value.isascii() and value.isprintable() and "'" not in value else None
+    return '%d' % value if value % 1 == 0 and 0 <= value < 1 << 53 else None
+
+
+PLAIN = (None.__class__, bool, int, float, str)
+
+
 class Database:
     """A new database in a file beside the one that is asked for, whose place it takes when it is whole."""
 
@@ -111,6 +132,25 @@ class Database:
     def add(self, table: str, rows: Iterable[Sequence[Value]]) -> None:
         """Adds rows to a table, each with all its columns."""
         self.base.executemany(self.inserts[table], rows)
+
+    def add_columns(self, kind: int, columns: Sequence[Sequence[Value]], more: Sequence[Sequence[Value]] = ()) -> None:
+        """Adds rows to a kind's table, given as columns; then those of measurements.
+
+        Python's sqlite3 takes long to bind None, and what is the same in each row need not be bound: it stands in the statement.
+        """
+        words: List[str] = []
+        some: List[Sequence[Value]] = []
+        for (_, form), column in zip(COLUMNS[kind], columns):
+            word = literal(column)
+            if word is None and None in column:
+                word, column = NONE_AS[form == TEXT], [EMPTY[form == TEXT] if value is None else value for value in column]
+                some.append(column)
+            elif word is None:
+                some.append(column)
+            words.append(word or '?')
+        words, some = words + ['?'] * len(more), [*some, *more]
+        rows: Iterable[Tuple] = zip(*some) if some else [()] * len(columns[0])
+        self.base.executemany('INSERT INTO "%s" VALUES (%s)' % (TABLES[kind], ', '.join(words)), rows)
 
     def name_of(self, place: int) -> str:
         """Where the database of a process is."""
@@ -276,19 +316,51 @@ def add_part(base: Database, number: int, ordered: Ordered, part: Part, reader: 
         if not len(block):
             continue
         counts, lost = (block.count & COUNT_BITS).tolist(), lost_of(block)
-        times = clock.texts(block.count.tolist()) if clock else [None] * len(block)
+        times = times_of(clock, block.count)
         names = [reader.names.channel(channel) or None for channel in reader.numbering.channels]
         channels = block.columns['number'].tolist()
         columns: List[Sequence] = [[number] * len(block), channels, list(map(names.__getitem__, block.channel.tolist())), counts,
                                    times, lost, *columns_of(MEANT[kind](block, reader))]
-        rows: Iterable[Tuple] = zip(*columns)
         more = base.measured.rows(block, reader.numbering) if base.measured else None
-        base.add(TABLES[kind], rows if more is None else [(*row, *more(entry)) for entry, row in enumerate(rows)])
+        base.add_columns(kind, columns, () if more is None else list(zip(*map(more, range(len(block))))))
         for at in numpy.flatnonzero(block.columns['flagged']).tolist():
             losses.append((int(block.columns['order'][at]),
                            (number, channels[at], name_of(kind), counts[at], times[at], lost[at])))
     losses.sort(key=lambda one: one[0])
     base.add('losses', [row for _, row in losses])
+
+
+def times_of(clock: Optional[Clock], instants: Array) -> Sequence[Optional[str]]:
+    """The civil times of some instants, as texts."""
+    if clock is None:
+        return [None] * len(instants)
+    low, high = int(instants.min()), int(instants.max())
+    if not clock.is_plain(low, high):
+        return clock.texts(instants.tolist())
+    starts = numpy.array(clock.starts, numpy.int64)
+    places = numpy.maximum(numpy.searchsorted(starts, instants, 'right') - 1, 0) if high >= starts[0] else 0
+    ticks = instants + numpy.array(clock.aheads, numpy.int64)[places]
+    first, last = int(ticks.min()) // SECOND, int(ticks.max()) // SECOND
+    if last - first > len(instants):
+        return clock.texts(instants.tolist())
+    seconds = [civil(second * SECOND, clock.dated) or '' for second in range(first, last + 1)]
+    wide = len(seconds[0])
+    if not wide or any(len(second) != wide for second in seconds):
+        return clock.texts(instants.tolist())
+    ticks -= first * SECOND
+    second = ticks // SECOND
+    rows = numpy.empty((len(ticks), wide + 8), numpy.uint8)
+    rows[:, :wide] = numpy.frombuffer(''.join(seconds).encode(), numpy.uint8).reshape(-1, wide)[second]
+    rows[:, wide] = ord('.')
+    rows[:, wide + 1:] = decimals().right(ticks - second * SECOND, 2)[:, 1:]
+    text = str(rows, 'ascii')
+    return [text[at:at + wide + 8] for at in range(0, len(text), wide + 8)]
+
+
+@lru_cache(maxsize=None)
+def decimals() -> Decimals:
+    """What makes numbers into digits."""
+    return Decimals()
 
 
 def block_of(some: Sequence[Tuple[int, Packet, int, bool]], ordered: Ordered, part: Part, reader: Reader) -> Block:

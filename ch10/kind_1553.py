@@ -3,11 +3,11 @@ gap times and their length in bytes."""
 from __future__ import annotations
 
 from functools import lru_cache
-from typing import Dict, List, Optional, Tuple, TYPE_CHECKING
+from typing import Dict, List, Tuple, TYPE_CHECKING
 
 from .arrays import Array, numpy
-from .buses import FLAGS_1553, RT_TO_RT, block_1553, command_1553, named
-from .columns import Batch, Blobs, Block, Coded, Group, Hexed, Octets, Places, of_own_size
+from .buses import RT_TO_RT, block_1553, command_1553, flags_1553
+from .columns import NO_WORD, Batch, Blobs, Block, Coded, Group, HexWords, Hexed, Octets, Places, of_own_size
 from .standard import Data
 
 if TYPE_CHECKING:
@@ -16,7 +16,6 @@ if TYPE_CHECKING:
 LESS = 'less than its entries in a body'
 NUMBER = 0xFFFFFF
 LAST = (1 << 63) - 1
-NO_WORD = 1 << 16
 
 
 def find(batch: Batch) -> Places:
@@ -121,11 +120,6 @@ def raw(block: Block) -> Dict[str, Group]:
             'words': Octets(source, 2 * places_in(block.batch, block.at + 14), 2 * size)}
 
 
-def digits(word: int) -> Optional[str]:
-    """A word as four hex digits; None where there is none."""
-    return None if word == NO_WORD else '%04x' % word
-
-
 def meant(block: Block, reader: Reader) -> List[Group]:
     """The columns of csv: what command, status and errors mean. Gaps are in microseconds."""
     words = Words(block)
@@ -143,8 +137,8 @@ def meant(block: Block, reader: Reader) -> List[Group]:
               lambda key: command_1553((1 - (key >> 5)) << 5 | key & 31)[3:] if key < 64 else (None, None), 2),
         Coded(numpy.where(words.other < NO_WORD, words.other >> 6 & 0x3E0 | words.other >> 5 & 31, 1024),
               lambda key: (key >> 5, key & 31) if key < 1024 else (None, None), 2),
-        Coded(words.one, digits), Coded(words.two, digits),
-        Coded(flags & 0x7FF, lambda key: named(key, FLAGS_1553)),
+        HexWords(words.one), HexWords(words.two),
+        Coded(flags & 0x7FF, flags_1553),
         Coded(words.gap, lambda key: ((key & 0xFF) / 10, (key >> 8) / 10), 2)]
 
 

@@ -3,16 +3,17 @@ minor frames of PCM."""
 from __future__ import annotations
 
 from argparse import Namespace
-from typing import Callable, Dict, Iterator, List, Optional, Tuple
+from typing import Callable, Dict, Iterator, List, Optional, Tuple, TYPE_CHECKING
 
 from .arrays import Array, numpy
 from .columns import Block, Numbering
 from .inputs import Output
-from .pcm import Frames, Layout, value_of
-from .setup_units import of_setup
 from .standard import Fault, Wrong
 from .survey import Survey
-from .units import PCM, Measurement, Piece, measurements
+
+if TYPE_CHECKING:
+    from .pcm import Frames, Layout
+    from .units import Measurement
 
 MOST_SAID = 10  # measurements that are not read and are named
 Values = Dict[int, float]  # by the measurements' numbers
@@ -70,6 +71,8 @@ class Measured:
 
     def by_frame(self, found: Frames, layout: Layout, channel: int) -> List[Values]:
         """The values in each minor frame of a packet of PCM."""
+        from .pcm import value_of  # read when it is asked for: calls without measurements begin sooner
+        from .units import PCM, Piece
         made: List[Values] = [{} for _ in found.rows]
         begins, counter = layout.begins(), layout.counter
         for number in self.by_kind.get(PCM, ()):
@@ -106,8 +109,10 @@ def measured_of(asked: Namespace, survey: Survey, out: Output, only: Optional[Li
     """The measurements that a call asks for: those of its document, or, where it names none, those of the setup text. Of some names
     alone, in their order, where the call has such."""
     if asked.icd:
+        from .units import measurements
         some = measurements(asked.icd)
     else:
+        from .setup_units import of_setup
         some, why = of_setup(survey.names)
         for line in why[:MOST_SAID]:
             out.note(line)

@@ -10,8 +10,8 @@ from typing import Callable, Dict, Iterator, List, Optional, Union, TYPE_CHECKIN
 
 from .arrays import Array, Foreign, numpy
 from .bodies import read
-from .columns import (LONGEST, NONE, ROOM, Bits, Block, Changed, Coded, Each, Hexed, Number, Numbering, Octets, Printed, Ready,
-                      wide_view)
+from .columns import (LONGEST, NO_WORD, NONE, ROOM, Bits, Block, Changed, Coded, Each, Hexed, HexWords, Number, Numbering, Octets,
+                      Printed, Ready, hex_rows, wide_view)
 from .buses import changed_bits
 from .doubts import quality_of
 from .inputs import HELD
@@ -25,6 +25,7 @@ if TYPE_CHECKING:
 
 EACH = 4 << 20  # bytes of packets that a part has, or more
 TOGETHER = 40000  # entries whose lines are made at once
+MANY = 1000  # words, from which on a table of all words is made
 SECOND = 10 ** 7
 LAST_DAY = 3652059  # of the calendar
 LAST = (1 << 63) - 1
@@ -496,7 +497,10 @@ class Vector:
             values = group.make(key)
             return front + self.cells(kind, place, values if group.number > 1 else (values,)) + behind
 
-        return self.table(('coded', kind, place), text).pieces(group.keys)
+        table = self.table(('coded', kind, place), text)
+        if isinstance(group, HexWords) and not table.is_whole and len(group.keys) >= MANY:
+            fill_words(table, text(NO_WORD), text(0), len(front) + self.cells(kind, place, ('0000',)).index(b'0000'))
+        return table.pieces(group.keys)
 
     def cells(self, kind: int, first: int, values: tuple) -> bytes:
         """The cells of some columns of a kind, with what stands between them."""
@@ -545,9 +549,7 @@ class Vector:
     def printed(self, kind: int, group: Printed, place: int) -> List[Piece]:
         """Texts, with what has to be written otherwise written so, and in quotes where CSV wants them."""
         data, starts, sizes = group.data, group.start, group.size
-        classes = group.batch.held('classes', lambda: numpy.frombuffer(data.translate(CLASSES), numpy.uint8))
-        ends = numpy.stack([starts, starts + sizes], 1).reshape(-1)
-        found = numpy.where(sizes > 0, numpy.bitwise_or.reduceat(classes, ends)[::2], 8)
+        found = group.classes()
         prints = found & 8 == 0
         is_json = bool(self.form.quote)
         turned = numpy.flatnonzero(prints & (found & 5 != 0))
@@ -595,12 +597,20 @@ QUOTED = Hexed, Octets, Printed, Bits, Changed  # in quotes where a form has suc
 MAKERS: Dict[type, Callable[..., List[Piece]]] = {
     Number: Vector.numbers, Hexed: Vector.hexed, Octets: Vector.octets, Printed: Vector.printed, Bits: Vector.bits,
     Changed: Vector.changed, Each: Vector.each, Ready: Vector.ready}
-# Of each byte: 8 where it does not print, 4 where it is written as two, 1 for a quote, 2 for a comma.
-CLASSES = bytes(8 if not (0x20 <= value < 0x7F or value in (9, 10, 13)) else 4 if value in (9, 10, 13, 0x5C) else 1 if value == 0x22
-                else 2 if value == 0x2C else 0
-                for value in range(256))
 CSV_ESCAPES = {0x09: '\\t', 0x0D: '\\r', 0x0A: '\\n', 0x5C: '\\\\', 0x22: '""'}
 JSON_ESCAPES = {0x09: '\\\\t', 0x0D: '\\\\r', 0x0A: '\\\\n', 0x5C: '\\\\\\\\', 0x22: '\\"'}
+
+
+def fill_words(table: Table, none: bytes, zero: bytes, at: int) -> None:
+    """Fills a table with the texts of all words of 16 bits, that of 0 with its digits at a place, and that of none."""
+    wide = max(len(zero), len(none))
+    rows = numpy.zeros((NO_WORD + 1, wide), numpy.uint8)
+    rows[:NO_WORD, :len(zero)] = numpy.frombuffer(zero, numpy.uint8)
+    rows[:NO_WORD, at:at + 4] = hex_rows(numpy.arange(NO_WORD), 4)
+    rows[NO_WORD, :len(none)] = numpy.frombuffer(none, numpy.uint8)
+    lengths = numpy.full(NO_WORD + 1, len(zero))
+    lengths[NO_WORD] = len(none)
+    table.fill(rows, lengths)
 
 
 def texts_piece(texts: List[bytes]) -> Piece:

@@ -16,9 +16,12 @@ from typing import Any, Callable, List, Tuple
 import numpy
 
 import ch10
+import ch10_times
 import chapter11 as made
+from ch10 import buses, columns, database, vector
 from ch10.kinds import KINDS
 from ch10.standard import Fault, Wrong
+from ch10.survey import Survey
 from ch10.tables import NO_TIME, Recording
 from ch10_others import segments_of
 from ch10_index import strict_flight
@@ -350,6 +353,74 @@ def analysed() -> Found:
             '\n%d gaps in the messages' % gaps in made.stdout), ('', True, True, most, True, True)
 
 
-TRIALS: List[Callable[[], Found]] = [tables_of_kinds, channels_of_a_recording, words_and_arrays, opened_wrongly, files_of_columns,
-                                     files_of_columns_of_many, as_pip_installs, as_debian_has_it, documented,
-                                     analysed]
+VALUES: dict = {  # of a column of each form; of each list some are drawn, and one of them alone
+    'TEXT': ['', None, '0', '-1', "it's", 'x y', 'NULL', '\u00e9', 'a\nb', '1e3'], 'INTEGER': [None, 0, -1, 7, 1 << 60, 1 << 53],
+    'REAL': [None, 0.0, -1.0, 0.1, 3.0, float('inf'), 1e300], 'BOOLEAN': [None, True, False, 1, 0]}
+
+
+def rows_of_columns() -> Found:
+    """Columns of any values in `ch10 sqlite`: the same values, of the same types, as of rows that are bound one by one."""
+    draw, found, wanted = random.Random('rows'), [], []
+    with tempfile.TemporaryDirectory() as folder:
+        for number in range(12):
+            base = database.Database(os.path.join(folder, '%d.db' % number))
+            for kind, name in database.TABLES.items():
+                many = draw.choice([1, 2, 30])
+                columns = [[draw.choice(VALUES[form][:1 + draw.randrange(len(VALUES[form]))]) for _ in range(many)]
+                           if draw.randrange(3) else [draw.choice(VALUES[form])] * many for _, form in database.COLUMNS[kind]]
+                for add in (lambda: base.add_columns(kind, columns), lambda: base.add(name, zip(*columns))):
+                    add()
+                    names = [column for column, _ in database.COLUMNS[kind]]
+                    text = ', '.join('%s("%s")' % (form, column) for column in names for form in ('quote', 'typeof'))
+                    (wanted if len(wanted) < len(found) else found).append(
+                        base.base.execute('SELECT %s FROM "%s" ORDER BY rowid' % (text, name)).fetchall())
+                    base.base.execute('DELETE FROM "%s"' % name)
+            base.give_up()
+    return (len(found), found), (12 * len(database.TABLES), wanted)
+
+
+def the_same_sooner() -> Found:
+    """What is made for many values at once is what is made of each by itself: numbers that there are, hex digits, texts that print,
+    changes of discretes, and civil times where a clock goes on, jumps, or has a second 60."""
+    draw, found, wanted = random.Random('sooner'), [], []
+    for top in (1, 3, 2000, 1 << 17, 1 << 40):
+        keys = numpy.array([draw.randrange(top) for _ in range(500)])
+        some, places = columns.distinct(keys)
+        found.append((some.tolist(), some[places].tolist()))
+        wanted.append((sorted(set(keys.tolist())), keys.tolist()))
+    some_texts = [b'', b'plain', b'a\\b', b'two\nlines', b'\x00', b'bell\x07', b'"', bytes(600), b'x' * 600]
+    ends = numpy.cumsum([len(text) for text in some_texts])
+    octets = numpy.frombuffer(b''.join([*some_texts, columns.ROOM]), numpy.uint8)
+    sizes = numpy.array([len(text) for text in some_texts])
+    block = columns.Block(0x50, columns.Batch(octets, [0], [0], [0], [0]), ends - sizes, sizes, sizes)
+    found.append(columns.Printed(block, 0, sizes).values())
+    wanted.append([buses.text_of(text) for text in some_texts])
+    words = numpy.array([draw.choice([0, 0x10000, 0xFFFF, draw.randrange(1 << 16)]) for _ in range(400)])
+    texts = ['' if word == 0x10000 else '%04x' % word for word in words.tolist()]
+    found.append([text or '' for text in columns.HexWords(words).columns()[0]])
+    wanted.append(texts)
+    table = vector.Table(lambda key: b'')
+    vector.fill_words(table, b'"none"', b'<0000>', 1)
+    found.append([bytes(table.rows[word][:table.lengths[word]]) for word in words.tolist()])
+    wanted.append([('<%s>' % text if text else '"none"').encode() for text in texts])
+    pairs = [(draw.getrandbits(32), draw.getrandbits(32) & draw.getrandbits(32)) for _ in range(200)] + [(5, 5), (0, 1 << 31)]
+    found.append([buses.changed_bits(before, states, number) for before, states in pairs for number in (5, 32)])
+    wanted.append([' '.join('%s%d' % ('+' if states >> bit & 1 else '-', bit) for bit in range(number)
+                            if (before ^ states) >> bit & 1) for before, states in pairs for number in (5, 32)])
+    for make in (ch10_times.two_flights, ch10_times.clock_back, ch10_times.half_timed, every_kind,
+                 lambda: ch10_times.ticking(list(ch10_times.LEAP))):
+        data = make()
+        survey = Survey(data, 0, len(data))
+        assert survey.clock
+        ends = survey.clock.starts + [low for low, _ in survey.ends()] + [high for _, high in survey.ends()]
+        for low in ends:
+            for step in (1, 10 ** 6, 10 ** 11):
+                instants = numpy.array([max(low + step * (at - 3), 0) for at in range(8)])
+                found.append(list(database.times_of(survey.clock, instants)))
+                wanted.append([survey.clock.text(instant) for instant in instants.tolist()])
+    return found, wanted
+
+
+TRIALS: List[Callable[[], Found]] = [rows_of_columns, the_same_sooner, tables_of_kinds, channels_of_a_recording, words_and_arrays,
+                                     opened_wrongly, files_of_columns, files_of_columns_of_many, as_pip_installs, as_debian_has_it,
+                                     documented, analysed]
