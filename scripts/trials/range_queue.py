@@ -5,7 +5,7 @@
     scripts/trials/range_queue.py kills [COUNT]      # the server killed so many times, and a worker at each statement
     scripts/trials/range_queue.py network [KILLS]    # two workers in two network namespaces, one of them killed so many times, and
                                                      # cut off from the network
-    scripts/trials/range_queue.py figures [--added N] [--recordings N] [--entries N] [--bound SECONDS] [--jobs N]
+    scripts/trials/range_queue.py figures [--added N] [--recordings N] [--entries N] [--each N] [--bound SECONDS] [--jobs N]
                                                      # times and sizes of a large catalogue, and of days of entries
 
 The server is one of its own. Where there is none, no driver, or no namespace, a line says what was NOT TRIED. No trial waits for a
@@ -655,7 +655,7 @@ def cut_off_for_good(room: str, dsn: str, spaces: Sequence[Space], kills: int, d
 
 # ---- figures
 
-DAY_ENTRIES = 1000000
+DROPS = 5  # days
 FIRST_DAY = datetime.date(2024, 1, 1)
 # Entries of a day: messages of a hundred recordings, evenly over their first ten minutes each, of one bus.
 MAKE_ENTRIES = """INSERT INTO {table} (recording, count, time, lost, channel, rt, tr, sa, wc, status1, bus, gap1, words)
@@ -733,7 +733,7 @@ def figures(asked: Any) -> int:
 def days(dsn: str, store: Any, asked: Any) -> None:
     """Days of entries: how long they take to make, to ask and to drop, and their size."""
     start = time.perf_counter()
-    every = iter(range(-(-asked.entries // DAY_ENTRIES)))
+    every = iter(range(-(-asked.entries // asked.each)))
 
     def some(_: int) -> List[Tuple[str, float]]:
         """Days, one after the other, by a session of its own."""
@@ -748,20 +748,20 @@ def days(dsn: str, store: Any, asked: Any) -> None:
                 own.make_days([('entry_1553', day)])
                 with own.transaction():
                     own.rows(MAKE_ENTRIES.format(table='entry_1553_' + day.replace('-', ''), first=1 + 100 * number, day=day,
-                                                 many=DAY_ENTRIES))
+                                                 many=asked.each))
                 found.append((day, time.perf_counter() - begin))
         return found
 
     with ThreadPoolExecutor(asked.jobs) as pool:
         both = sorted(it for part in pool.map(some, range(asked.jobs)) for it in part)
     made, taken = [day for day, _ in both], [passed for _, passed in both]
-    total = len(made) * DAY_ENTRIES
+    total = len(made) * asked.each
     print('%d entries of %d days made in %.0f s (a day: median %.1f s); load of the machine %.1f' % (
         total, len(made), time.perf_counter() - start, sorted(taken)[len(taken) // 2], os.getloadavg()[0]), flush=True)
     size = sum(store.rows('SELECT pg_total_relation_size(?::regclass)', ('entry_1553_' + day.replace('-', ''),))[0][0]
                for day in made)
     print('%.1f GB, %.0f bytes an entry' % (size / 1e9, size / total), flush=True)
-    day, last = made[len(made) // 2], made[-1]
+    day = made[len(made) // 2]
     begin = time.perf_counter()
     store.rows('ANALYZE entry_1553')
     print('ANALYZE: %.1f s' % (time.perf_counter() - begin), flush=True)
@@ -773,17 +773,23 @@ def days(dsn: str, store: Any, asked: Any) -> None:
             ('a terminal and subaddress of a recording',
              'SELECT count(*) FROM entry_1553 WHERE recording = %d AND rt = 5 AND sa = 6 AND ' % one
              + within % (day, day, '1 day')),
+            ('all entries of a terminal over a day', 'SELECT * FROM entry_1553 WHERE rt = 5 AND ' + within % (day, day, '1 day')),
             ('messages of a day by terminal and subaddress', 'SELECT rt, sa, count(*) FROM entry_1553 WHERE %s GROUP BY rt, sa'
              % within % (day, day, '1 day')),
             ('a recording, whose day is not given', 'SELECT count(*) FROM entry_1553 WHERE recording = %d' % one)):
         print('%s: %.0f ms' % (what, timed_rows(store, text) * 1000), flush=True)
     begin = time.perf_counter()
-    store.rows('SELECT rt, count(*) FROM entry_1553 GROUP BY rt')
+    there = sum(many for _, many in store.rows('SELECT rt, count(*) FROM entry_1553 GROUP BY rt'))
     print('all entries by terminal, once: %.1f s' % (time.perf_counter() - begin), flush=True)
-    begin = time.perf_counter()
-    store.rows('DROP TABLE entry_1553_' + last.replace('-', ''))
-    print('a day dropped: %.0f ms' % ((time.perf_counter() - begin) * 1000), flush=True)
-
+    drops = []
+    for one_day in made[-min(DROPS, len(made) // 2 or 1):]:
+        begin = time.perf_counter()
+        store.rows('DROP TABLE entry_1553_' + one_day.replace('-', ''))
+        drops.append((time.perf_counter() - begin) * 1000)
+    left = there - len(drops) * asked.each
+    print('%d of %d days dropped, one after the other: median %.0f ms, at most %.0f ms' % (
+        len(drops), len(made), sorted(drops)[len(drops) // 2], max(drops)), flush=True)
+    agree(store.rows('SELECT count(*) FROM entry_1553')[0][0], left, 'entries of the days that are left')
 
 def main(words: List[str]) -> int:
     """The command."""
@@ -801,7 +807,8 @@ def main(words: List[str]) -> int:
             return inside(int(words[1]))
         if words[:1] == ['figures']:
             parser = argparse.ArgumentParser()
-            for name, default in (('added', 500), ('recordings', 10000), ('entries', 100000000), ('bound', 900), ('jobs', 4)):
+            for name, default in (('added', 500), ('recordings', 10000), ('entries', 100000000), ('each', 1000000), ('bound', 900),
+                                  ('jobs', 4)):
                 parser.add_argument('--' + name, type=int, default=default)
             return figures(parser.parse_args(words[1:]))
     except NotThere as why:
