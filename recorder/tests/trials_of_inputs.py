@@ -336,7 +336,7 @@ def chapter_6_words(room: Room) -> str:
     words = ['STATUS', 'RECORD', 'STOP', 'ERASE', 'EVENT', 'NOTE', 'FILES', 'HEALTH', 'FIND', 'REPLAY', 'PUBLISH', 'FOLLOW']
     words += ['FIGURES']
     listed = [it.split(' ')[0] for it in ask('.HELP')]
-    words += ['TIME', 'SETUP', 'TMATS', 'MEDIA', 'MOUNT', 'DISMOUNT', 'BIT', 'CRITICAL', 'IRIG106', 'VERSION', 'MEDIUM']
+    words += ['TIME', 'SETUP', 'TMATS', 'MEDIA', 'KEEP', 'MOUNT', 'DISMOUNT', 'BIT', 'CRITICAL', 'IRIG106', 'VERSION', 'MEDIUM']
     words += ['SHUTDOWN', 'STANDING', 'TOKEN', 'HELP']
     must(listed == [f'.{it}' for it in words], f'help has {listed}')
     # each word that it lists is one, and none is an invalid command (asked with a word too many, so that nothing is done)
@@ -522,6 +522,7 @@ def wrong_input_does_nothing(room: Room) -> str:
         '.CRITICAL',
         '.TMATS READ',
         '.MEDIA',
+        '.KEEP',
         '1',
         '-1',
         '99999999999999999999',
