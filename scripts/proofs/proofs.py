@@ -25,8 +25,8 @@ HEAD = """# What each crate promises
 For who looks for the crate that promises a thing. Made by `scripts/proofs/proofs.py`, the lowest crate first.
 Each line begins a crate's `README.md`. Under *Proved* it says what the contract of each named function states, then what is only \
 tested, and what is neither.
-Of all crates: that calls answer where there is memory, rows try, through the recorder. What is never promised (time, when memory is \
-refused, what a real disk holds) stands in [UNPROVED](UNPROVED.md#never-promised).
+Of all crates: that calls answer where there is memory, rows try, through the recorder. What is never promised (time, when \
+memory is refused, what a real disk holds) stands in [UNPROVED](UNPROVED.md#never-promised).
 
 """
 
