@@ -103,8 +103,10 @@ extern "C" {
 /* A call that this header looks at first: see the end. */
 #ifdef R10_UNCHECKED
 #define R10_CALL extern
+#define R10_CHECKED(name)
 #else
 #define R10_CALL static __inline__ __attribute__((__unused__))
+#define R10_CHECKED(name) __asm__(#name "_checked")
 #endif
 
 /* ---- numbers */
@@ -316,11 +318,11 @@ uint32_t r10_version(void);
 /* What a script says of its medium, before a recorder is opened by it. After R10_SCRIPT `info` has the line that is wrong, and how
  * long the text is that says why; `text` has of it what fits. The program `r10` prints the same text. No recorder is needed.
  * R10_NO_MEMORY, R10_SCRIPT. */
-R10_CALL uint32_t r10_check_script(const void *script, size_t script_length, r10_script_info *info, void *text, size_t text_room);
+R10_CALL uint32_t r10_check_script(const void *script, size_t script_length, r10_script_info *info, void *text, size_t text_room) R10_CHECKED(r10_check_script);
 
 /* Writes the directory of a medium without files, and opens a recorder over it, not mounted, with empty lanes. Its operations wait, as after every call. After
  * R10_MEDIUM or R10_NO_MEMORY the region may have the new directory. R10_MEDIUM, R10_NO_MEMORY, R10_SCRIPT, R10_BLOCKS, R10_OPEN. */
-R10_CALL uint32_t r10_format(r10_region region, size_t room, const void *script, size_t script_length, r10 *recorder);
+R10_CALL uint32_t r10_format(r10_region region, size_t room, const void *script, size_t script_length, r10 *recorder) R10_CHECKED(r10_format);
 
 /* Sets the last file of the medium aside where it was left open, and opens a recorder over it, not mounted, with empty lanes. For a file that r10_seal
  * refuses (R10_BAD_FILE, R10_MEDIUM_FULL, R10_MEDIUM), or that would take too long to read: its directory entry is closed as it is, with the bytes that it
@@ -328,92 +330,96 @@ R10_CALL uint32_t r10_format(r10_region region, size_t room, const void *script,
  * and waits, as operations do after every call; a loss of power leaves the old list of files or the new one. Then a mounted recorder can start the next file;
  * reading this one answers R10_BAD_FILE. `was_open` is whether there was one: where there was not, nothing is written.
  * R10_BAD_DIRECTORY, R10_MEDIUM, R10_NO_MEMORY, R10_SCRIPT, R10_BLOCKS, R10_OPEN. */
-R10_CALL uint32_t r10_set_aside(r10_region region, size_t room, const void *script, size_t script_length, r10 *recorder, bool *was_open);
+R10_CALL uint32_t r10_set_aside(r10_region region, size_t room, const void *script, size_t script_length, r10 *recorder, bool *was_open)
+    R10_CHECKED(r10_set_aside);
 
 /* Opens a recorder, not mounted, with empty lanes. R10_NO_MEMORY, R10_SCRIPT, R10_BLOCKS, R10_OPEN. */
-R10_CALL uint32_t r10_open(r10_region region, size_t room, const void *script, size_t script_length, r10 *recorder);
+R10_CALL uint32_t r10_open(r10_region region, size_t room, const void *script, size_t script_length, r10 *recorder) R10_CHECKED(r10_open);
 
 /* Hands out the next run: as many of the next writes as are of one block or of blocks side by side, up to the next sync, or a sync, or none. None is
  * answered only where all operations were handed out. Copies 512 * blocks bytes. The blocks of a run may be written at once, and in any order. R10_ROOM
  * where there is room for fewer than 512 bytes: then nothing is taken. */
-R10_CALL uint32_t r10_orders(r10 *recorder, r10_run_info *run, uint8_t *bytes, size_t byte_room);
+R10_CALL uint32_t r10_orders(r10 *recorder, r10_run_info *run, uint8_t *bytes, size_t byte_room) R10_CHECKED(r10_orders);
 
 /* The same for one operation. R10_ROOM as r10_orders. */
-R10_CALL uint32_t r10_order(r10 *recorder, r10_order_info *order, uint8_t *bytes, size_t byte_room);
+R10_CALL uint32_t r10_order(r10 *recorder, r10_order_info *order, uint8_t *bytes, size_t byte_room) R10_CHECKED(r10_order);
 
 /* How many operations wait. */
-R10_CALL uint32_t r10_queue(r10 *recorder, r10_queue_info *info);
+R10_CALL uint32_t r10_queue(r10 *recorder, r10_queue_info *info) R10_CHECKED(r10_queue);
 
 /* The program's disk failed: from then on each write and each sync of the recorder fails, so that the next call that needs one answers R10_MEDIUM. */
-R10_CALL uint32_t r10_disk_failed(r10 *recorder);
+R10_CALL uint32_t r10_disk_failed(r10 *recorder) R10_CHECKED(r10_disk_failed);
 
 /* Gives back the recorder's memory, and the region to its owner. Operations that were not handed out, and what was not committed, are lost. One that is
  * closed stays so. */
-R10_CALL void r10_close(r10 *recorder);
+R10_CALL void r10_close(r10 *recorder) R10_CHECKED(r10_close);
 
 /* ---- control. Each may answer R10_NO_MEMORY, and but for r10_offer_.., r10_lost, r10_status, r10_channel, r10_account, r10_next
  * and r10_close_cursor R10_FAILED. */
 
 /* Begins to use the medium. R10_MOUNTED, R10_BAD_DIRECTORY, R10_MEDIUM. */
-R10_CALL uint32_t r10_mount(r10 *recorder);
+R10_CALL uint32_t r10_mount(r10 *recorder) R10_CHECKED(r10_mount);
 
 /* Ends the use of the medium. R10_NOT_MOUNTED, R10_BUSY, R10_MEDIUM. */
-R10_CALL uint32_t r10_dismount(r10 *recorder);
+R10_CALL uint32_t r10_dismount(r10 *recorder) R10_CHECKED(r10_dismount);
 
 /* The clock: the civil time at a count. R10_NOT_MOUNTED, R10_COUNT_RANGE, R10_COUNT_BACK, R10_BAD_CIVIL; while a file is recorded also
  * R10_MEDIUM_FULL, R10_MEDIUM. */
-R10_CALL uint32_t r10_tick(r10 *recorder, uint64_t count, const r10_civil *civil);
+R10_CALL uint32_t r10_tick(r10 *recorder, uint64_t count, const r10_civil *civil) R10_CHECKED(r10_tick);
 
 /* Begins a file, with a setup text of at most 524,260 bytes. R10_NOT_MOUNTED, R10_BUSY, R10_TOO_LONG, R10_NO_TIME, R10_BAD_NAME,
  * R10_NAME_TAKEN, R10_UNSEALED, R10_DIRECTORY_FULL, R10_MEDIUM_FULL, R10_MEDIUM. */
-R10_CALL uint32_t r10_start(r10 *recorder, const void *name, size_t name_length, const void *setup, size_t setup_length);
+R10_CALL uint32_t r10_start(r10 *recorder, const void *name, size_t name_length, const void *setup, size_t setup_length) R10_CHECKED(r10_start);
 
 /* Takes at most so many of a channel's waiting messages into the file. R10_NOT_MOUNTED, R10_NOT_RECORDING, R10_NO_CHANNEL, R10_MEDIUM_FULL (of
  * the first message; else `moved` says how many were taken), R10_MEDIUM. */
-R10_CALL uint32_t r10_pump(r10 *recorder, uint16_t channel, size_t most, size_t *moved);
+R10_CALL uint32_t r10_pump(r10 *recorder, uint16_t channel, size_t most, size_t *moved) R10_CHECKED(r10_pump);
 
 /* A recording event, of a number up to 4,095. R10_NOT_MOUNTED, R10_NOT_RECORDING, R10_COUNT_RANGE, R10_COUNT_BACK, R10_BAD_EVENT,
  * R10_MEDIUM_FULL, R10_MEDIUM. */
-R10_CALL uint32_t r10_event(r10 *recorder, uint16_t number, uint64_t count);
+R10_CALL uint32_t r10_event(r10 *recorder, uint16_t number, uint64_t count) R10_CHECKED(r10_event);
 
 /* Shows on the medium all that the file has: after a 0, and once its operations are done, it is durable. R10_NOT_MOUNTED, R10_NOT_RECORDING, R10_MEDIUM. */
-R10_CALL uint32_t r10_commit(r10 *recorder);
+R10_CALL uint32_t r10_commit(r10 *recorder) R10_CHECKED(r10_commit);
 
 /* Takes in what waits, as far as there is room, ends the file and closes it: after a 0, and once its operations are done, it is durable. `taken` messages were taken, `left` still wait.
  * R10_NOT_MOUNTED, R10_NOT_RECORDING, R10_MEDIUM. */
-R10_CALL uint32_t r10_stop(r10 *recorder, size_t *taken, size_t *left);
+R10_CALL uint32_t r10_stop(r10 *recorder, size_t *taken, size_t *left) R10_CHECKED(r10_stop);
 
 /* Closes a last file that was left open; its entries stay. R10_NOT_MOUNTED, R10_BUSY, R10_NO_FILE, R10_MEDIUM_FULL, R10_BAD_FILE,
  * R10_MEDIUM. */
-R10_CALL uint32_t r10_seal(r10 *recorder);
+R10_CALL uint32_t r10_seal(r10 *recorder) R10_CHECKED(r10_seal);
 
 /* Takes all files from the medium. R10_NOT_MOUNTED, R10_BUSY, R10_STALE (2^64 - 1 erases), R10_MEDIUM. */
-R10_CALL uint32_t r10_erase(r10 *recorder);
+R10_CALL uint32_t r10_erase(r10 *recorder) R10_CHECKED(r10_erase);
 
 /* ---- offers, in every mode: a message goes to the end of its channel's lane. R10_NO_CHANNEL, R10_WRONG_KIND, R10_BAD_MESSAGE, R10_TOO_LONG,
  * R10_COUNT_RANGE, R10_COUNT_BACK, R10_OVERFLOW. */
 
 /* A serial line: subchannel below 16,384, at most 65,535 bytes. */
-R10_CALL uint32_t r10_offer_uart(r10 *recorder, uint16_t channel, uint64_t count, bool parity, uint16_t sub, const void *bytes, size_t length);
+R10_CALL uint32_t r10_offer_uart(r10 *recorder, uint16_t channel, uint64_t count, bool parity, uint16_t sub, const void *bytes, size_t length)
+    R10_CHECKED(r10_offer_uart);
 
 /* MIL-STD-1553: block status (bits 0x3E38), gap times word, at most 36 words. */
-R10_CALL uint32_t r10_offer_1553(r10 *recorder, uint16_t channel, uint64_t count, uint16_t status, uint16_t gap, const uint16_t *words, size_t length);
+R10_CALL uint32_t r10_offer_1553(r10 *recorder, uint16_t channel, uint64_t count, uint16_t status, uint16_t gap, const uint16_t *words, size_t length)
+    R10_CHECKED(r10_offer_1553);
 
 /* ARINC 429. */
-R10_CALL uint32_t r10_offer_arinc(r10 *recorder, uint16_t channel, uint64_t count, uint8_t bus, bool format, bool parity, bool high, uint32_t word);
+R10_CALL uint32_t r10_offer_arinc(r10 *recorder, uint16_t channel, uint64_t count, uint8_t bus, bool format, bool parity, bool high, uint32_t word)
+    R10_CHECKED(r10_offer_arinc);
 
 /* Discretes: a bit for each, as many as the channel has. */
-R10_CALL uint32_t r10_offer_discrete(r10 *recorder, uint16_t channel, uint64_t count, uint32_t states);
+R10_CALL uint32_t r10_offer_discrete(r10 *recorder, uint16_t channel, uint64_t count, uint32_t states) R10_CHECKED(r10_offer_discrete);
 
 /* Any other source: subchannel below 16,384, at most 65,535 bytes. */
 R10_CALL uint32_t r10_offer_message(r10 *recorder, uint16_t channel, uint64_t count, bool data_error, bool format, uint16_t sub, const void *bytes,
-                                    size_t length);
+                                    size_t length) R10_CHECKED(r10_offer_message);
 
 /* ---- losses, in every mode */
 
 /* So many of a channel's messages were lost before they were offered: a UART overran, a socket dropped them, another recorder failed with them. The next
  * message that is accepted has them in its gap, with those that were refused R10_OVERFLOW. 0 changes nothing. R10_NO_CHANNEL. */
-R10_CALL uint32_t r10_lost(r10 *recorder, uint16_t channel, uint64_t count);
+R10_CALL uint32_t r10_lost(r10 *recorder, uint16_t channel, uint64_t count) R10_CHECKED(r10_lost);
 
 /* ---- offers from other threads
  *
@@ -433,97 +439,100 @@ R10_CALL uint32_t r10_lost(r10 *recorder, uint16_t channel, uint64_t count);
 
 /* Opens a port and its outlet for a channel of the script that the recorder was opened by. Both are all zeros before it. It may be called in any
  * thread. R10_NO_CHANNEL (the script has no such channel), R10_NO_MEMORY, R10_SCRIPT, R10_OPEN (one of the two is open). */
-R10_CALL uint32_t r10_port_open(const void *script, size_t script_length, uint16_t channel, r10_port *port, r10_outlet *outlet);
+R10_CALL uint32_t r10_port_open(const void *script, size_t script_length, uint16_t channel, r10_port *port, r10_outlet *outlet) R10_CHECKED(r10_port_open);
 
 /* Offers, as r10_offer_.. of the same kind. R10_OVERFLOW where as many messages wait in the port as it has room for: it is counted as lost, and
  * the next message that is accepted has it in its gap. R10_WRONG_KIND, R10_BAD_MESSAGE, R10_TOO_LONG, R10_COUNT_RANGE, R10_COUNT_BACK,
  * R10_OVERFLOW, and of more than 38 bytes, or words of a MIL-STD-1553 bus, R10_NO_MEMORY. */
-R10_CALL uint32_t r10_port_uart(r10_port *port, uint64_t count, bool parity, uint16_t sub, const void *bytes, size_t length);
-R10_CALL uint32_t r10_port_1553(r10_port *port, uint64_t count, uint16_t status, uint16_t gap, const uint16_t *words, size_t length);
-R10_CALL uint32_t r10_port_arinc(r10_port *port, uint64_t count, uint8_t bus, bool format, bool parity, bool high, uint32_t word);
-R10_CALL uint32_t r10_port_discrete(r10_port *port, uint64_t count, uint32_t states);
-R10_CALL uint32_t r10_port_message(r10_port *port, uint64_t count, bool data_error, bool format, uint16_t sub, const void *bytes, size_t length);
+R10_CALL uint32_t r10_port_uart(r10_port *port, uint64_t count, bool parity, uint16_t sub, const void *bytes, size_t length) R10_CHECKED(r10_port_uart);
+R10_CALL uint32_t r10_port_1553(r10_port *port, uint64_t count, uint16_t status, uint16_t gap, const uint16_t *words, size_t length) R10_CHECKED(r10_port_1553);
+R10_CALL uint32_t r10_port_arinc(r10_port *port, uint64_t count, uint8_t bus, bool format, bool parity, bool high, uint32_t word) R10_CHECKED(r10_port_arinc);
+R10_CALL uint32_t r10_port_discrete(r10_port *port, uint64_t count, uint32_t states) R10_CHECKED(r10_port_discrete);
+R10_CALL uint32_t r10_port_message(r10_port *port, uint64_t count, bool data_error, bool format, uint16_t sub, const void *bytes, size_t length)
+    R10_CHECKED(r10_port_message);
 
 /* So many messages were lost before they were offered, as r10_lost. */
-R10_CALL uint32_t r10_port_lost(r10_port *port, uint64_t count);
+R10_CALL uint32_t r10_port_lost(r10_port *port, uint64_t count) R10_CHECKED(r10_port_lost);
 
-R10_CALL uint32_t r10_port_state(r10_port *port, r10_port_info *info);
+R10_CALL uint32_t r10_port_state(r10_port *port, r10_port_info *info) R10_CHECKED(r10_port_state);
 
 /* Gives back the memory of an end. One that is closed stays so. */
-R10_CALL void r10_port_close(r10_port *port);
-R10_CALL void r10_outlet_close(r10_outlet *outlet);
+R10_CALL void r10_port_close(r10_port *port) R10_CHECKED(r10_port_close);
+R10_CALL void r10_outlet_close(r10_outlet *outlet) R10_CHECKED(r10_outlet_close);
 
 /* Carries the port's next message into its channel's lane, by the thread that owns the recorder, in every mode: `carried` says whether one was. R10_OK
  * and none where there is none yet, or where the lane takes it but for its room: then it stays in the port. R10_COUNT_BACK: the channel was offered a later message by
  * another way. Where the recorder was opened by another script: R10_NO_CHANNEL, or why its lane does not take the message.
  * A message that is refused stays, and is the next again, with the loss before it, which is not counted then. It takes no memory. */
-R10_CALL uint32_t r10_carry_one(r10 *recorder, r10_outlet *outlet, bool *carried);
+R10_CALL uint32_t r10_carry_one(r10 *recorder, r10_outlet *outlet, bool *carried) R10_CHECKED(r10_carry_one);
 
 /* ---- files, and how the recorder is */
 
 /* How many files there are. R10_NOT_MOUNTED. */
-R10_CALL uint32_t r10_files(r10 *recorder, size_t *count);
+R10_CALL uint32_t r10_files(r10 *recorder, size_t *count) R10_CHECKED(r10_files);
 
 /* The file of this number, from 0, and of its name what fits; 56 bytes always do. R10_NOT_MOUNTED, R10_PLACE. */
-R10_CALL uint32_t r10_file(r10 *recorder, size_t number, r10_file_info *info, uint8_t *name, size_t name_room);
+R10_CALL uint32_t r10_file(r10 *recorder, size_t number, r10_file_info *info, uint8_t *name, size_t name_room) R10_CHECKED(r10_file);
 
-R10_CALL uint32_t r10_status(r10 *recorder, r10_status_info *info);
+R10_CALL uint32_t r10_status(r10 *recorder, r10_status_info *info) R10_CHECKED(r10_status);
 
 /* What the last R10_BAD_DIRECTORY or R10_BAD_FILE was about. Other answers leave it. */
-R10_CALL uint32_t r10_fault(r10 *recorder, r10_fault_info *info);
+R10_CALL uint32_t r10_fault(r10 *recorder, r10_fault_info *info) R10_CHECKED(r10_fault);
 
 /* The channel at this place of the settings, from 0. R10_PLACE. */
-R10_CALL uint32_t r10_channel(r10 *recorder, size_t place, r10_channel_info *info);
+R10_CALL uint32_t r10_channel(r10 *recorder, size_t place, r10_channel_info *info) R10_CHECKED(r10_channel);
 
 /* The account of the channel at this place of the settings, from 0, in every mode. R10_PLACE. */
-R10_CALL uint32_t r10_account(r10 *recorder, size_t place, r10_account_info *info);
+R10_CALL uint32_t r10_account(r10 *recorder, size_t place, r10_account_info *info) R10_CHECKED(r10_account);
 
 /* ---- losses, and messages that go on to another recorder */
 
 /* The losses of the channel at this place of the settings, from 0, in every mode. R10_PLACE. */
-R10_CALL uint32_t r10_losses(r10 *recorder, size_t place, r10_losses_info *info);
+R10_CALL uint32_t r10_losses(r10 *recorder, size_t place, r10_losses_info *info) R10_CHECKED(r10_losses);
 
 /* Takes the first message that waits on a channel out of its lane, in every mode, a failed recorder's too: `there` says whether one waited. It
  * comes into the recorder's hand, in place of what was there, and r10_taken copies its bytes or words. It is in no file of this recorder then:
  * give the `lost` of its entry to the next recorder's r10_lost, and offer it there. R10_NO_CHANNEL: then nothing changed. */
-R10_CALL uint32_t r10_take_waiting(r10 *recorder, uint16_t channel, bool *there, r10_entry *entry);
+R10_CALL uint32_t r10_take_waiting(r10 *recorder, uint16_t channel, bool *there, r10_entry *entry) R10_CHECKED(r10_take_waiting);
 
 /* How many of a channel's messages, and of those that were lost before they were offered, stand in no file and in no gap: by its account and its
  * losses, where `found` of its messages were found in the files that the recorder began, and `found_lost` losses in their gaps (r10_found). Messages
  * that r10_take_waiting took are not counted. */
-R10_CALL uint64_t r10_untold(const r10_account_info *account, const r10_losses_info *losses, uint64_t found, uint64_t found_lost);
+R10_CALL uint64_t r10_untold(const r10_account_info *account, const r10_losses_info *losses, uint64_t found, uint64_t found_lost) R10_CHECKED(r10_untold);
 
 /* ---- readers, of files that are recorded too */
 
 /* Opens a cursor on a file, for these channels, or all where there are none, and counts from `from` to `to`. R10_NOT_MOUNTED, R10_COUNT_RANGE,
  * R10_NO_FILE, R10_BAD_FILE, R10_MEDIUM. */
-R10_CALL uint32_t r10_cursor(r10 *recorder, size_t file, const uint16_t *channels, size_t channel_count, uint64_t from, uint64_t to, size_t *cursor);
+R10_CALL uint32_t r10_cursor(r10 *recorder, size_t file, const uint16_t *channels, size_t channel_count, uint64_t from, uint64_t to, size_t *cursor)
+    R10_CHECKED(r10_cursor);
 
 /* Queues what was shown since the last call, by count, then channel, then place, and says how many entries. R10_NOT_MOUNTED, R10_STALE,
  * R10_NO_CURSOR, R10_UNREAD, R10_BAD_FILE, R10_MEDIUM. */
-R10_CALL uint32_t r10_advance(r10 *recorder, size_t cursor, size_t *queued);
+R10_CALL uint32_t r10_advance(r10 *recorder, size_t cursor, size_t *queued) R10_CHECKED(r10_advance);
 
 /* Takes the first entry of the queue: `there` says whether there was one; its bytes are copied to `bytes`, its words to `words`. R10_NO_CURSOR,
  * and R10_ROOM where there is room for fewer than 65,535 bytes or 36 words: then nothing is taken. */
-R10_CALL uint32_t r10_next(r10 *recorder, size_t cursor, bool *there, r10_entry *entry, uint8_t *bytes, size_t byte_room, uint16_t *words, size_t word_room);
+R10_CALL uint32_t r10_next(r10 *recorder, size_t cursor, bool *there, r10_entry *entry, uint8_t *bytes, size_t byte_room, uint16_t *words, size_t word_room)
+    R10_CHECKED(r10_next);
 
 /* The same in two calls, for a program that lends no more than an entry needs. r10_take takes the first entry of the queue into the
  * recorder's hand, in place of what was there, and gives it without its bytes or words: `length` says how many it has.
  * R10_NO_CURSOR: then none is in hand. r10_taken copies them, as often as it is called, also after other calls. R10_ROOM where there
  * is room for fewer than the entry has: it stays in hand. R10_PLACE where none is in hand. */
-R10_CALL uint32_t r10_take(r10 *recorder, size_t cursor, bool *there, r10_entry *entry);
-R10_CALL uint32_t r10_taken(r10 *recorder, uint8_t *bytes, size_t byte_room, uint16_t *words, size_t word_room);
+R10_CALL uint32_t r10_take(r10 *recorder, size_t cursor, bool *there, r10_entry *entry) R10_CHECKED(r10_take);
+R10_CALL uint32_t r10_taken(r10 *recorder, uint8_t *bytes, size_t byte_room, uint16_t *words, size_t word_room) R10_CHECKED(r10_taken);
 
 /* R10_NO_CURSOR. */
-R10_CALL uint32_t r10_close_cursor(r10 *recorder, size_t cursor);
+R10_CALL uint32_t r10_close_cursor(r10 *recorder, size_t cursor) R10_CHECKED(r10_close_cursor);
 
 /* The first shown entry of a channel with at least this count, and its number on the channel from 0. R10_NOT_MOUNTED, R10_COUNT_RANGE,
  * R10_NO_FILE, R10_BAD_FILE, R10_MEDIUM, R10_ROOM as r10_next. */
 R10_CALL uint32_t r10_find(r10 *recorder, size_t file, uint16_t channel, uint64_t count, bool *there, size_t *number, r10_entry *entry, uint8_t *bytes,
-                           size_t byte_room, uint16_t *words, size_t word_room);
+                           size_t byte_room, uint16_t *words, size_t word_room) R10_CHECKED(r10_find);
 
 /* The count at a civil time, by the last shown time that is not later. R10_NOT_MOUNTED, R10_BAD_CIVIL, R10_NO_FILE, R10_BAD_FILE, R10_MEDIUM. */
-R10_CALL uint32_t r10_count_at(r10 *recorder, size_t file, const r10_civil *civil, bool *there, uint64_t *count);
+R10_CALL uint32_t r10_count_at(r10 *recorder, size_t file, const r10_civil *civil, bool *there, uint64_t *count) R10_CHECKED(r10_count_at);
 
 /* ---- what is made of these calls */
 
@@ -1458,5 +1467,6 @@ R10_SIZE(r10_fault_info, 16);
 R10_SIZE(r10_script_info, 40);
 #undef R10_SIZE
 #undef R10_CALL
+#undef R10_CHECKED
 
 #endif

@@ -132,6 +132,8 @@ rust_crates() {
         (cd "$top/ffi/rust" && find -L "$it" -type f ! -path '*/target/*' ! -name Cargo.lock \
             -exec install -D -m 644 {} "$1/{}" \;) || return
     done
+    # (the example stands beside those in C)
+    install -D -m 644 "$top/ffi/example.rs" "$1/r10/examples/example.rs" && sed -i '/^\[\[example\]\]$/,$d' "$1/r10/Cargo.toml"
 }
 
 install_for() {

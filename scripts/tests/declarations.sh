@@ -21,7 +21,7 @@ def in_rust(kind, star, void='u8'):
 
 
 def of_header(text):
-    text = re.sub(r'/\*.*?\*/', '', text, flags=re.S).split('static inline')[0]
+    text = re.sub(r'/\*.*?\*/|\s+R10_CHECKED\(\w+\)(?=;)', '', text, flags=re.S).split('static inline')[0]
     for body in re.findall(r'enum \{(.*?)\};', text, re.S):
         yield from ('%s %s' % pair for pair in re.findall(r'(R10_\w+)\s*=\s*(\d+)', body))
     for name, body in re.findall(r'typedef struct (\w+) \{(.*?)\} \1;', text, re.S):

@@ -197,6 +197,7 @@ def page_of_header(header: pathlib.Path, version: str) -> dict[str, str]:
     for part in re.findall(r'/\* -{4} .*?(?=/\* -{4} |\Z)', declared, re.S):
         title = re.sub(r'^/\* -+ | \*/$', '', part.splitlines()[0]).partition('. ')[0]
         part = re.sub(r'\n#ifdef __cplusplus.*', '', part, flags=re.S)
+        part = re.sub(r'\s+R10_CHECKED\(\w+\)(?=;)', '', part)
         shown = [roff(re.sub('^R10_CALL ', '', line)) for line in part.strip('\n').splitlines()]
         parts.append((roff(title.upper()), ['.EX'] + shown + ['.EE']))
     return {'man3/r10.h.3': page('r10.h', 3, version, 'a flight recorder as a library',
