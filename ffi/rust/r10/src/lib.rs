@@ -1,4 +1,4 @@
-//! A recorder of IRIG 106 chapter 10 files over `libr10`, as a value: its caller writes no `unsafe`.
+//! A recorder of IRIG 106 chapter 10 files over `libr10`, as a value. Its caller writes `unsafe` only where a file or a device is opened ([`Disk::open`]).
 //!
 //! A [`Recorder`] owns its [`Region`]: plain memory, or a [`Disk`], which is a file or a block device that this program alone has open. Each call that changes
 //! the medium leaves operations, which [`Recorder::settle`] does on the disk. A commit is durable once it is settled.
