@@ -1,6 +1,6 @@
 //! What the kernel of Linux says of its clock: `adjtimex`, asked without changing anything.
 //!
-//! The one call of the system that the recorder's service needs, and that no packaged crate has. The service itself has no `unsafe`.
+//! The one call of the system that the recorder's service needs, and that no packaged crate has. The service itself has one line of `unsafe`, where it maps its medium.
 use std::ffi::{c_int, c_long, c_uint};
 use std::io;
 
